@@ -1,0 +1,33 @@
+-- What callers see of a channel, and how its parts agree.
+use Rattle.std.specs.Prelude.{◌≡◌, ℕ, ◌≤◌, Bool, true, length}
+use Rattle.priority_channel_core.specs.State.{State}
+use Rattle.priority_channel_core.specs.Good.{IsGood}
+use Rattle.priority_channel_core.specs.Bag.{Contents}
+use Rattle.priority_channel_core.specs.Word.{Word}
+
+-- a state, and how many comparisons of two priorities and of two tickets were made
+pub record CountedState (T P W : Type 0) : Type 0 where
+  pub state : State T P W
+  pub priority_comparisons : ℕ
+  pub ticket_comparisons : ℕ
+
+-- the state that the parts of a channel make up
+abbrev pub state_of : {T P W : Type 0} → Contents T P → Word W → ℕ → Bool → ℕ → ℕ → State T P W
+state_of bag word capacity is_reserved sender_count receiver_count = record {
+  pending = bag.pending;
+  accepted = bag.accepted;
+  is_closed = word.is_closed;
+  capacity = capacity;
+  is_reserved = is_reserved;
+  sender_count = sender_count;
+  receiver_count = receiver_count;
+  room_waiters = word.room_waiters;
+  message_waiters = word.message_waiters;
+  next_ticket = word.next_ticket;
+}
+
+-- the parts agree, and make up a good state
+pub record IsSound {T P W : Type 0} (bag : Contents T P) (word : Word W) (state : State T P W) : Type 0 where
+  pub counted : word.count ≡ length bag.pending
+  pub place_kept : state.is_reserved ≡ true → state.capacity ≤ bag.place
+  pub good : IsGood state

@@ -1,0 +1,15 @@
+pub mod State
+pub mod Waiting
+pub mod Good
+pub mod Greatest
+pub mod Sends
+pub mod Receives
+pub mod Polls
+pub mod Step
+pub mod Run
+pub mod Allowed
+pub mod Digits
+pub mod Bag
+pub mod Heap
+pub mod Word
+pub mod Channel

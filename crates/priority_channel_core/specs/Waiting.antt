@@ -1,0 +1,55 @@
+-- Lists of waiting parties: tickets in rising order, each with the waker kept under it.
+use Rattle.std.specs.Prelude.{◌≡◌, true, false, ℕ, ◌+◌, ◌<◌, Bool, not, ◌==◌, if◌then◌else◌, List, [], ◌∷◌, ◌++◌, map, Option, Some, None}
+use Rattle.std.specs.List.{All, AllPairs, filter, list_any}
+
+-- a party's ticket, with the list and the next ticket once the party is listed
+pub record Listing (W : Type 0) : Type 0 where
+  pub ticket : ℕ
+  pub waiters : List (ℕ × W)
+  pub next_ticket : ℕ
+
+module _ {W : Type 0} where
+  -- the tickets rise
+  abbrev pub IsRising : List (ℕ × W) → Type 0
+  IsRising waiters = AllPairs (λ a b. a.0 < b.0) waiters
+
+  abbrev pub is_listed : ℕ → List (ℕ × W) → Bool
+  is_listed ticket waiters = list_any (λ a. a.0 == ticket) waiters
+
+  -- whether there is a given ticket and it stands in the list
+  abbrev pub is_given_listed : Option ℕ → List (ℕ × W) → Bool
+  is_given_listed None waiters = false
+  is_given_listed (Some ticket) waiters = is_listed ticket waiters
+
+  -- the list once this ticket has left it
+  abbrev pub without : ℕ → List (ℕ × W) → List (ℕ × W)
+  without ticket waiters = filter (λ a. not (a.0 == ticket)) waiters
+
+  -- the list once the given ticket, if there is one, has left it
+  abbrev pub without_given : Option ℕ → List (ℕ × W) → List (ℕ × W)
+  without_given None waiters = waiters
+  without_given (Some ticket) waiters = without ticket waiters
+
+  -- the list with this waker in place of the one that was kept under the ticket
+  abbrev pub with_waker : ℕ → W → List (ℕ × W) → List (ℕ × W)
+  with_waker ticket waker waiters = map (λ a. if a.0 == ticket then (ticket, waker) else a) waiters
+
+  abbrev pub fresh : W → List (ℕ × W) → ℕ → Listing W
+  fresh waker waiters next = record { ticket = next; waiters = waiters ++ (next, waker) ∷ []; next_ticket = next + 1 }
+
+  -- a party is listed under its own ticket where that stands in the list, and else under the next one
+  abbrev pub listing : Option ℕ → W → List (ℕ × W) → ℕ → Listing W
+  listing None waker waiters next = fresh waker waiters next
+  listing (Some ticket) waker waiters next =
+      if is_listed ticket waiters
+      then record { ticket = ticket; waiters = with_waker ticket waker waiters; next_ticket = next }
+      else fresh waker waiters next
+
+  -- in the lists of those who wait for room and for a message the tickets rise, each was given before
+  -- the next one, and none waits for both
+  pub record HasOwnTickets (room message : List (ℕ × W)) (next : ℕ) : Type 0 where
+    pub room_rises : IsRising room
+    pub message_rises : IsRising message
+    pub room_given : All (λ a. a.0 < next) room
+    pub message_given : All (λ a. a.0 < next) message
+    pub apart : (ticket : ℕ) → is_listed ticket room ≡ true → is_listed ticket message ≡ false

@@ -1,0 +1,58 @@
+//! The core's calls and their answers, as values.
+use crate::errors::{RecvFault, SendFault, TryRecvError, TrySendError};
+
+/// A call of the core. `M` is what holds the pairs of a bulk send: an iterator that can be peeked, or, in the
+/// definitions, a list.
+#[derive(Drop)]
+pub enum Call<T, P, W, M> {
+    TrySend(T, P),
+    TrySendv(M),
+    TryRecv,
+    Close,
+    IsClosed,
+    IsEmpty,
+    IsFull,
+    Len,
+    Capacity,
+    SenderCount,
+    ReceiverCount,
+    CloneSender,
+    CloneReceiver,
+    DropSender,
+    DropReceiver,
+    PollSend(T, P, Option<u64>, W),
+    PollSendv(M, Option<u64>, W),
+    PollRecv(Option<u64>, W),
+    GiveUp(u64),
+}
+
+/// What a call of the same name answers.
+#[derive(Drop)]
+pub enum Answer<T, P, M> {
+    TrySend(Result<(), TrySendError<(T, P)>>),
+    TrySendv(Result<(), TrySendError<M>>),
+    TryRecv(Result<(T, P), TryRecvError>),
+    Close(bool),
+    IsClosed(bool),
+    IsEmpty(bool),
+    IsFull(bool),
+    Len(u64),
+    Capacity(Option<u64>),
+    SenderCount(usize),
+    ReceiverCount(usize),
+    CloneSender(bool),
+    CloneReceiver(bool),
+    DropSender,
+    DropReceiver,
+    PollSend(CorePoll<Result<(), SendFault<(T, P)>>, (T, P)>),
+    PollSendv(CorePoll<Result<(), SendFault<M>>, M>),
+    PollRecv(CorePoll<Result<(T, P), RecvFault>, ()>),
+    GiveUp,
+}
+
+/// What a poll answers: the outcome, or what the caller keeps for its next poll with the ticket under which it waits.
+#[derive(Drop)]
+pub enum CorePoll<A, K> {
+    Ready(A),
+    Pending(K, u64),
+}

@@ -1,0 +1,14 @@
+//! The core of a priority channel: its state, and each of its calls as one step of a machine.
+//!
+//! The definitions that the contracts cite stand in `specs/`; `docs/DEFINITIONS.md` says them in words.
+#![tactic(auto)]
+
+pub mod awaitable_atomics;
+pub mod bag;
+pub mod calls;
+pub mod comparisons;
+pub mod errors;
+pub mod item;
+pub mod laws;
+mod sift;
+mod waiting_list;
