@@ -1,5 +1,5 @@
 -- What callers see of a channel, and how its parts agree.
-use Rattle.std.specs.Prelude.{◌≡◌, ℕ, ◌≤◌, Bool, true, length}
+use Rattle.std.specs.Prelude.{◌≡◌, ℕ, ◌+◌, ◌≤◌, Bool, true, length}
 use Rattle.priority_channel_core.specs.State.{State}
 use Rattle.priority_channel_core.specs.Good.{IsGood}
 use Rattle.priority_channel_core.specs.Bag.{Contents}
@@ -31,3 +31,9 @@ pub record IsSound {T P W : Type 0} (bag : Contents T P) (word : Word W) (state 
   pub counted : word.count ≡ length bag.pending
   pub place_kept : state.is_reserved ≡ true → state.capacity ≤ bag.place
   pub good : IsGood state
+
+-- a call made at most so many comparisons of priorities, and of tickets
+abbrev pub ComparesAtMost : {T P W : Type 0} → ℕ → ℕ → CountedState T P W → CountedState T P W → Type 0
+ComparesAtMost priorities tickets old new =
+    (new.priority_comparisons ≤ old.priority_comparisons + priorities)
+    × (new.ticket_comparisons ≤ old.ticket_comparisons + tickets)

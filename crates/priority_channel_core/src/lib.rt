@@ -6,6 +6,7 @@
 pub mod awaitable_atomics;
 pub mod bag;
 pub mod calls;
+pub mod channel;
 pub mod comparisons;
 pub mod errors;
 pub mod item;
