@@ -1,6 +1,7 @@
 -- How the number of binary digits grows.
 use Rattle.std.proofs.Common.{◌≡◌, ℕ, ◌+◌, ◌-◌, ◌*◌, ◌/◌, ◌^◌, ◌<◌, ◌≤◌, length, subst, arith}
 use Rattle.std.specs.Int.Digits.{digits_of}
+use Rattle.std.proofs.lemmas.Nat.{mul-le}
 use Rattle.std.proofs.lemmas.Int.Digits.{length-digits_of_step, length-digits_of-le, number_lt, all_below_base_digits_of, number_digits_of}
 use Rattle.priority_channel_core.specs.Digits.{digits}
 
@@ -29,3 +30,10 @@ digits_parent at positive = digits-half ((at - 1) / 2 + 1) (at + 1) (omega arith
 -- from a parent's place to a child's
 pub digits_child : (at child : ℕ) → at * 2 + 1 ≤ child → digits at + 1 ≤ digits child
 digits_child at child le = digits-half at child (omega arith) (omega arith)
+
+-- a push more, into a longer bag
+pub push_costs : (n before after : ℕ) → before ≤ after → n * digits before + digits after ≤ (n + 1) * digits after
+push_costs n before after le =
+    let h = mul-le n (digits before) n (digits after) (omega arith) (digits-mono before after le) in
+    let e : (n + 1) * digits after ≡ n * digits after + digits after = grind arith in
+    omega (arith, h, e)

@@ -1,9 +1,14 @@
+pub mod BulkLemmas
 pub mod ByKey
+pub mod ChannelLemmas
 pub mod DigitsLemmas
 pub mod Exchange
+pub mod FrontLemmas
 pub mod GreatestLemmas
 pub mod HeapLemmas
 pub mod ItemOrder
+pub mod ListLemmas
 pub mod Packed
+pub mod SendLemmas
 pub mod Tickets
 pub mod WaitingLemmas

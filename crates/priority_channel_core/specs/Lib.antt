@@ -7,6 +7,9 @@ pub mod Receives
 pub mod Polls
 pub mod Step
 pub mod Run
+pub mod Lists
+pub mod Front
+pub mod Bulk
 pub mod Allowed
 pub mod Digits
 pub mod Bag

@@ -70,13 +70,14 @@ impl<T, P: Ord, A: Allocator> Bag<T, P, A> {
     }
 
     /// Makes place for one more pair, where there is none yet. It fails only where memory is refused, or at
-    /// 2^63 - 1 pairs.
+    /// 2^63 - 1 pairs, and then nothing has changed.
     pub fn make_place(&mut self) -> Result<(), AllocError>
         ensures same { self.new ≡ record self.old { place = self.new.place } }
         ensures place { OnOk result (length self.new.pending < self.new.place) }
         ensures kept { self.old.place ≤ self.new.place }
         ensures limit { self.new.place < 2 ^ 63 }
         ensures full { OnErr result (self.old.place ≤ length self.old.pending) }
+        ensures err { OnErr result (self.new ≡ self.old) }
     {
         self.items.reserve(1)
     }

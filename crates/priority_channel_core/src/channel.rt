@@ -1,5 +1,5 @@
 //! The core of a channel: the state that every handle shares, and its calls, each of which is one step.
-ghost use Rattle.std.specs.Prelude.{◌≡◌, ◌↔◌, ◌+◌, ◌-◌, ◌*◌, ◌<◌, ◌≤◌, ◌^◌, [], length, true, false, IfOk, IfErr, OnErr, IsOk, IsTrue, Err};
+ghost use Rattle.std.specs.Prelude.{◌≡◌, ◌↔◌, ◌+◌, ◌-◌, ◌*◌, ◌<◌, ◌≤◌, ◌^◌, ◌⊎◌, [], length, true, false, IfOk, IfErr, OnErr, IsOk, IsTrue, Err};
 ghost use Rattle.priority_channel_core.specs.Digits.{digits};
 
 use crate::awaitable_atomics::{AwaitableAtomicCounterAndBit, Wakes};
@@ -8,6 +8,8 @@ use crate::calls::{Answer, Call};
 use crate::errors::{TryRecvError, TrySendError};
 use std::alloc::{AllocError, Allocator, Global};
 use std::marker::Model;
+
+pub mod bulk;
 
 /// The state of a channel for one thread: pending pairs of a message and a priority, whether it is closed, how many
 /// handles there are, and who waits, each with a waker of type `W`.
@@ -46,11 +48,11 @@ impl<T, P: Ord, W, A: Allocator> Model for PriorityQueueChannel<T, P, W, A> {
 }
 
 // Makes what a push needs: place, and a number.
-fn prepare<T, P: Ord, A: Allocator>(bag: &mut Bag<T, P, A>) -> bool
+pub(crate) fn prepare<T, P: Ord, A: Allocator>(bag: &mut Bag<T, P, A>) -> bool
     ensures same { bag.new ≡ record bag.old { place = bag.new.place } }
     ensures grows { bag.old.place ≤ bag.new.place }
     ensures ready { IsTrue result → (length bag.new.pending < bag.new.place) × (bag.new.accepted + 1 < 2 ^ 64) × (bag.new.place < 2 ^ 63) }
-    ensures succeeds { bag.old.accepted + 1 < 2 ^ 64 → length bag.old.pending < bag.old.place → IsTrue result }
+    ensures refused { result ≡ false → (bag.new.place ≤ length bag.new.pending) ⊎ (2 ^ 64 ≤ bag.new.accepted + 1) }
 {
     bag.can_push() && bag.make_place().is_ok()
 }

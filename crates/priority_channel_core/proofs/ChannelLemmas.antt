@@ -1,0 +1,48 @@
+-- The parts of a channel, once the loop of a bulk send has added a front to the bag and the word has risen.
+use Rattle.std.proofs.Common.{◌≡◌, ℕ, ◌+◌, ◌-◌, ◌<◌, ◌≤◌, ◌^◌, ◌⊎◌, Bool, true, false, List, [], ◌++◌, length, refl, ap, arith, inl, inr, ⊎_elim, length-append}
+use Rattle.std.specs.Prelude.{◌==◌, if◌then◌else◌}
+use Rattle.priority_channel_core.specs.State.{State, Handed, nobody}
+use Rattle.priority_channel_core.specs.Sends.{AddsFront}
+use Rattle.priority_channel_core.specs.Bag.{Contents}
+use Rattle.priority_channel_core.specs.Word.{Word, IsOrderly}
+use Rattle.priority_channel_core.specs.Channel.{state_of, IsSound}
+use Rattle.priority_channel_core.proofs.SendLemmas.{good_adds}
+
+module _ {T P W : Type 0} (bag bag' : Contents T P) (word word' : Word W) (handed : Handed W) (capacity : ℕ) (is_reserved : Bool)
+    (senders receivers n : ℕ) (front : List (T × P)) (long : length front ≡ n)
+    (pending : bag'.pending ≡ bag.pending ++ front) (accepted : bag'.accepted ≡ bag.accepted + n)
+    (handed_is : handed ≡ (if n == 0 then nobody else record { room = []; message = word.message_waiters }))
+    (risen : word' ≡ record word { count = word.count + n; message_waiters = if n == 0 then word.message_waiters else [] }) where
+  abbrev Old : State T P W
+  Old = state_of bag word capacity is_reserved senders receivers
+
+  abbrev New : State T P W
+  New = state_of bag' word' capacity is_reserved senders receivers
+
+  pub adds : AddsFront Old front handed New
+  adds = rw (pending, accepted, risen, handed_is, ← long) (record { handed_is = refl; new_is = refl })
+
+  pub sound_adds : IsSound bag word Old → word.is_closed ≡ false → n ≤ capacity - length bag.pending → bag.place ≤ bag'.place
+      → length bag'.pending < 2 ^ 63 → bag'.accepted < 2 ^ 64 → IsOrderly word' → IsSound bag' word' New
+  sound_adds sound opened within grown limit fits orderly =
+      let l = length-append bag.pending front in
+      let longer : length bag'.pending ≡ length bag.pending + n = rw pending (omega (arith, l, long)) in
+      let m = sound.good.within_capacity in
+      record {
+        counted = let c = ap (λ (w : Word W). w.count) risen in omega (arith, longer, sound.counted, c);
+        place_kept = λ reserved. let p = sound.place_kept reserved in omega arith;
+        good = good_adds Old New front handed adds sound.good opened (omega (arith, m)) limit fits orderly;
+      }
+
+  -- in a reserved channel there is place for each pair that has room
+  pub refused_in_channel : IsSound bag word Old → n < capacity - length bag.pending → bag.place ≤ bag'.place → bag'.accepted < 2 ^ 64
+      → (bag'.place ≤ length bag'.pending) ⊎ (2 ^ 64 ≤ bag'.accepted + 1) → (is_reserved ≡ false) ⊎ (bag.accepted + n ≡ 2 ^ 64 - 1)
+  refused_in_channel sound within grown fits (inr numbers) = inr (omega (arith, accepted))
+  refused_in_channel sound within grown fits (inl full) = either is_reserved refl
+    where
+      either : (b : Bool) → is_reserved ≡ b → (b ≡ false) ⊎ (bag.accepted + n ≡ 2 ^ 64 - 1)
+      either false e = inl refl
+      either true e =
+          let p = sound.place_kept e in let l = length-append bag.pending front in
+          let longer : length bag'.pending ≡ length bag.pending + n = rw pending (omega (arith, l, long)) in
+          absurd (omega arith)

@@ -1,0 +1,86 @@
+-- What the addition of a front of a list is, as a send of the list.
+use Rattle.std.proofs.Common.{◌≡◌, ℕ, ◌+◌, ◌-◌, ◌<◌, ◌≤◌, ◌^◌, ◌⊎◌, true, false, List, [], ◌∷◌, ◌++◌, length, take, drop, refl, sym, ap, arith, inl, inr, length-append}
+use Rattle.std.specs.Prelude.{Ok, Err, ◌==◌, if◌then◌else◌}
+use Rattle.std.proofs.lemmas.Bool.Decides.{eqb_tells}
+use Rattle.std.proofs.lemmas.List.{append-nil}
+use Rattle.priority_channel_core.specs.declared.errors.TrySendError.TheVariants.{Full, Memory}
+use Rattle.priority_channel_core.specs.State.{State, Handed, nobody, room}
+use Rattle.priority_channel_core.specs.Waiting.{HasOwnTickets}
+use Rattle.priority_channel_core.specs.Good.{IsGood}
+use Rattle.priority_channel_core.specs.Sends.{Accepts, AddsFront, Sends}
+
+take_front : {X : Type 0} (front rest : List X) → take (length front) (front ++ rest) ≡ front
+take_front [] rest = refl
+take_front (x ∷ front) rest = ap (λ xs. x ∷ xs) (take_front front rest)
+
+drop_front : {X : Type 0} (front rest : List X) → drop (length front) (front ++ rest) ≡ rest
+drop_front [] rest = refl
+drop_front (x ∷ front) rest = drop_front front rest
+
+module _ {T P W : Type 0} where
+  module _ (old new : State T P W) (handed : Handed W) (pairs front rest : List (T × P)) (opened : old.is_closed ≡ false)
+      (adds : AddsFront old front handed new) (parts : pairs ≡ front ++ rest) where
+    accepted : Accepts old (length front) pairs handed new
+    accepted =
+        let t : take (length front) pairs ≡ front = rw parts (take_front front rest) in
+        (opened, adds.handed_is, rw t adds.new_is)
+
+    left : rest ≡ drop (length front) pairs
+    left = rw parts (sym (drop_front front rest))
+
+    longer : length pairs ≡ length front + length rest
+    longer = let l = length-append front rest in let e = ap length parts in omega arith
+
+    -- there was no room for more
+    pub sent_full : length front ≡ room old → 0 < length rest → Sends old pairs (Err (Full rest)) handed new
+    sent_full filled more = let l = longer in (inr (omega arith), rw (← filled) left, rw (← filled) accepted)
+
+    -- the list ended
+    pub sent_all : rest ≡ [] → 0 < room old → length front ≤ room old → Sends old pairs (Ok tt) handed new
+    sent_all none some within =
+        let l = longer in let e = ap length none in
+        let same : length pairs ≡ length front = omega arith in
+        (some, omega arith, rw same accepted)
+
+    -- place or a number was refused to a further pair
+    pub sent_cut : length front < room old → 0 < length rest → (old.is_reserved ≡ false) ⊎ (old.accepted + length front ≡ 2 ^ 64 - 1)
+        → Sends old pairs (Err (Memory rest)) handed new
+    sent_cut within more why = (length front, (let l = longer in omega arith), within, left, accepted, why)
+
+  -- nothing is added to what a channel has
+  pub adds_none : (s : State T P W) → AddsFront s [] nobody s
+  adds_none s =
+      let none : s.accepted + 0 ≡ s.accepted = omega arith in
+      record { handed_is = refl; new_is = rw (append-nil s.pending, none) refl }
+
+  -- a full open channel refuses a list as it is
+  pub refuses_full : (s : State T P W) (pairs : List (T × P)) → room s ≡ 0 → s.is_closed ≡ false → Sends s pairs (Err (Full pairs)) nobody s
+  refuses_full s pairs none opened =
+      let more : s.accepted + 0 ≡ s.accepted = omega arith in
+      (inl none, rw none refl, (opened, rw none refl, rw (none, append-nil s.pending, more) refl))
+
+  -- a channel stays good where there was room and were numbers for what is added
+  pub good_adds : (old new : State T P W) (front : List (T × P)) (handed : Handed W) → AddsFront old front handed new → IsGood old
+      → old.is_closed ≡ false → length new.pending ≤ old.capacity → length new.pending < 2 ^ 63 → new.accepted < 2 ^ 64
+      → HasOwnTickets new.room_waiters new.message_waiters new.next_ticket → IsGood new
+  good_adds old new front handed adds good opened within limit fits tickets =
+      let l = length-append old.pending front in
+      rw adds.new_is (record {
+        has_capacity = good.has_capacity;
+        capacity_fits = good.capacity_fits;
+        reserved_fits = good.reserved_fits;
+        within_capacity = rw adds.new_is at within;
+        within_limit = rw adds.new_is at limit;
+        accepted_before = omega (arith, l, good.accepted_before);
+        accepted_fits = rw adds.new_is at fits;
+        closed_without_waiters = λ closed. cc (closed, opened);
+        room_waiters_if_full = λ more. good.room_waiters_if_full (omega (arith, l, more));
+        message_waiters_if_empty = λ some. elim (eqb_tells (length front) 0) [
+          | inl h ↦ let e = h.0 in rw e (good.message_waiters_if_empty (omega (arith, l, h.1, some)))
+          | inr h ↦ let e = h.0 in rw e refl
+        ];
+        tickets = rw adds.new_is at tickets;
+        tickets_fit = good.tickets_fit;
+        closed_without_senders = good.closed_without_senders;
+        closed_without_receivers = good.closed_without_receivers;
+      })

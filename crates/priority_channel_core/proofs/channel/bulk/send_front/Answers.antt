@@ -1,0 +1,23 @@
+use Rattle.std.proofs.Common.{◌+◌, [], ◌∷◌, length, length-append, ap, arith, rules}
+use Rattle.priority_channel_core.specs.Bag.{Contents}
+use Rattle.priority_channel_core.proofs.DigitsLemmas.{push_costs}
+use Rattle.priority_channel_core.proofs.FrontLemmas.{moved_none, moved_peeked, moved_more, more_left, none_left}
+use Rattle.priority_channel_core.proofs.channel.bulk.send_front.Goals as goal
+
+pub loop-sent-preserved : goal.loop-sent-preserved
+loop-sent-preserved g c =
+    let before = c.prepare.new.bag in
+    let same = ap (λ (b : Contents g.row.T.Denot g.row.P.Denot). length b.pending) c.prepare.ensures.same in
+    let ready = c.prepare.ensures.ready c.if-not-prepare.false in
+    let longer = ap length c.push.ensures.pending in
+    let one = length-append before.pending ((c.in-Some.msg, c.in-Some.priority) ∷ []) in
+    record {
+      callable = search rules;
+      moved = moved_more c.push.new.self c.has_next.new.msgs c.next.new.self (c.in-Some.msg, c.in-Some.priority) c.loop-sent.invariant.moved
+          c.has_next.ensures.same_list (search rules) (search rules);
+      accepted = search rules;
+      numbered = search rules;
+      place = search rules;
+      limit = λ h. omega (arith, longer, one, ready.0, ready.2);
+      cost = omega (arith, push_costs c.loop-sent.sent (length c.loop-sent.bag.pending) (length c.push.new.self.pending) (omega (arith, same, longer, one)), c.push.ensures.cost, c.loop-sent.invariant.cost, ap (λ (b : Contents g.row.T.Denot g.row.P.Denot). b.comparisons) c.prepare.ensures.same);
+    }

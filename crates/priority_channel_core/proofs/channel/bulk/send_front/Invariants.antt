@@ -1,0 +1,16 @@
+use Rattle.std.proofs.Common.{◌≡◌, ℕ, ◌+◌, ◌*◌, ◌<◌, ◌≤◌, ◌^◌, length}
+use Rattle.std.specs.Iterator.Adapters.{peekable_can}
+use Rattle.priority_channel_core.specs.Digits.{digits}
+use Rattle.priority_channel_core.specs.Front.{MovesFront}
+use Rattle.priority_channel_core.proofs.channel.bulk.send_front.Given as goal
+
+abbrev pub invariant-loop-sent : goal.invariant-loop-sent
+invariant-loop-sent g l = record {
+  callable : peekable_can g.I.Iterator.can_next l.msgs;
+  moved : MovesFront g.I.Iterator.next_gives l.fn.bag l.fn.msgs l.sent l.bag l.msgs;
+  accepted : l.bag.accepted ≡ l.fn.bag.accepted + l.sent;
+  numbered : l.fn.bag.accepted < 2 ^ 64 → l.bag.accepted < 2 ^ 64;
+  place : l.fn.bag.place ≤ l.bag.place;
+  limit : length l.fn.bag.pending < 2 ^ 63 → length l.bag.pending < 2 ^ 63;
+  cost : l.bag.comparisons ≤ l.fn.bag.comparisons + l.sent * digits (length l.bag.pending);
+}

@@ -1,0 +1,150 @@
+//! Sending many pairs in one step.
+ghost use Rattle.std.specs.Prelude.{◌≡◌, ◌+◌, ◌*◌, ◌-◌, ◌<◌, ◌≤◌, ◌^◌, ◌↔◌, ◌⊎◌, List, length, IfErr, IsTrue, true, false, Option, Some, is_some};
+ghost use Rattle.std.specs.Iterator.Adapters.{peekable_can, peekable_peeked};
+ghost use Rattle.priority_channel_core.specs.Digits.{digits};
+ghost use Rattle.priority_channel_core.specs.Lists.{HasList};
+ghost use Rattle.priority_channel_core.specs.Front.{MovesFront, SendsFront, StopsFor, sent_before};
+
+use crate::awaitable_atomics::Wakes;
+use crate::bag::Bag;
+use crate::calls::{Answer, Call};
+use crate::channel::{PriorityQueueChannel, prepare};
+use crate::errors::TrySendError;
+use std::alloc::Allocator;
+use std::iter::Peekable;
+
+/// Why a bulk send stopped, after so many pairs.
+#[derive(Drop)]
+pub enum Stop {
+    /// The list ended.
+    Ended(u64),
+    /// There was no more room.
+    Filled(u64),
+    /// Place or a number was refused to a pair that was there.
+    Memory(u64),
+}
+
+impl Stop {
+    fn sent(&self) -> u64
+        ensures { result ≡ sent_before self.now }
+    {
+        match self {
+            Stop::Ended(sent) | Stop::Filled(sent) | Stop::Memory(sent) => *sent,
+        }
+    }
+}
+
+/// Whether there is another item, which is then peeked.
+#[tactic(auto, using(crate::proofs::ListLemmas::list_after_peek))]
+pub(crate) fn has_next<I: Iterator>(msgs: &mut Peekable<I>) -> bool
+where
+    I::Item: Drop,
+    requires { peekable_can I.can_next msgs.old }
+    ensures callable { peekable_can I.can_next msgs.new }
+    ensures peeked { (next : Option I.Item) × (peekable_peeked msgs.new ≡ Some next) × (result ≡ is_some next) }
+    ensures same_list { (list : List I.Item) → HasList I.next_gives msgs.old list → HasList I.next_gives msgs.new list }
+    ensures more { (list : List I.Item) → HasList I.next_gives msgs.new list → (IsTrue result ↔ (0 < length list)) }
+{
+    msgs.peek().is_some()
+}
+
+// Moves pairs into the bag, until `room` of them are there or something stops it. The place for a pair is made
+// before the pair is taken, so none is lost.
+fn send_front<T: Drop, P: Ord + Drop, A: Allocator, I: Iterator<Item = (T, P)>>(
+    bag: &mut Bag<T, P, A>,
+    room: u64,
+    msgs: &mut Peekable<I>,
+) -> Stop
+    requires { peekable_can I.can_next msgs.old }
+    ensures callable { peekable_can I.can_next msgs.new }
+    ensures moved { MovesFront I.next_gives bag.old msgs.old (sent_before result) bag.new msgs.new }
+    ensures accepted { bag.new.accepted ≡ bag.old.accepted + sent_before result }
+    ensures numbered { bag.old.accepted < 2 ^ 64 → bag.new.accepted < 2 ^ 64 }
+    ensures place { bag.old.place ≤ bag.new.place }
+    ensures limit { length bag.old.pending < 2 ^ 63 → length bag.new.pending < 2 ^ 63 }
+    ensures stops { StopsFor I.next_gives (λ n. (bag.new.place ≤ length bag.new.pending) ⊎ (2 ^ 64 ≤ bag.new.accepted + 1)) room result msgs.new }
+    ensures cost { bag.new.comparisons ≤ bag.old.comparisons + sent_before result * digits (length bag.new.pending) }
+{
+    for sent in 0..room {
+        if !has_next(msgs) {
+            return Stop::Ended(sent);
+        }
+        if !prepare(bag) {
+            return Stop::Memory(sent);
+        }
+        let Some((msg, priority)) = msgs.next() else {
+            unreachable!()
+        };
+        bag.push(msg, priority);
+    }
+    Stop::Filled(room)
+}
+
+impl<T: Drop, P: Ord + Drop, W: Clone, A: Allocator + Copy> PriorityQueueChannel<T, P, W, A> {
+    ghost use Rattle.priority_channel_core.specs.State.{room as room_of};
+    ghost use Rattle.priority_channel_core.specs.Good.{IsGood};
+    ghost use Rattle.priority_channel_core.specs.Sends.{refused, AddsFront};
+    ghost use Rattle.priority_channel_core.specs.Bulk.{Performs};
+    ghost use Rattle.priority_channel_core.specs.Channel.{ComparesAtMost};
+
+    // Sends a front of the list, of at least one pair if there is one, and hands out those who wait for a message.
+    fn send_while_room<I: Iterator<Item = (T, P)>>(
+        &mut self,
+        room: u64,
+        msgs: &mut Peekable<I>,
+    ) -> (Stop, Wakes<W, A>)
+        requires opened { self.old.state.is_closed ≡ false }
+        requires room { room ≡ room_of self.old.state }
+        requires callable { peekable_can I.can_next msgs.old }
+        ensures callable { peekable_can I.can_next msgs.new }
+        ensures sent { SendsFront I.next_gives self.old.state msgs.old (sent_before result.0) result.1 self.new.state msgs.new }
+        ensures stops { StopsFor I.next_gives (λ n. (self.old.state.is_reserved ≡ false) ⊎ (self.old.state.accepted + n ≡ 2 ^ 64 - 1)) room result.0 msgs.new }
+        ensures good { IsGood self.new.state }
+        ensures cost { ComparesAtMost (sent_before result.0 * digits (length self.new.state.pending)) 0 self.old self.new }
+    {
+        let stop = send_front(&mut self.bag, room, msgs);
+        let (_, wakes) = self.length.incr(stop.sent());
+        (stop, wakes)
+    }
+
+    /// Sends the pairs of an iterator, up to its first `None`, as far as there is room, in one step.
+    ///
+    /// What was accepted stays. What was not comes back in order, and can be sent again: with `Closed` or with `Full`
+    /// from the start all of it, and the iterator was not called; with `Full` later what there was no room for; with
+    /// `Memory` the rest from the pair for which place was refused. An empty list is refused by a closed channel and
+    /// by a full one, and asks for no memory.
+    ///
+    /// Each turn peeks, makes the place, and only then takes the pair.
+    pub fn try_sendv<I: Iterator<Item = (T, P)>>(
+        &mut self,
+        mut msgs: Peekable<I>,
+    ) -> (Result<(), TrySendError<Peekable<I>>>, Wakes<W, A>)
+        requires { peekable_can I.can_next msgs }
+        ensures step { Performs (HasList I.next_gives) P.cmp W.is_clone self.old.state (Call.TrySendv msgs) (Answer.TrySendv result.0) result.1 self.new.state }
+        ensures untouched { (self.old.state.is_closed ≡ true) ⊎ (room_of self.old.state ≡ 0) → IfErr result.0 (λ error. refused error ≡ msgs) }
+        ensures callable { IfErr result.0 (λ error. peekable_can I.can_next (refused error)) }
+
+        // Whether or not the iterator has one list.
+        ensures front { (front : List (T × P)) × AddsFront self.old.state front result.1 self.new.state × ComparesAtMost (length front * digits (length self.new.state.pending)) 0 self.old self.new }
+        ensures good { IsGood self.new.state }
+    {
+        let (is_closed, count) = self.length.load();
+        if is_closed {
+            return (Err(TrySendError::Closed(msgs)), Wakes::nobody(self.alloc));
+        }
+        if count >= self.capacity {
+            return (Err(TrySendError::Full(msgs)), Wakes::nobody(self.alloc));
+        }
+        let (stop, wakes) = self.send_while_room(self.capacity - count, &mut msgs);
+        match stop {
+            Stop::Ended(_) => (Ok(()), wakes),
+            Stop::Memory(_) => (Err(TrySendError::Memory(msgs)), wakes),
+            Stop::Filled(_) => {
+                if has_next(&mut msgs) {
+                    return (Err(TrySendError::Full(msgs)), wakes);
+                }
+                (Ok(()), wakes)
+            }
+        }
+    }
+}
