@@ -1,11 +1,14 @@
 -- The parts of a channel, once the loop of a bulk send has added a front to the bag and the word has risen.
-use Rattle.std.proofs.Common.{◌≡◌, ℕ, ◌+◌, ◌-◌, ◌<◌, ◌≤◌, ◌^◌, ◌⊎◌, Bool, true, false, List, [], ◌++◌, length, refl, ap, arith, inl, inr, ⊎_elim, length-append}
+use Rattle.std.proofs.Common.{◌≡◌, ℕ, ◌+◌, ◌-◌, ◌<◌, ◌≤◌, ◌^◌, ◌⊎◌, Bool, true, false, List, [], ◌++◌, length, refl, ap, arith, inl, inr, length-append}
 use Rattle.std.specs.Prelude.{◌==◌, if◌then◌else◌}
 use Rattle.priority_channel_core.specs.State.{State, Handed, nobody}
 use Rattle.priority_channel_core.specs.Sends.{AddsFront}
 use Rattle.priority_channel_core.specs.Bag.{Contents}
 use Rattle.priority_channel_core.specs.Word.{Word, IsOrderly}
 use Rattle.priority_channel_core.specs.Channel.{state_of, IsSound}
+use Rattle.std.proofs.lemmas.Bool.{cases_lt}
+use Rattle.priority_channel_core.specs.Digits.{digits}
+use Rattle.priority_channel_core.proofs.DigitsLemmas.{digits-mono}
 use Rattle.priority_channel_core.proofs.SendLemmas.{good_adds}
 
 module _ {T P W : Type 0} (bag bag' : Contents T P) (word word' : Word W) (handed : Handed W) (capacity : ℕ) (is_reserved : Bool)
@@ -36,13 +39,18 @@ module _ {T P W : Type 0} (bag bag' : Contents T P) (word word' : Word W) (hande
 
   -- in a reserved channel there is place for each pair that has room
   pub refused_in_channel : IsSound bag word Old → n < capacity - length bag.pending → bag.place ≤ bag'.place → bag'.accepted < 2 ^ 64
-      → (bag'.place ≤ length bag'.pending) ⊎ (2 ^ 64 ≤ bag'.accepted + 1) → (is_reserved ≡ false) ⊎ (bag.accepted + n ≡ 2 ^ 64 - 1)
-  refused_in_channel sound within grown fits (inr numbers) = inr (omega (arith, accepted))
-  refused_in_channel sound within grown fits (inl full) = either is_reserved refl
+      → (bag'.accepted + 1 < 2 ^ 64 → bag'.place ≤ length bag'.pending) → (is_reserved ≡ false) ⊎ (bag.accepted + n ≡ 2 ^ 64 - 1)
+  refused_in_channel sound within grown fits full =
+      elim (cases_lt (bag'.accepted + 1) (2 ^ 64)) [ inl some ↦ either is_reserved refl (full some) | inr none ↦ inr (omega (arith, accepted)) ]
     where
-      either : (b : Bool) → is_reserved ≡ b → (b ≡ false) ⊎ (bag.accepted + n ≡ 2 ^ 64 - 1)
-      either false e = inl refl
-      either true e =
+      either : (b : Bool) → is_reserved ≡ b → bag'.place ≤ length bag'.pending → (is_reserved ≡ false) ⊎ (bag.accepted + n ≡ 2 ^ 64 - 1)
+      either false e filled = inl e
+      either true e filled =
           let p = sound.place_kept e in let l = length-append bag.pending front in
           let longer : length bag'.pending ≡ length bag.pending + n = rw pending (omega (arith, l, long)) in
           absurd (omega arith)
+
+-- a search in shorter lists
+pub digits_shorter : {X : Type 0} (xs ys us vs : List X) → length us ≤ length xs → length vs ≤ length ys
+    → digits (length us) + digits (length vs) ≤ digits (length xs) + digits (length ys)
+digits_shorter xs ys us vs p q = omega (arith, digits-mono (length us) (length xs) p, digits-mono (length vs) (length ys) q)

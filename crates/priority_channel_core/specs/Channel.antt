@@ -1,5 +1,6 @@
 -- What callers see of a channel, and how its parts agree.
 use Rattle.std.specs.Prelude.{◌≡◌, ℕ, ◌+◌, ◌≤◌, Bool, true, length}
+use Rattle.priority_channel_core.specs.Digits.{digits}
 use Rattle.priority_channel_core.specs.State.{State}
 use Rattle.priority_channel_core.specs.Good.{IsGood}
 use Rattle.priority_channel_core.specs.Bag.{Contents}
@@ -37,3 +38,7 @@ abbrev pub ComparesAtMost : {T P W : Type 0} → ℕ → ℕ → CountedState T 
 ComparesAtMost priorities tickets old new =
     (new.priority_comparisons ≤ old.priority_comparisons + priorities)
     × (new.ticket_comparisons ≤ old.ticket_comparisons + tickets)
+
+-- how many tickets a search by halving in both waiting lists compares at most
+abbrev pub search_bound : {T P W : Type 0} → State T P W → ℕ
+search_bound s = digits (length s.room_waiters) + digits (length s.message_waiters)

@@ -1,3 +1,4 @@
+pub mod Digits
 pub mod State
 pub mod Waiting
 pub mod Good
@@ -11,7 +12,6 @@ pub mod Lists
 pub mod Front
 pub mod Bulk
 pub mod Allowed
-pub mod Digits
 pub mod Bag
 pub mod Heap
 pub mod Word

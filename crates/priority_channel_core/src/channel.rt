@@ -1,5 +1,5 @@
 //! The core of a channel: the state that every handle shares, and its calls, each of which is one step.
-ghost use Rattle.std.specs.Prelude.{◌≡◌, ◌↔◌, ◌+◌, ◌-◌, ◌*◌, ◌<◌, ◌≤◌, ◌^◌, ◌⊎◌, [], length, true, false, IfOk, IfErr, OnErr, IsOk, IsTrue, Err};
+ghost use Rattle.std.specs.Prelude.{◌≡◌, ◌↔◌, ◌+◌, ◌-◌, ◌*◌, ◌<◌, ◌≤◌, ◌^◌, [], length, true, false, IfOk, IfErr, OnErr, IsOk, IsTrue, Err};
 ghost use Rattle.priority_channel_core.specs.Digits.{digits};
 
 use crate::awaitable_atomics::{AwaitableAtomicCounterAndBit, Wakes};
@@ -10,6 +10,7 @@ use std::alloc::{AllocError, Allocator, Global};
 use std::marker::Model;
 
 pub mod bulk;
+pub mod polls;
 
 /// The state of a channel for one thread: pending pairs of a message and a priority, whether it is closed, how many
 /// handles there are, and who waits, each with a waker of type `W`.
@@ -52,7 +53,8 @@ pub(crate) fn prepare<T, P: Ord, A: Allocator>(bag: &mut Bag<T, P, A>) -> bool
     ensures same { bag.new ≡ record bag.old { place = bag.new.place } }
     ensures grows { bag.old.place ≤ bag.new.place }
     ensures ready { IsTrue result → (length bag.new.pending < bag.new.place) × (bag.new.accepted + 1 < 2 ^ 64) × (bag.new.place < 2 ^ 63) }
-    ensures refused { result ≡ false → (bag.new.place ≤ length bag.new.pending) ⊎ (2 ^ 64 ≤ bag.new.accepted + 1) }
+    ensures succeeds { bag.old.accepted + 1 < 2 ^ 64 → length bag.old.pending < bag.old.place → IsTrue result }
+    ensures refused { result ≡ false → bag.new.accepted + 1 < 2 ^ 64 → bag.new.place ≤ length bag.new.pending }
 {
     bag.can_push() && bag.make_place().is_ok()
 }
@@ -82,6 +84,31 @@ impl<T, P: Ord, W: Clone, A: Allocator + Copy> PriorityQueueChannel<T, P, W, A> 
             sender_count: 1,
             receiver_count: 1,
         })
+    }
+
+    /// A channel for at most `cap` pairs at a time. It takes no memory: place is made as pairs are sent.
+    pub fn bounded(alloc: A, cap: u64) -> Self
+        requires { 0 < cap }
+        ensures opens { result.state ≡ opening cap false }
+        ensures good { IsGood result.state }
+    {
+        PriorityQueueChannel {
+            alloc,
+            bag: Bag::new(alloc),
+            length: AwaitableAtomicCounterAndBit::new(alloc, 0),
+            capacity: cap,
+            is_reserved: false,
+            sender_count: 1,
+            receiver_count: 1,
+        }
+    }
+
+    /// A channel without a limit but memory: of capacity `u64::MAX`. It takes no memory.
+    pub fn unbounded(alloc: A) -> Self
+        ensures opens { result.state ≡ opening (2 ^ 64 - 1) false }
+        ensures good { IsGood result.state }
+    {
+        Self::bounded(alloc, u64::MAX)
     }
 
     /// Sends a pair, if the channel is open and has room. A pair that is refused comes back: for `Closed` before
@@ -146,5 +173,120 @@ impl<T, P: Ord, W: Clone, A: Allocator + Copy> PriorityQueueChannel<T, P, W, A> 
     {
         let (was_closed, wakes) = self.length.set_bit();
         (!was_closed, wakes)
+    }
+
+    /// Whether the channel is closed.
+    pub fn is_closed(&self) -> bool
+        ensures answer { result ≡ self.now.state.is_closed }
+        ensures good { IsGood self.now.state }
+    {
+        let (is_closed, _) = self.length.load();
+        is_closed
+    }
+
+    /// How many pairs are pending.
+    pub fn len(&self) -> u64
+        ensures answer { result ≡ length self.now.state.pending }
+        ensures good { IsGood self.now.state }
+    {
+        let (_, count) = self.length.load();
+        count
+    }
+
+    /// Whether no pair is pending.
+    pub fn is_empty(&self) -> bool
+        ensures answer { IsTrue result ↔ (self.now.state.pending ≡ []) }
+        ensures good { IsGood self.now.state }
+    {
+        self.len() == 0
+    }
+
+    /// Whether there is no room.
+    pub fn is_full(&self) -> bool
+        ensures answer { IsTrue result ↔ (length self.now.state.pending ≡ self.now.state.capacity) }
+        ensures good { IsGood self.now.state }
+    {
+        self.len() == self.capacity
+    }
+
+    /// How many pairs may be pending at a time; None where the capacity is `u64::MAX`.
+    pub fn capacity(&self) -> Option<u64>
+        ensures answer { result ≡ capacity_told self.now.state }
+        ensures good { IsGood self.now.state }
+    {
+        if self.capacity == u64::MAX {
+            return None;
+        }
+        Some(self.capacity)
+    }
+
+    /// How many senders there are.
+    pub fn sender_count(&self) -> usize
+        ensures answer { result ≡ self.now.state.sender_count }
+        ensures good { IsGood self.now.state }
+    {
+        self.sender_count
+    }
+
+    /// How many receivers there are.
+    pub fn receiver_count(&self) -> usize
+        ensures answer { result ≡ self.now.state.receiver_count }
+        ensures good { IsGood self.now.state }
+    {
+        self.receiver_count
+    }
+
+    /// Counts a further sender; false, and nothing changed, exactly where there are more than `usize::MAX / 2`.
+    pub fn clone_sender(&mut self) -> bool
+        ensures step { Step P.cmp W.is_clone self.old.state Call.CloneSender (Answer.CloneSender result) nobody self.new.state }
+        ensures cost { ComparesAtMost 0 0 self.old self.new }
+    {
+        if self.sender_count > usize::MAX / 2 {
+            return false;
+        }
+        self.sender_count += 1;
+        true
+    }
+
+    /// Counts a further receiver; false, and nothing changed, exactly where there are more than `usize::MAX / 2`.
+    pub fn clone_receiver(&mut self) -> bool
+        ensures step { Step P.cmp W.is_clone self.old.state Call.CloneReceiver (Answer.CloneReceiver result) nobody self.new.state }
+        ensures cost { ComparesAtMost 0 0 self.old self.new }
+    {
+        if self.receiver_count > usize::MAX / 2 {
+            return false;
+        }
+        self.receiver_count += 1;
+        true
+    }
+
+    /// Counts one sender less. The last one closes the channel.
+    pub fn drop_sender(&mut self) -> Wakes<W, A>
+        requires { 0 < self.old.state.sender_count }
+        ensures step { Step P.cmp W.is_clone self.old.state Call.DropSender Answer.DropSender result self.new.state }
+        ensures cost { ComparesAtMost 0 0 self.old self.new }
+    {
+        if self.sender_count > 1 {
+            self.sender_count -= 1;
+            return Wakes::nobody(self.alloc);
+        }
+        let (_, wakes) = self.length.set_bit();
+        self.sender_count = 0;
+        wakes
+    }
+
+    /// Counts one receiver less. The last one closes the channel.
+    pub fn drop_receiver(&mut self) -> Wakes<W, A>
+        requires { 0 < self.old.state.receiver_count }
+        ensures step { Step P.cmp W.is_clone self.old.state Call.DropReceiver Answer.DropReceiver result self.new.state }
+        ensures cost { ComparesAtMost 0 0 self.old self.new }
+    {
+        if self.receiver_count > 1 {
+            self.receiver_count -= 1;
+            return Wakes::nobody(self.alloc);
+        }
+        let (_, wakes) = self.length.set_bit();
+        self.receiver_count = 0;
+        wakes
     }
 }

@@ -62,7 +62,7 @@ fn send_front<T: Drop, P: Ord + Drop, A: Allocator, I: Iterator<Item = (T, P)>>(
     ensures numbered { bag.old.accepted < 2 ^ 64 → bag.new.accepted < 2 ^ 64 }
     ensures place { bag.old.place ≤ bag.new.place }
     ensures limit { length bag.old.pending < 2 ^ 63 → length bag.new.pending < 2 ^ 63 }
-    ensures stops { StopsFor I.next_gives (λ n. (bag.new.place ≤ length bag.new.pending) ⊎ (2 ^ 64 ≤ bag.new.accepted + 1)) room result msgs.new }
+    ensures stops { StopsFor I.next_gives (λ n. bag.new.accepted + 1 < 2 ^ 64 → bag.new.place ≤ length bag.new.pending) room result msgs.new }
     ensures cost { bag.new.comparisons ≤ bag.old.comparisons + sent_before result * digits (length bag.new.pending) }
 {
     for sent in 0..room {

@@ -1,4 +1,4 @@
-use Rattle.std.proofs.Common.{◌≡◌, ℕ, ◌⊎◌, ◌+◌, ◌-◌, ◌≤◌, ◌^◌, false, length, arith, rules}
+use Rattle.std.proofs.Common.{◌≡◌, ℕ, ◌<◌, ◌⊎◌, ◌+◌, ◌-◌, ◌≤◌, ◌^◌, false, length, arith, rules}
 use Rattle.priority_channel_core.specs.Front.{sent_before}
 use Rattle.priority_channel_core.proofs.ChannelLemmas.{sound_adds, refused_in_channel}
 use Rattle.priority_channel_core.proofs.FrontLemmas.{sent_within, stops_for}
@@ -22,7 +22,7 @@ returns-clause-stops g c =
     let before = c.self.inside in
     let after = c.send_front-stop.new.bag in
     let front = c.send_front-stop.ensures in
-    let was : ℕ → Type 0 = λ n. (after.place ≤ length after.pending) ⊎ (2 ^ 64 ≤ after.accepted + 1) in
+    let was : ℕ → Type 0 = λ n. after.accepted + 1 < 2 ^ 64 → after.place ≤ length after.pending in
     let is_refused : ℕ → Type 0 = λ n. (c.args.self.now.state.is_reserved ≡ false) ⊎ (c.args.self.now.state.accepted + n ≡ 2 ^ 64 - 1) in
     stops_for g.I.Iterator.next_gives was is_refused c.args.room c.send_front-stop.result c.send_front-stop.new.msgs
     (λ within refused. rw (← c.self.view_is) (refused_in_channel before.bag after before.length.word c.incr-wakes.new.self.word c.incr-wakes.result.1

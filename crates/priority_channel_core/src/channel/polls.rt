@@ -1,0 +1,108 @@
+//! The calls that wait: a send or a receive, and then a place in a waiting list where the channel was full or empty.
+ghost use Rattle.std.specs.Prelude.{◌≡◌, ◌+◌, ◌*◌, ◌≤◌, [], length, false, Some};
+ghost use Rattle.priority_channel_core.specs.Digits.{digits};
+ghost use Rattle.priority_channel_core.specs.Polls.{unlisted};
+
+use crate::awaitable_atomics::Wakes;
+use crate::calls::{Answer, Call, CorePoll};
+use crate::channel::PriorityQueueChannel;
+use crate::errors::{RecvError, RecvFault, SendError, SendFault, TryRecvError, TrySendError};
+use std::alloc::Allocator;
+
+impl<T, P: Ord, W: Clone, A: Allocator + Copy> PriorityQueueChannel<T, P, W, A> {
+    ghost use Rattle.priority_channel_core.specs.State.{nobody};
+    ghost use Rattle.priority_channel_core.specs.Good.{IsGood};
+    ghost use Rattle.priority_channel_core.specs.Step.{Step};
+    ghost use Rattle.priority_channel_core.specs.Channel.{ComparesAtMost, search_bound};
+
+    /// The party of this ticket waits no more. A ticket that is not listed changes nothing. It takes no memory.
+    pub fn give_up(&mut self, ticket: u64)
+        ensures step { Step P.cmp W.is_clone self.old.state (Call.GiveUp ticket) Answer.GiveUp nobody self.new.state }
+        ensures cost { ComparesAtMost 0 (search_bound self.old.state) self.old self.new }
+    {
+        self.length.unlisten(ticket);
+    }
+
+    fn give_up_given(&mut self, ticket: Option<u64>)
+        ensures after { self.new.state ≡ unlisted ticket self.old.state }
+        ensures good { IsGood self.new.state }
+        ensures cost { ComparesAtMost 0 (search_bound self.old.state) self.old self.new }
+    {
+        // Also where no ticket is given, the proof needs what holds of the parts.
+        let _ = &self.length;
+        if let Some(ticket) = ticket {
+            self.give_up(ticket);
+        }
+    }
+
+    fn wait_for_message(&mut self, ticket: Option<u64>, waker: &W) -> CorePoll<Result<(T, P), RecvFault>, ()>
+        requires empty { self.old.state.pending ≡ [] }
+        requires opened { self.old.state.is_closed ≡ false }
+        ensures step { Step P.cmp W.is_clone self.old.state (Call.PollRecv ticket waker.now) (Answer.PollRecv result) nobody self.new.state }
+        ensures cost { ComparesAtMost 0 (search_bound self.old.state) self.old self.new }
+    {
+        match self.length.listen_incr(ticket, waker) {
+            Some(ticket) => CorePoll::Pending((), ticket),
+            None => CorePoll::Ready(Err(RecvFault::Memory)),
+        }
+    }
+
+    /// Receives, or waits for a message under the answered ticket. The ticket of the poll before is given again, and
+    /// keeps its place with a clone of the newest waker.
+    ///
+    /// A ready answer leaves the given ticket in neither waiting list. `Memory` is answered where the channel is open
+    /// and empty and the clone of the waker, its place or the ticket's number was refused.
+    pub fn poll_recv(&mut self, ticket: Option<u64>, waker: &W) -> (CorePoll<Result<(T, P), RecvFault>, ()>, Wakes<W, A>)
+        ensures step { Step P.cmp W.is_clone self.old.state (Call.PollRecv ticket waker.now) (Answer.PollRecv result.0) result.1 self.new.state }
+        ensures cost { ComparesAtMost (2 * digits (length self.old.state.pending)) (search_bound self.old.state) self.old self.new }
+    {
+        let (answer, wakes) = self.try_recv();
+        match answer {
+            Ok(pair) => {
+                self.give_up_given(ticket);
+                (CorePoll::Ready(Ok(pair)), wakes)
+            }
+            Err(TryRecvError::Closed) => {
+                self.give_up_given(ticket);
+                (CorePoll::Ready(Err(RecvFault::Closed(RecvError))), wakes)
+            }
+            Err(TryRecvError::Empty) => (self.wait_for_message(ticket, waker), wakes),
+        }
+    }
+
+    fn wait_for_room(&mut self, pair: (T, P), ticket: Option<u64>, waker: &W) -> CorePoll<Result<(), SendFault<(T, P)>>, (T, P)>
+        requires full { length self.old.state.pending ≡ self.old.state.capacity }
+        requires opened { self.old.state.is_closed ≡ false }
+        ensures step { Step P.cmp W.is_clone self.old.state (Call.PollSend pair.0 pair.1 ticket waker.now) (Answer.PollSend result) nobody self.new.state }
+        ensures cost { ComparesAtMost 0 (search_bound self.old.state) self.old self.new }
+    {
+        let Some(ticket) = self.length.listen_decr(ticket, waker) else {
+            return CorePoll::Ready(Err(SendFault::Memory(pair)));
+        };
+        CorePoll::Pending(pair, ticket)
+    }
+
+    /// Sends a pair, or waits for room under the answered ticket and hands the pair back for the next poll. Tickets
+    /// and wakers are treated as by `poll_recv`.
+    pub fn poll_send(&mut self, msg: T, priority: P, ticket: Option<u64>, waker: &W) -> (CorePoll<Result<(), SendFault<(T, P)>>, (T, P)>, Wakes<W, A>)
+        ensures step { Step P.cmp W.is_clone self.old.state (Call.PollSend msg priority ticket waker.now) (Answer.PollSend result.0) result.1 self.new.state }
+        ensures cost { ComparesAtMost (digits (length self.new.state.pending)) (search_bound self.old.state) self.old self.new }
+    {
+        let (answer, wakes) = self.try_send(msg, priority);
+        match answer {
+            Ok(()) => {
+                self.give_up_given(ticket);
+                (CorePoll::Ready(Ok(())), wakes)
+            }
+            Err(TrySendError::Closed(pair)) => {
+                self.give_up_given(ticket);
+                (CorePoll::Ready(Err(SendFault::Closed(SendError(pair)))), wakes)
+            }
+            Err(TrySendError::Memory(pair)) => {
+                self.give_up_given(ticket);
+                (CorePoll::Ready(Err(SendFault::Memory(pair))), wakes)
+            }
+            Err(TrySendError::Full(pair)) => (self.wait_for_room(pair, ticket, waker), wakes),
+        }
+    }
+}
