@@ -9,6 +9,7 @@ pub mod HeapLemmas
 pub mod ItemOrder
 pub mod ListLemmas
 pub mod Packed
+pub mod PollLemmas
 pub mod SendLemmas
 pub mod Tickets
 pub mod WaitingLemmas

@@ -1,6 +1,6 @@
 -- The code's calls and the machine's. A bulk send of the code is given what holds a list, as an iterator does;
 -- that of the machine is given the list.
-use Rattle.std.specs.Prelude.{◌≡◌, List, ◌++◌, map, ⊤, Result, Ok, Err}
+use Rattle.std.specs.Prelude.{◌≡◌, List, ◌++◌, map, ⊤, Option, Some, None, Result, Ok, Err}
 use Rattle.std.specs.List.{AllZip}
 use Rattle.std.specs.declared.cmp.Ordering.{Ordering}
 use Rattle.priority_channel_core.specs.declared.calls.Call.{Call}
@@ -16,6 +16,13 @@ use Rattle.priority_channel_core.specs.declared.errors.SendFault.TheVariants as 
 use Rattle.priority_channel_core.specs.State.{State, Handed}
 use Rattle.priority_channel_core.specs.Step.{Step, Calls, Answers}
 use Rattle.priority_channel_core.specs.Run.{Outcome, Made, Run}
+
+-- what a poll of a send hands back, if anything
+abbrev pub kept_by : {M : Type 0} → CorePoll (Result (Unit {0}) (SendFault M)) M → Option M
+kept_by (Ready (Ok done)) = None
+kept_by (Ready (Err (send_fault.Closed e))) = Some e.0
+kept_by (Ready (Err (send_fault.Memory held))) = Some held
+kept_by (Pending held ticket) = Some held
 
 -- `holds m list` says that m holds the list
 module _ {T P M : Type 0} (holds : M → List (T × P) → Type 0) where

@@ -43,6 +43,15 @@ module _ {T P W : Type 0} where
       × (let place = listing given kept old.message_waiters old.next_ticket in
       (ticket ≡ place.ticket) × (new ≡ record old { message_waiters = place.waiters; next_ticket = place.next_ticket }))
 
+  -- what a send keeps stays, and it waits for room; or, where that was refused, the given ticket is in neither list
+  abbrev pub KeepsWaiting : {K : Type 0} → (W → W → Type 0) → Option ℕ → W → K → State T P W
+      → CorePoll (Result (Unit {0}) (SendFault K)) K → State T P W → Type 0
+  KeepsWaiting is_clone given waker kept old (Pending held ticket) new =
+      (held ≡ kept) × WaitsForRoom is_clone given waker old ticket new
+  KeepsWaiting is_clone given waker kept old (Ready (Err (send_fault.Memory held))) new =
+      (held ≡ kept) × (new ≡ unlisted given old)
+  KeepsWaiting is_clone given waker kept old _ new = ⊥
+
   -- First a send, which leaves the channel in `mid`. Memory answers a send that was cut short,
   -- or a full channel, where the ticket was refused its place.
   abbrev pub PollsSend : (W → W → Type 0) → State T P W → List (T × P) → Option ℕ → W

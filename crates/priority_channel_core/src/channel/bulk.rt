@@ -83,7 +83,7 @@ fn send_front<T: Drop, P: Ord + Drop, A: Allocator, I: Iterator<Item = (T, P)>>(
 impl<T: Drop, P: Ord + Drop, W: Clone, A: Allocator + Copy> PriorityQueueChannel<T, P, W, A> {
     ghost use Rattle.priority_channel_core.specs.State.{room as room_of};
     ghost use Rattle.priority_channel_core.specs.Good.{IsGood};
-    ghost use Rattle.priority_channel_core.specs.Sends.{refused, AddsFront};
+    ghost use Rattle.priority_channel_core.specs.Sends.{refused, OnFull, AddsFront};
     ghost use Rattle.priority_channel_core.specs.Bulk.{Performs};
     ghost use Rattle.priority_channel_core.specs.Channel.{ComparesAtMost};
 
@@ -125,6 +125,7 @@ impl<T: Drop, P: Ord + Drop, W: Clone, A: Allocator + Copy> PriorityQueueChannel
         ensures callable { IfErr result.0 (λ error. peekable_can I.can_next (refused error)) }
 
         // Whether or not the iterator has one list.
+        ensures full { OnFull result.0 ((self.new.state.is_closed ≡ false) × (room_of self.new.state ≡ 0)) }
         ensures front { (front : List (T × P)) × AddsFront self.old.state front result.1 self.new.state × ComparesAtMost (length front * digits (length self.new.state.pending)) 0 self.old self.new }
         ensures good { IsGood self.new.state }
     {

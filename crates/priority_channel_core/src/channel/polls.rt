@@ -1,16 +1,19 @@
 //! The calls that wait: a send or a receive, and then a place in a waiting list where the channel was full or empty.
-ghost use Rattle.std.specs.Prelude.{◌≡◌, ◌+◌, ◌*◌, ◌≤◌, [], length, false, Some};
+ghost use Rattle.std.specs.Prelude.{◌≡◌, ◌+◌, ◌*◌, ◌≤◌, [], length, false, Some, IfSome};
+ghost use Rattle.std.specs.Iterator.Adapters.{peekable_can};
 ghost use Rattle.priority_channel_core.specs.Digits.{digits};
-ghost use Rattle.priority_channel_core.specs.Polls.{unlisted};
+ghost use Rattle.priority_channel_core.specs.Lists.{HasList};
+ghost use Rattle.priority_channel_core.specs.Polls.{unlisted, KeepsWaiting};
 
 use crate::awaitable_atomics::Wakes;
 use crate::calls::{Answer, Call, CorePoll};
 use crate::channel::PriorityQueueChannel;
 use crate::errors::{RecvError, RecvFault, SendError, SendFault, TryRecvError, TrySendError};
 use std::alloc::Allocator;
+use std::iter::Peekable;
 
 impl<T, P: Ord, W: Clone, A: Allocator + Copy> PriorityQueueChannel<T, P, W, A> {
-    ghost use Rattle.priority_channel_core.specs.State.{nobody};
+    ghost use Rattle.priority_channel_core.specs.State.{nobody, room};
     ghost use Rattle.priority_channel_core.specs.Good.{IsGood};
     ghost use Rattle.priority_channel_core.specs.Step.{Step};
     ghost use Rattle.priority_channel_core.specs.Channel.{ComparesAtMost, search_bound};
@@ -70,16 +73,17 @@ impl<T, P: Ord, W: Clone, A: Allocator + Copy> PriorityQueueChannel<T, P, W, A> 
         }
     }
 
-    fn wait_for_room(&mut self, pair: (T, P), ticket: Option<u64>, waker: &W) -> CorePoll<Result<(), SendFault<(T, P)>>, (T, P)>
-        requires full { length self.old.state.pending ≡ self.old.state.capacity }
+    fn wait_for_room<K>(&mut self, kept: K, ticket: Option<u64>, waker: &W) -> CorePoll<Result<(), SendFault<K>>, K>
+        requires full { room self.old.state ≡ 0 }
         requires opened { self.old.state.is_closed ≡ false }
-        ensures step { Step P.cmp W.is_clone self.old.state (Call.PollSend pair.0 pair.1 ticket waker.now) (Answer.PollSend result) nobody self.new.state }
+        ensures waits { KeepsWaiting W.is_clone ticket waker.now kept self.old.state result self.new.state }
+        ensures good { IsGood self.new.state }
         ensures cost { ComparesAtMost 0 (search_bound self.old.state) self.old self.new }
     {
         let Some(ticket) = self.length.listen_decr(ticket, waker) else {
-            return CorePoll::Ready(Err(SendFault::Memory(pair)));
+            return CorePoll::Ready(Err(SendFault::Memory(kept)));
         };
-        CorePoll::Pending(pair, ticket)
+        CorePoll::Pending(kept, ticket)
     }
 
     /// Sends a pair, or waits for room under the answered ticket and hands the pair back for the next poll. Tickets
@@ -103,6 +107,43 @@ impl<T, P: Ord, W: Clone, A: Allocator + Copy> PriorityQueueChannel<T, P, W, A> 
                 (CorePoll::Ready(Err(SendFault::Memory(pair))), wakes)
             }
             Err(TrySendError::Full(pair)) => (self.wait_for_room(pair, ticket, waker), wakes),
+        }
+    }
+}
+
+impl<T: Drop, P: Ord + Drop, W: Clone, A: Allocator + Copy> PriorityQueueChannel<T, P, W, A> {
+    ghost use Rattle.priority_channel_core.specs.Good.{IsGood};
+    ghost use Rattle.priority_channel_core.specs.Bulk.{Performs, kept_by};
+    ghost use Rattle.priority_channel_core.specs.Channel.{ComparesAtMost, search_bound};
+
+    /// Sends what there is room for, and waits for room with the rest, which is handed back for the next poll. What
+    /// was sent stays sent, also where the answer is `Memory`. Tickets and wakers are treated as by `poll_recv`.
+    pub fn poll_sendv<I: Iterator<Item = (T, P)>>(
+        &mut self,
+        msgs: Peekable<I>,
+        ticket: Option<u64>,
+        waker: &W,
+    ) -> (CorePoll<Result<(), SendFault<Peekable<I>>>, Peekable<I>>, Wakes<W, A>)
+        requires { peekable_can I.can_next msgs }
+        ensures step { Performs (HasList I.next_gives) P.cmp W.is_clone self.old.state (Call.PollSendv msgs ticket waker.now) (Answer.PollSendv result.0) result.1 self.new.state }
+        ensures callable { IfSome (kept_by result.0) (peekable_can I.can_next) }
+        ensures good { IsGood self.new.state }
+    {
+        let (answer, wakes) = self.try_sendv(msgs);
+        match answer {
+            Ok(()) => {
+                self.give_up_given(ticket);
+                (CorePoll::Ready(Ok(())), wakes)
+            }
+            Err(TrySendError::Closed(rest)) => {
+                self.give_up_given(ticket);
+                (CorePoll::Ready(Err(SendFault::Closed(SendError(rest)))), wakes)
+            }
+            Err(TrySendError::Memory(rest)) => {
+                self.give_up_given(ticket);
+                (CorePoll::Ready(Err(SendFault::Memory(rest))), wakes)
+            }
+            Err(TrySendError::Full(rest)) => (self.wait_for_room(rest, ticket, waker), wakes),
         }
     }
 }

@@ -1,0 +1,81 @@
+-- Polls of a send, by what the send left and how the poll ended.
+use Rattle.std.proofs.Common.{◌≡◌, ℕ, List, [], ◌∷◌, refl, inl, inr}
+use Rattle.std.specs.Prelude.{Result, Ok, Err, Option, IfSome}
+use Rattle.std.specs.declared.cmp.Ordering.{Ordering}
+use Rattle.priority_channel_core.specs.declared.calls.Call.TheVariants as call
+use Rattle.priority_channel_core.specs.declared.calls.Answer.TheVariants as answer
+use Rattle.priority_channel_core.specs.declared.calls.CorePoll.{CorePoll}
+use Rattle.priority_channel_core.specs.declared.calls.CorePoll.TheVariants.{Ready, Pending}
+use Rattle.priority_channel_core.specs.declared.errors.TrySendError.{TrySendError}
+use Rattle.priority_channel_core.specs.declared.errors.TrySendError.TheVariants as send_error
+use Rattle.priority_channel_core.specs.declared.errors.SendFault.{SendFault}
+use Rattle.priority_channel_core.specs.declared.errors.SendFault.TheVariants as send_fault
+use Rattle.priority_channel_core.specs.State.{State, Handed}
+use Rattle.priority_channel_core.specs.Good.{IsGood}
+use Rattle.priority_channel_core.specs.Sends.{Sends}
+use Rattle.priority_channel_core.specs.Polls.{poll_as_list, unlisted, KeepsWaiting, PollsSend}
+use Rattle.priority_channel_core.specs.Bulk.{kept_by, SameReply, SamePoll, Performs}
+
+-- a poll of one pair that found a full channel
+pub polls_full : {T P W : Type 0} (is_clone : W → W → Type 0) (old mid new : State T P W) (handed : Handed W) (sent pair : T × P) (given : Option ℕ) (waker : W)
+    (poll : CorePoll (Result (Unit {0}) (SendFault (T × P))) (T × P)) → Sends old (sent ∷ []) (Err (send_error.Full (pair ∷ []))) handed mid
+    → KeepsWaiting is_clone given waker pair mid poll new → PollsSend is_clone old (sent ∷ []) given waker (poll_as_list poll) handed new
+polls_full is_clone old mid new handed sent pair given waker (Ready (Ok done)) sends waits = absurd waits
+polls_full is_clone old mid new handed sent pair given waker (Ready (Err (send_fault.Closed e))) sends waits = absurd waits
+polls_full is_clone old mid new handed sent pair given waker (Ready (Err (send_fault.Memory held))) sends waits = rw waits.0 (mid, inr sends, waits.1)
+polls_full is_clone old mid new handed sent pair given waker (Pending held ticket) sends waits = rw waits.0 (mid, sends, waits.1)
+
+-- what is kept can be polled again
+pub kept_callable : {T P W M : Type 0} (can : M → Type 0) (is_clone : W → W → Type 0) (given : Option ℕ) (waker : W) (m : M) (mid new : State T P W)
+    (poll : CorePoll (Result (Unit {0}) (SendFault M)) M) → can m → KeepsWaiting is_clone given waker m mid poll new → IfSome (kept_by poll) can
+kept_callable can is_clone given waker m mid new (Ready (Ok done)) h waits = absurd waits
+kept_callable can is_clone given waker m mid new (Ready (Err (send_fault.Closed e))) h waits = absurd waits
+kept_callable can is_clone given waker m mid new (Ready (Err (send_fault.Memory held))) h waits = rw waits.0 h
+kept_callable can is_clone given waker m mid new (Pending held ticket) h waits = rw waits.0 h
+
+module _ {T P W M : Type 0} (holds : M → List (T × P) → Type 0) (is_clone : W → W → Type 0) where
+  -- how a poll ends where the bulk send before it gave this reply
+  abbrev pub EndsPoll : Option ℕ → W → Result (Unit {0}) (TrySendError M) → State T P W → CorePoll (Result (Unit {0}) (SendFault M)) M → State T P W → Type 0
+  EndsPoll given waker (Ok done) mid poll new = (poll ≡ Ready (Ok tt)) × (new ≡ unlisted given mid)
+  EndsPoll given waker (Err (send_error.Closed m)) mid poll new = (poll ≡ Ready (Err (send_fault.Closed (record { 0 = m })))) × (new ≡ unlisted given mid)
+  EndsPoll given waker (Err (send_error.Memory m)) mid poll new = (poll ≡ Ready (Err (send_fault.Memory m))) × (new ≡ unlisted given mid)
+  EndsPoll given waker (Err (send_error.Full m)) mid poll new = KeepsWaiting is_clone given waker m mid poll new
+
+  module _ (old mid new : State T P W) (handed : Handed W) (pairs : List (T × P)) (given : Option ℕ) (waker : W) where
+    -- the poll as one of the machine's
+    Polled : CorePoll (Result (Unit {0}) (SendFault M)) M → Type 0
+    Polled poll =
+        (told : CorePoll (Result (Unit {0}) (SendFault (List (T × P)))) (List (T × P)))
+        × SamePoll holds poll told × PollsSend is_clone old pairs given waker told handed new
+
+    waited : (m : M) (rest : List (T × P)) (poll : CorePoll (Result (Unit {0}) (SendFault M)) M) → holds m rest
+        → Sends old pairs (Err (send_error.Full rest)) handed mid → KeepsWaiting is_clone given waker m mid poll new → Polled poll
+    unfolding Polled
+    waited m rest (Ready (Ok done)) has sends waits = absurd waits
+    waited m rest (Ready (Err (send_fault.Closed e))) has sends waits = absurd waits
+    waited m rest (Ready (Err (send_fault.Memory held))) has sends waits =
+        (Ready (Err (send_fault.Memory rest)), (rest, refl, rw waits.0 has), (mid, inr sends, waits.1))
+    waited m rest (Pending held ticket) has sends waits = (Pending rest ticket, (rest, refl, rw waits.0 has), (mid, sends, waits.1))
+
+    polled : (reply : Result (Unit {0}) (TrySendError M)) (told : Result (Unit {0}) (TrySendError (List (T × P))))
+        (poll : CorePoll (Result (Unit {0}) (SendFault M)) M) → SameReply holds reply told → Sends old pairs told handed mid
+        → EndsPoll given waker reply mid poll new → Polled poll
+    unfolding Polled
+    polled (Ok done) told poll same sends ends = rw ends.0 (Ready (Ok tt), refl, (mid, rw same at sends, ends.1))
+    polled (Err (send_error.Closed m)) told poll same sends ends =
+        rw ends.0 (Ready (Err (send_fault.Closed (record { 0 = same.0 }))), (same.0, refl, same.2), (mid, rw same.1 at sends, ends.1))
+    polled (Err (send_error.Memory m)) told poll same sends ends =
+        rw ends.0 (Ready (Err (send_fault.Memory same.0)), (same.0, refl, same.2), (mid, inl (rw same.1 at sends), ends.1))
+    polled (Err (send_error.Full m)) told poll same sends ends = waited m same.0 poll same.2 (rw same.1 at sends) ends
+
+  pub performs_poll : (cmp : P → P → Ordering) (old mid new : State T P W) (handed : Handed W) (m : M) (given : Option ℕ) (waker : W)
+      (reply : Result (Unit {0}) (TrySendError M)) (poll : CorePoll (Result (Unit {0}) (SendFault M)) M)
+      → Performs holds cmp is_clone old (call.TrySendv m) (answer.TrySendv reply) handed mid → EndsPoll given waker reply mid poll new → IsGood new
+      → Performs holds cmp is_clone old (call.PollSendv m given waker) (answer.PollSendv poll) handed new
+  unfolding Polled
+  performs_poll cmp old mid new handed m given waker reply poll tried ends good = record {
+    at = λ meant same.
+        let k = tried.at (call.TrySendv same.0) (same.0, refl, same.2) in
+        let p = polled old mid new handed same.0 given waker reply k.1.0 poll k.1.2 (rw k.1.1 at k.2.moves) ends in
+        (answer.PollSendv p.0, (p.0, refl, p.1), rw same.1 (record { moves = p.2; good = good }));
+  }
