@@ -1,6 +1,7 @@
 -- Polls of a send, by what the send left and how the poll ended.
-use Rattle.std.proofs.Common.{◌≡◌, ℕ, List, [], ◌∷◌, refl, inl, inr}
-use Rattle.std.specs.Prelude.{Result, Ok, Err, Option, IfSome}
+use Rattle.std.proofs.Common.{◌≡◌, ℕ, ◌+◌, ◌*◌, ◌≤◌, ◌⊎◌, List, [], ◌∷◌, length, refl, ap, arith, inl, inr}
+use Rattle.std.specs.Prelude.{Result, Ok, Err, Option, IfSome, ◌==◌, if◌then◌else◌}
+use Rattle.std.proofs.lemmas.Bool.Decides.{eqb_tells}
 use Rattle.std.specs.declared.cmp.Ordering.{Ordering}
 use Rattle.priority_channel_core.specs.declared.calls.Call.TheVariants as call
 use Rattle.priority_channel_core.specs.declared.calls.Answer.TheVariants as answer
@@ -12,9 +13,12 @@ use Rattle.priority_channel_core.specs.declared.errors.SendFault.{SendFault}
 use Rattle.priority_channel_core.specs.declared.errors.SendFault.TheVariants as send_fault
 use Rattle.priority_channel_core.specs.State.{State, Handed}
 use Rattle.priority_channel_core.specs.Good.{IsGood}
-use Rattle.priority_channel_core.specs.Sends.{Sends}
-use Rattle.priority_channel_core.specs.Polls.{poll_as_list, unlisted, KeepsWaiting, PollsSend}
+use Rattle.priority_channel_core.specs.Sends.{AddsFront, Sends}
+use Rattle.priority_channel_core.specs.Digits.{digits}
+use Rattle.priority_channel_core.specs.Channel.{CountedState, ComparesAtMost, search_bound}
+use Rattle.priority_channel_core.specs.Polls.{poll_as_list, unlisted, WaitsForRoom, KeepsWaiting, PollsFront, PollsSend}
 use Rattle.priority_channel_core.specs.Bulk.{kept_by, SameReply, SamePoll, Performs}
+use Rattle.priority_channel_core.proofs.ChannelLemmas.{digits_shorter}
 
 -- a poll of one pair that found a full channel
 pub polls_full : {T P W : Type 0} (is_clone : W → W → Type 0) (old mid new : State T P W) (handed : Handed W) (sent pair : T × P) (given : Option ℕ) (waker : W)
@@ -32,6 +36,41 @@ kept_callable can is_clone given waker m mid new (Ready (Ok done)) h waits = abs
 kept_callable can is_clone given waker m mid new (Ready (Err (send_fault.Closed e))) h waits = absurd waits
 kept_callable can is_clone given waker m mid new (Ready (Err (send_fault.Memory held))) h waits = rw waits.0 h
 kept_callable can is_clone given waker m mid new (Pending held ticket) h waits = rw waits.0 h
+
+-- how a poll ended, where it waited or was refused that
+pub waits_ends : {T P W M : Type 0} (is_clone : W → W → Type 0) (given : Option ℕ) (waker : W) (m : M) (mid new : State T P W)
+    (poll : CorePoll (Result (Unit {0}) (SendFault M)) M) → KeepsWaiting is_clone given waker m mid poll new
+    → (new ≡ unlisted given mid) ⊎ ((ticket : ℕ) × WaitsForRoom is_clone given waker mid ticket new)
+waits_ends is_clone given waker m mid new (Ready (Ok done)) waits = absurd waits
+waits_ends is_clone given waker m mid new (Ready (Err (send_fault.Closed e))) waits = absurd waits
+waits_ends is_clone given waker m mid new (Ready (Err (send_fault.Memory held))) waits = inl waits.1
+waits_ends is_clone given waker m mid new (Pending held ticket) waits = inr (ticket, waits.1)
+
+module _ {T P W : Type 0} (is_clone : W → W → Type 0) (old mid new : CountedState T P W) (given : Option ℕ) (waker : W) (front : List (T × P))
+    (handed : Handed W) (adds : AddsFront old.state front handed mid.state) where
+  -- what was added leaves no more to search
+  searches_less : search_bound mid.state ≤ search_bound old.state
+  searches_less =
+      let room = ap (λ (s : State T P W). length s.room_waiters) adds.new_is in
+      let message = ap (λ (s : State T P W). length s.message_waiters) adds.new_is in
+      let shorter : length (if length front == 0 then old.state.message_waiters else []) ≤ length old.state.message_waiters =
+          elim (eqb_tells (length front) 0) [ inl h ↦ let e = h.0 in rw e (omega arith) | inr h ↦ let e = h.0 in rw e (omega arith) ] in
+      digits_shorter old.state.room_waiters old.state.message_waiters mid.state.room_waiters mid.state.message_waiters (omega (arith, room)) (omega (arith, message, shorter))
+
+  same_pending : (new.state ≡ unlisted given mid.state) ⊎ ((ticket : ℕ) × WaitsForRoom is_clone given waker mid.state ticket new.state)
+      → length new.state.pending ≡ length mid.state.pending
+  same_pending (inl e) = ap (λ (s : State T P W). length s.pending) e
+  same_pending (inr w) = ap (λ (s : State T P W). length s.pending) w.1.2.1
+
+  -- a poll of a bulk send, whether or not its iterator has one list
+  pub polls_front : ComparesAtMost (length front * digits (length mid.state.pending)) 0 old mid
+      → ComparesAtMost 0 (search_bound mid.state) mid new
+      → (new.state ≡ unlisted given mid.state) ⊎ ((ticket : ℕ) × WaitsForRoom is_clone given waker mid.state ticket new.state)
+      → (f : List (T × P)) × PollsFront is_clone old.state given waker f handed new.state
+      × ComparesAtMost (length f * digits (length new.state.pending)) (search_bound old.state) old new
+  polls_front tried waited ends =
+      let same = ap (λ (n : ℕ). length front * digits n) (same_pending ends) in
+      (front, record { mid = mid.state; adds = adds; ends = ends }, (omega (arith, tried.0, waited.0, same), omega (arith, tried.1, waited.1, searches_less)))
 
 module _ {T P W M : Type 0} (holds : M → List (T × P) → Type 0) (is_clone : W → W → Type 0) where
   -- how a poll ends where the bulk send before it gave this reply

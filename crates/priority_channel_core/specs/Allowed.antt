@@ -1,5 +1,5 @@
 -- Which calls may be made: a drop finds a handle to drop.
-use Rattle.std.specs.Prelude.{◌≡◌, ℕ, ◌+◌, ◌-◌, ◌<◌, ◌^◌, Bool, true, false, if◌then◌else◌, List, [], ◌∷◌, ⊤, count_by}
+use Rattle.std.specs.Prelude.{◌≡◌, ℕ, ◌+◌, ◌-◌, ◌<◌, ◌≤◌, ◌^◌, ◌⊎◌, Bool, true, false, if◌then◌else◌, List, [], ◌∷◌, ⊤, count_by}
 use Rattle.std.specs.List.{list_any}
 use Rattle.priority_channel_core.specs.declared.calls.Call.{Call}
 use Rattle.priority_channel_core.specs.declared.calls.Call.TheVariants.{CloneSender, CloneReceiver, DropSender, DropReceiver}
@@ -33,6 +33,10 @@ module _ {C : Type 0} (is_clone is_drop : C → Bool) where
   abbrev pub count_after : ℕ → C → ℕ
   count_after count made = if is_clone made then count + 1 else if is_drop made then count - 1 else count
 
+  -- what a call does to the number of handles: as much as it asks, or nothing, where a clone was refused
+  abbrev pub ChangesCount : ℕ → C → ℕ → Type 0
+  ChangesCount old made new = (new ≡ count_after old made) ⊎ ((2 ^ 63 ≤ old) × (new ≡ old) × (is_clone made ≡ true))
+
   -- at each front of the calls there are at most as many drops as handles and clones
   abbrev pub DropsFindHandles : ℕ → List C → Type 0
   DropsFindHandles count [] = ⊤
@@ -42,6 +46,11 @@ module _ {C : Type 0} (is_clone is_drop : C → Bool) where
   pub record AllowsSide (count : ℕ) (calls : List C) : Type 0 where
     pub drops : DropsFindHandles count calls
     pub clones : list_any is_drop calls ≡ true → count + count_by is_clone calls < 2 ^ 63
+
+-- what a call does to the numbers of senders and of receivers
+pub record ChangesHandles {T P W M : Type 0} (old : State T P W) (made : Call T P W M) (new : State T P W) : Type 0 where
+  pub senders : ChangesCount is_sender_clone is_sender_drop old.sender_count made new.sender_count
+  pub receivers : ChangesCount is_receiver_clone is_receiver_drop old.receiver_count made new.receiver_count
 
 -- these calls may be made from this state
 pub record AllowsRun {T P W M : Type 0} (s : State T P W) (calls : List (Call T P W M)) : Type 0 where

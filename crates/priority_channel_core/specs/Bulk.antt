@@ -24,6 +24,12 @@ kept_by (Ready (Err (send_fault.Closed e))) = Some e.0
 kept_by (Ready (Err (send_fault.Memory held))) = Some held
 kept_by (Pending held ticket) = Some held
 
+-- a call may be made where the iterator of a bulk send may be called
+abbrev pub MayCall : {T P W M : Type 0} → (M → Type 0) → Call T P W M → Type 0
+MayCall can (call.TrySendv msgs) = can msgs
+MayCall can (call.PollSendv msgs given waker) = can msgs
+MayCall can made = ⊤
+
 -- `holds m list` says that m holds the list
 module _ {T P M : Type 0} (holds : M → List (T × P) → Type 0) where
   -- the same reply to a bulk send: what comes back holds what comes back in the machine
@@ -93,12 +99,6 @@ module _ {T P M : Type 0} (holds : M → List (T × P) → Type 0) where
     -- the same answer, and the same parties handed out
     abbrev pub SameMade : Outcome T P W M → Made T P W → Type 0
     SameMade done made = SameAnswer done.answer made.answer × (made.handed ≡ done.handed)
-
-    -- a call may be made where the iterator of a bulk send may be called
-    abbrev pub MayCall : (M → Type 0) → Call T P W M → Type 0
-    MayCall can (call.TrySendv msgs) = can msgs
-    MayCall can (call.PollSendv msgs given waker) = can msgs
-    MayCall can made = ⊤
 
     module _ (cmp : P → P → Ordering) (is_clone : W → W → Type 0) where
       -- a call of the code is a step, whatever list a bulk send holds

@@ -11,7 +11,7 @@ use Rattle.priority_channel_core.specs.declared.errors.RecvFault.{RecvFault}
 use Rattle.priority_channel_core.specs.declared.errors.RecvFault.TheVariants as recv_fault
 use Rattle.priority_channel_core.specs.State.{State, Handed}
 use Rattle.priority_channel_core.specs.Waiting.{without_given, listing}
-use Rattle.priority_channel_core.specs.Sends.{Sends}
+use Rattle.priority_channel_core.specs.Sends.{AddsFront, Sends}
 use Rattle.priority_channel_core.specs.Receives.{Receives}
 
 -- the answer of a poll of a send of one pair, as that of a send of a list
@@ -51,6 +51,13 @@ module _ {T P W : Type 0} where
   KeepsWaiting is_clone given waker kept old (Ready (Err (send_fault.Memory held))) new =
       (held ≡ kept) × (new ≡ unlisted given old)
   KeepsWaiting is_clone given waker kept old _ new = ⊥
+
+  -- nothing happened but that these pairs were added, if there are any, and that the party waits or is in neither list
+  pub record PollsFront (is_clone : W → W → Type 0) (old : State T P W) (given : Option ℕ) (waker : W) (front : List (T × P))
+      (handed : Handed W) (new : State T P W) : Type 0 where
+    pub mid : State T P W
+    pub adds : AddsFront old front handed mid
+    pub ends : (new ≡ unlisted given mid) ⊎ ((ticket : ℕ) × WaitsForRoom is_clone given waker mid ticket new)
 
   -- First a send, which leaves the channel in `mid`. Memory answers a send that was cut short,
   -- or a full channel, where the ticket was refused its place.

@@ -11,6 +11,7 @@ use std::marker::Model;
 
 pub mod bulk;
 pub mod polls;
+pub mod run;
 
 /// The state of a channel for one thread: pending pairs of a message and a priority, whether it is closed, how many
 /// handles there are, and who waits, each with a waker of type `W`.
@@ -178,7 +179,7 @@ impl<T, P: Ord, W: Clone, A: Allocator + Copy> PriorityQueueChannel<T, P, W, A> 
     /// Whether the channel is closed.
     pub fn is_closed(&self) -> bool
         ensures answer { result ≡ self.now.state.is_closed }
-        ensures good { IsGood self.now.state }
+        ensures step { Step P.cmp W.is_clone self.now.state Call.IsClosed (Answer.IsClosed result) nobody self.now.state }
     {
         let (is_closed, _) = self.length.load();
         is_closed
@@ -187,7 +188,7 @@ impl<T, P: Ord, W: Clone, A: Allocator + Copy> PriorityQueueChannel<T, P, W, A> 
     /// How many pairs are pending.
     pub fn len(&self) -> u64
         ensures answer { result ≡ length self.now.state.pending }
-        ensures good { IsGood self.now.state }
+        ensures step { Step P.cmp W.is_clone self.now.state Call.Len (Answer.Len result) nobody self.now.state }
     {
         let (_, count) = self.length.load();
         count
@@ -196,7 +197,7 @@ impl<T, P: Ord, W: Clone, A: Allocator + Copy> PriorityQueueChannel<T, P, W, A> 
     /// Whether no pair is pending.
     pub fn is_empty(&self) -> bool
         ensures answer { IsTrue result ↔ (self.now.state.pending ≡ []) }
-        ensures good { IsGood self.now.state }
+        ensures step { Step P.cmp W.is_clone self.now.state Call.IsEmpty (Answer.IsEmpty result) nobody self.now.state }
     {
         self.len() == 0
     }
@@ -204,7 +205,7 @@ impl<T, P: Ord, W: Clone, A: Allocator + Copy> PriorityQueueChannel<T, P, W, A> 
     /// Whether there is no room.
     pub fn is_full(&self) -> bool
         ensures answer { IsTrue result ↔ (length self.now.state.pending ≡ self.now.state.capacity) }
-        ensures good { IsGood self.now.state }
+        ensures step { Step P.cmp W.is_clone self.now.state Call.IsFull (Answer.IsFull result) nobody self.now.state }
     {
         self.len() == self.capacity
     }
@@ -212,7 +213,7 @@ impl<T, P: Ord, W: Clone, A: Allocator + Copy> PriorityQueueChannel<T, P, W, A> 
     /// How many pairs may be pending at a time; None where the capacity is `u64::MAX`.
     pub fn capacity(&self) -> Option<u64>
         ensures answer { result ≡ capacity_told self.now.state }
-        ensures good { IsGood self.now.state }
+        ensures step { Step P.cmp W.is_clone self.now.state Call.Capacity (Answer.Capacity result) nobody self.now.state }
     {
         if self.capacity == u64::MAX {
             return None;
@@ -223,7 +224,7 @@ impl<T, P: Ord, W: Clone, A: Allocator + Copy> PriorityQueueChannel<T, P, W, A> 
     /// How many senders there are.
     pub fn sender_count(&self) -> usize
         ensures answer { result ≡ self.now.state.sender_count }
-        ensures good { IsGood self.now.state }
+        ensures step { Step P.cmp W.is_clone self.now.state Call.SenderCount (Answer.SenderCount result) nobody self.now.state }
     {
         self.sender_count
     }
@@ -231,7 +232,7 @@ impl<T, P: Ord, W: Clone, A: Allocator + Copy> PriorityQueueChannel<T, P, W, A> 
     /// How many receivers there are.
     pub fn receiver_count(&self) -> usize
         ensures answer { result ≡ self.now.state.receiver_count }
-        ensures good { IsGood self.now.state }
+        ensures step { Step P.cmp W.is_clone self.now.state Call.ReceiverCount (Answer.ReceiverCount result) nobody self.now.state }
     {
         self.receiver_count
     }

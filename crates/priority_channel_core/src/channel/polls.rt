@@ -1,9 +1,9 @@
 //! The calls that wait: a send or a receive, and then a place in a waiting list where the channel was full or empty.
-ghost use Rattle.std.specs.Prelude.{◌≡◌, ◌+◌, ◌*◌, ◌≤◌, [], length, false, Some, IfSome};
+ghost use Rattle.std.specs.Prelude.{◌≡◌, ◌+◌, ◌*◌, ◌≤◌, List, [], length, false, Some, IfSome};
 ghost use Rattle.std.specs.Iterator.Adapters.{peekable_can};
 ghost use Rattle.priority_channel_core.specs.Digits.{digits};
 ghost use Rattle.priority_channel_core.specs.Lists.{HasList};
-ghost use Rattle.priority_channel_core.specs.Polls.{unlisted, KeepsWaiting};
+ghost use Rattle.priority_channel_core.specs.Polls.{unlisted, KeepsWaiting, PollsFront};
 
 use crate::awaitable_atomics::Wakes;
 use crate::calls::{Answer, Call, CorePoll};
@@ -127,6 +127,10 @@ impl<T: Drop, P: Ord + Drop, W: Clone, A: Allocator + Copy> PriorityQueueChannel
         requires { peekable_can I.can_next msgs }
         ensures step { Performs (HasList I.next_gives) P.cmp W.is_clone self.old.state (Call.PollSendv msgs ticket waker.now) (Answer.PollSendv result.0) result.1 self.new.state }
         ensures callable { IfSome (kept_by result.0) (peekable_can I.can_next) }
+
+        // Whether or not the iterator has one list.
+        ensures front { (front : List (T × P)) × PollsFront W.is_clone self.old.state ticket waker.now front result.1 self.new.state
+            × ComparesAtMost (length front * digits (length self.new.state.pending)) (search_bound self.old.state) self.old self.new }
         ensures good { IsGood self.new.state }
     {
         let (answer, wakes) = self.try_sendv(msgs);

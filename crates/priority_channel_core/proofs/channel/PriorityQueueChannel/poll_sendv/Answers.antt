@@ -1,8 +1,8 @@
-use Rattle.std.proofs.Common.{Ok, Err, refl}
+use Rattle.std.proofs.Common.{Ok, Err, refl, inl}
 use Rattle.std.specs.Iterator.Adapters.{peekable_can}
 use Rattle.priority_channel_core.specs.declared.errors.TrySendError.TheVariants.{Full, Closed, Memory}
 use Rattle.priority_channel_core.specs.Lists.{HasList}
-use Rattle.priority_channel_core.proofs.PollLemmas.{performs_poll, kept_callable}
+use Rattle.priority_channel_core.proofs.PollLemmas.{performs_poll, kept_callable, waits_ends, polls_front}
 use Rattle.priority_channel_core.proofs.channel.PriorityQueueChannel.poll_sendv.Goals as goal
 
 pub returns-in-Ok-clause-step : goal.returns-in-Ok-clause-step
@@ -37,3 +37,29 @@ returns-in-Err-Full-clause-callable g c =
     kept_callable (peekable_can g.I.Iterator.can_next) g.W.Clone.is_clone c.args.ticket c.args.waker.now c.in-Err-Full.rest
     c.try_sendv-answer.new.self.state c.wait_for_room.new.self.state c.wait_for_room.result
     (rw (c.in-Err-Full.is, c.in-Err-Full.field-0-is) at c.try_sendv-answer.ensures.callable) c.wait_for_room.ensures.waits
+
+pub returns-in-Ok-clause-front : goal.returns-in-Ok-clause-front
+returns-in-Ok-clause-front g c =
+    let tried = c.try_sendv-answer.ensures.front in
+    polls_front g.W.Clone.is_clone c.args.self.now c.try_sendv-answer.new.self c.give_up_given.new.self c.args.ticket c.args.waker.now tried.0
+    c.try_sendv-answer.result.1 tried.1 tried.2 c.give_up_given.ensures.cost (inl c.give_up_given.ensures.after)
+
+pub returns-in-Err-Closed-clause-front : goal.returns-in-Err-Closed-clause-front
+returns-in-Err-Closed-clause-front g c =
+    let tried = c.try_sendv-answer.ensures.front in
+    polls_front g.W.Clone.is_clone c.args.self.now c.try_sendv-answer.new.self c.give_up_given-in-Err-Closed.new.self c.args.ticket c.args.waker.now tried.0
+    c.try_sendv-answer.result.1 tried.1 tried.2 c.give_up_given-in-Err-Closed.ensures.cost (inl c.give_up_given-in-Err-Closed.ensures.after)
+
+pub returns-in-Err-Memory-clause-front : goal.returns-in-Err-Memory-clause-front
+returns-in-Err-Memory-clause-front g c =
+    let tried = c.try_sendv-answer.ensures.front in
+    polls_front g.W.Clone.is_clone c.args.self.now c.try_sendv-answer.new.self c.give_up_given-in-Err-Memory.new.self c.args.ticket c.args.waker.now tried.0
+    c.try_sendv-answer.result.1 tried.1 tried.2 c.give_up_given-in-Err-Memory.ensures.cost (inl c.give_up_given-in-Err-Memory.ensures.after)
+
+pub returns-in-Err-Full-clause-front : goal.returns-in-Err-Full-clause-front
+returns-in-Err-Full-clause-front g c =
+    let tried = c.try_sendv-answer.ensures.front in
+    let waited = c.wait_for_room in
+    polls_front g.W.Clone.is_clone c.args.self.now c.try_sendv-answer.new.self waited.new.self c.args.ticket c.args.waker.now tried.0
+    c.try_sendv-answer.result.1 tried.1 tried.2 waited.ensures.cost
+    (waits_ends g.W.Clone.is_clone c.args.ticket c.args.waker.now c.in-Err-Full.rest c.try_sendv-answer.new.self.state waited.new.self.state waited.result waited.ensures.waits)

@@ -1,0 +1,43 @@
+use Rattle.std.proofs.Common.{arith}
+use Rattle.std.specs.Iterator.Adapters.{peekable_can}
+use Rattle.std.proofs.lemmas.List.{reverse-append, reverse-reverse}
+use Rattle.std.proofs.lemmas.List.Elements.{All-head, All-tail}
+use Rattle.priority_channel_core.specs.Bulk.{MayCall}
+use Rattle.priority_channel_core.specs.Lists.{HasList}
+use Rattle.priority_channel_core.proofs.HandleLemmas.{AllowsRun-first, AllowsRun-more}
+use Rattle.priority_channel_core.proofs.RunLemmas.{RunsFront-none, RunsFront-more, at_ok}
+use Rattle.priority_channel_core.proofs.channel.PriorityQueueChannel.run.Goals as goal
+use Rattle.priority_channel_core.proofs.channel.PriorityQueueChannel.run.Goals.{then-loop-done-test+else-is_ok, else-loop-done-test}
+
+pub loop-done-init : goal.loop-done-init
+loop-done-init g c = record {
+  allowed = rw (c.reverse.ensures.items, reverse-reverse) c.requires.allowed;
+  callable = rw (c.reverse.ensures.items, reverse-reverse) c.requires.callable;
+  runs = rw (c.new-done.ensures.items, c.reverse.ensures.items, reverse-reverse) (RunsFront-none _ _ _ _ _);
+}
+
+pub make-requires : goal.make-requires
+make-requires g c = record {
+  allowed = AllowsRun-first _ _ _ (rw (c.in-Some.ensures.items, reverse-append) at c.loop-done.invariant.allowed);
+  callable = All-head (MayCall (peekable_can g.I.Iterator.can_next)) _ _ (rw (c.in-Some.ensures.items, reverse-append) at c.loop-done.invariant.callable);
+}
+
+pub push_reserved-requires : goal.push_reserved-requires
+push_reserved-requires g c =
+    omega (arith, at_ok c.reserve.result c.is_ok.result c.is_ok.ensures.value c.if-is_ok.true c.reserve.ensures.ok)
+
+pub loop-done-preserved : goal.loop-done-preserved
+loop-done-preserved g c = record {
+  allowed = AllowsRun-more _ _ _ _ c.make.ensures.handles (rw (c.in-Some.ensures.items, reverse-append) at c.loop-done.invariant.allowed);
+  callable = All-tail (MayCall (peekable_can g.I.Iterator.can_next)) _ _ (rw (c.in-Some.ensures.items, reverse-append) at c.loop-done.invariant.callable);
+  runs = rw (c.push_reserved.ensures.items, c.reserve.ensures.items)
+      (RunsFront-more _ _ _ _ _ _ _ _ _ _ c.make.result (rw (c.in-Some.ensures.items, reverse-append) at c.loop-done.invariant.runs) c.make.ensures.step);
+}
+
+pub returns : goal.returns
+returns g c =
+    rw c.reverse-2.ensures.items
+    (elim c.loop-done-test.branch [
+      | then-loop-done-test+else-is_ok w ↦ rw (w.done-is, w.reserve.ensures.items) c.loop-done.invariant.runs
+      | else-loop-done-test w ↦ rw w.done-is c.loop-done.invariant.runs
+    ])

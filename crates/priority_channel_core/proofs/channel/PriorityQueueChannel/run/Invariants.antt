@@ -1,0 +1,18 @@
+use Rattle.std.proofs.Common.{vec_len, reverse}
+use Rattle.std.specs.List.{All}
+use Rattle.std.specs.Iterator.Adapters.{peekable_can}
+use Rattle.priority_channel_core.specs.Lists.{HasList}
+use Rattle.priority_channel_core.specs.Allowed.{AllowsRun}
+use Rattle.priority_channel_core.specs.Bulk.{MayCall, RunsFront}
+use Rattle.priority_channel_core.proofs.channel.PriorityQueueChannel.run.Given as goal
+
+-- the calls are kept in reverse, so that the next one is at the end
+abbrev pub invariant-loop-done : goal.invariant-loop-done
+invariant-loop-done g l = record {
+  allowed : AllowsRun l.self.state (reverse l.calls.items);
+  callable : All (MayCall (peekable_can g.I.Iterator.can_next)) (reverse l.calls.items);
+  runs : RunsFront (HasList g.I.Iterator.next_gives) g.P.Ord.cmp g.W.Clone.is_clone l.fn.self.state l.fn.calls.items l.done.items (reverse l.calls.items) l.self.state;
+}
+
+abbrev pub decreases-loop-done : goal.decreases-loop-done
+decreases-loop-done g l = vec_len l.calls

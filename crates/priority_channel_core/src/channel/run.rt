@@ -1,0 +1,131 @@
+//! Many calls, one after another.
+ghost use Rattle.std.specs.Prelude.{◌≡◌, All};
+ghost use Rattle.std.specs.Iterator.Adapters.{peekable_can};
+ghost use Rattle.priority_channel_core.specs.Lists.{HasList};
+ghost use Rattle.priority_channel_core.specs.Bulk.{MayCall, Performs, RunsFront};
+ghost use Rattle.priority_channel_core.specs.Allowed.{IsAllowed, AllowsRun, ChangesHandles};
+
+use crate::awaitable_atomics::Wakes;
+use crate::calls::{Answer, Call};
+use crate::channel::PriorityQueueChannel;
+use std::alloc::{Allocator, Global};
+use std::iter::Peekable;
+use std::marker::Model;
+
+/// What a call of a run gave: its answer, and those whom it handed out, each under its ticket.
+#[derive(Drop)]
+pub struct Done<T, P, W, M, A: Allocator = Global> {
+    pub answer: Answer<T, P, M>,
+    pub room_waiters: Vec<(u64, W), A>,
+    pub message_waiters: Vec<(u64, W), A>,
+}
+
+impl<T, P, W, M, A: Allocator> Model for Done<T, P, W, M, A> {
+    ghost use Rattle.priority_channel_core.specs.Run.{Outcome};
+
+    ghost Value = { Outcome T P W M };
+
+    ghost view = { λ d. record { answer = d.answer; handed = record { room = d.room_waiters.items; message = d.message_waiters.items } } };
+}
+
+impl<T, P, W, M, A: Allocator> Done<T, P, W, M, A> {
+    fn new(answer: Answer<T, P, M>, wakes: Wakes<W, A>) -> Self
+        ensures answer { result.answer ≡ answer }
+        ensures handed { result.handed ≡ wakes }
+    {
+        let (room_waiters, message_waiters) = wakes.into_lists();
+        Done {
+            answer,
+            room_waiters,
+            message_waiters,
+        }
+    }
+}
+
+/// What a run gave for the calls that it made, and the calls that it did not make, both in order.
+#[derive(Drop)]
+pub struct Ran<T, P, W, M, A: Allocator = Global> {
+    pub done: Vec<Done<T, P, W, M, A>, A>,
+    pub left: Vec<Call<T, P, W, M>, A>,
+}
+
+impl<T: Drop, P: Ord + Drop, W: Clone, A: Allocator + Copy> PriorityQueueChannel<T, P, W, A> {
+    /// Makes the calls in order. Where there is no memory to keep a further answer it stops before that call: the
+    /// channel is then as after the last call that was made, and the other calls come back, to be run again.
+    ///
+    /// ```
+    /// let ran = channel.run(vec![in alloc; Call::TrySend("build", 3), Call::TryRecv]?);
+    /// ```
+    pub fn run<I: Iterator<Item = (T, P)>>(
+        &mut self,
+        mut calls: Vec<Call<T, P, W, Peekable<I>>, A>,
+    ) -> Ran<T, P, W, Peekable<I>, A>
+        requires allowed { AllowsRun self.old.state calls.items }
+        requires callable { All (MayCall (peekable_can I.can_next)) calls.items }
+        ensures { RunsFront (HasList I.next_gives) P.cmp W.is_clone self.old.state calls.items result.done.items result.left.items self.new.state }
+    {
+        calls.reverse();
+        let mut done = Vec::new(self.alloc);
+        while !calls.is_empty() && done.reserve(1).is_ok() {
+            let Some(call) = calls.pop() else {
+                unreachable!()
+            };
+            done.push_reserved(self.make(call));
+        }
+        calls.reverse();
+        Ran { done, left: calls }
+    }
+
+    fn make<I: Iterator<Item = (T, P)>>(&mut self, call: Call<T, P, W, Peekable<I>>) -> Done<T, P, W, Peekable<I>, A>
+        requires allowed { IsAllowed self.old.state call }
+        requires callable { MayCall (peekable_can I.can_next) call }
+        ensures step { Performs (HasList I.next_gives) P.cmp W.is_clone self.old.state call result.answer result.handed self.new.state }
+        ensures handles { ChangesHandles self.old.state call self.new.state }
+    {
+        match call {
+            Call::TrySend(msg, priority) => {
+                let (reply, wakes) = self.try_send(msg, priority);
+                Done::new(Answer::TrySend(reply), wakes)
+            }
+            Call::TrySendv(msgs) => {
+                let (reply, wakes) = self.try_sendv(msgs);
+                Done::new(Answer::TrySendv(reply), wakes)
+            }
+            Call::TryRecv => {
+                let (reply, wakes) = self.try_recv();
+                Done::new(Answer::TryRecv(reply), wakes)
+            }
+            Call::Close => {
+                let (was_open, wakes) = self.close();
+                Done::new(Answer::Close(was_open), wakes)
+            }
+            Call::IsClosed => Done::new(Answer::IsClosed(self.is_closed()), Wakes::nobody(self.alloc)),
+            Call::IsEmpty => Done::new(Answer::IsEmpty(self.is_empty()), Wakes::nobody(self.alloc)),
+            Call::IsFull => Done::new(Answer::IsFull(self.is_full()), Wakes::nobody(self.alloc)),
+            Call::Len => Done::new(Answer::Len(self.len()), Wakes::nobody(self.alloc)),
+            Call::Capacity => Done::new(Answer::Capacity(self.capacity()), Wakes::nobody(self.alloc)),
+            Call::SenderCount => Done::new(Answer::SenderCount(self.sender_count()), Wakes::nobody(self.alloc)),
+            Call::ReceiverCount => Done::new(Answer::ReceiverCount(self.receiver_count()), Wakes::nobody(self.alloc)),
+            Call::CloneSender => Done::new(Answer::CloneSender(self.clone_sender()), Wakes::nobody(self.alloc)),
+            Call::CloneReceiver => Done::new(Answer::CloneReceiver(self.clone_receiver()), Wakes::nobody(self.alloc)),
+            Call::DropSender => Done::new(Answer::DropSender, self.drop_sender()),
+            Call::DropReceiver => Done::new(Answer::DropReceiver, self.drop_receiver()),
+            Call::PollSend(msg, priority, ticket, waker) => {
+                let (poll, wakes) = self.poll_send(msg, priority, ticket, &waker);
+                Done::new(Answer::PollSend(poll), wakes)
+            }
+            Call::PollSendv(msgs, ticket, waker) => {
+                let (poll, wakes) = self.poll_sendv(msgs, ticket, &waker);
+                Done::new(Answer::PollSendv(poll), wakes)
+            }
+            Call::PollRecv(ticket, waker) => {
+                let (poll, wakes) = self.poll_recv(ticket, &waker);
+                Done::new(Answer::PollRecv(poll), wakes)
+            }
+            Call::GiveUp(ticket) => {
+                self.give_up(ticket);
+                Done::new(Answer::GiveUp, Wakes::nobody(self.alloc))
+            }
+        }
+    }
+}
