@@ -1,5 +1,5 @@
 //! Pending pairs, kept as a binary heap in one vector.
-ghost use Rattle.std.specs.Prelude.{◌≡◌, ◌↔◌, ℕ, ◌+◌, ◌*◌, ◌<◌, ◌≤◌, ◌^◌, [], ◌∷◌, ◌++◌, length, IfOk, IfNone, OnOk, OnErr, IsTrue, MatchOption};
+ghost use Rattle.std.specs.Prelude.{◌≡◌, ◌↔◌, ℕ, ◌+◌, ◌*◌, ◌<◌, ◌≤◌, ◌^◌, [], ◌∷◌, ◌++◌, length, IfOk, IfNone, OnOk, OnErr, IsTrue, MatchOption, vec_capacity};
 ghost use Rattle.priority_channel_core.specs.Digits.{digits};
 ghost use Rattle.priority_channel_core.specs.Greatest.{TakesGreatest};
 
@@ -43,17 +43,26 @@ impl<T, P: Ord, A: Allocator> Model for Bag<T, P, A> {
 }
 
 impl<T, P: Ord, A: Allocator> Bag<T, P, A> {
+    fn of(items: Vec<Item<T, P>, A>) -> Bag<T, P, A>
+        requires { items.items ≡ [] }
+        ensures pending { result.pending ≡ [] }
+        ensures accepted { result.accepted ≡ 0 }
+        ensures place { result.place ≡ vec_capacity items }
+    {
+        Bag {
+            items,
+            accepted: 0,
+            comparisons: Comparisons::new(),
+        }
+    }
+
     /// An empty bag without place. It takes no memory.
     pub fn new(alloc: A) -> Bag<T, P, A>
         ensures pending { result.pending ≡ [] }
         ensures accepted { result.accepted ≡ 0 }
         ensures place { result.place ≡ 0 }
     {
-        Bag {
-            items: Vec::new(alloc),
-            accepted: 0,
-            comparisons: Comparisons::new(),
-        }
+        Bag::of(Vec::new(alloc))
     }
 
     /// An empty bag with place for `n` pairs, for good.
@@ -62,11 +71,7 @@ impl<T, P: Ord, A: Allocator> Bag<T, P, A> {
         ensures accepted { IfOk result (λ b. b.accepted ≡ 0) }
         ensures place { IfOk result (λ b. n ≤ b.place) }
     {
-        Ok(Bag {
-            items: Vec::with_capacity(alloc, n as usize)?,
-            accepted: 0,
-            comparisons: Comparisons::new(),
-        })
+        Ok(Bag::of(Vec::with_capacity(alloc, n as usize)?))
     }
 
     /// Makes place for one more pair, where there is none yet. It fails only where memory is refused, or at

@@ -68,6 +68,25 @@ impl<T, P: Ord, W: Clone, A: Allocator + Copy> PriorityQueueChannel<T, P, W, A> 
     ghost use Rattle.priority_channel_core.specs.Step.{Step};
     ghost use Rattle.priority_channel_core.specs.Channel.{ComparesAtMost};
 
+    fn over(alloc: A, bag: Bag<T, P, A>, capacity: u64, is_reserved: bool) -> Self
+        requires empty { bag.pending ≡ [] }
+        requires unused { bag.accepted ≡ 0 }
+        requires positive { 0 < capacity }
+        requires place { is_reserved ≡ true → (capacity ≤ bag.place) × (capacity < 2 ^ 63) }
+        ensures opens { result.state ≡ opening capacity is_reserved }
+        ensures good { IsGood result.state }
+    {
+        PriorityQueueChannel {
+            alloc,
+            bag,
+            length: AwaitableAtomicCounterAndBit::new(alloc, 0),
+            capacity,
+            is_reserved,
+            sender_count: 1,
+            receiver_count: 1,
+        }
+    }
+
     /// A channel with place for `cap` pairs, for good: no later send is refused for want of memory. All of the place
     /// is made here, and only here can memory be refused.
     pub fn bounded_reserved(alloc: A, cap: u64) -> Result<Self, AllocError>
@@ -76,15 +95,7 @@ impl<T, P: Ord, W: Clone, A: Allocator + Copy> PriorityQueueChannel<T, P, W, A> 
         ensures opens { IfOk result (λ channel. channel.state ≡ opening cap true) }
         ensures good { IfOk result (λ channel. IsGood channel.state) }
     {
-        Ok(PriorityQueueChannel {
-            alloc,
-            bag: Bag::reserved(alloc, cap)?,
-            length: AwaitableAtomicCounterAndBit::new(alloc, 0),
-            capacity: cap,
-            is_reserved: true,
-            sender_count: 1,
-            receiver_count: 1,
-        })
+        Ok(Self::over(alloc, Bag::reserved(alloc, cap)?, cap, true))
     }
 
     /// A channel for at most `cap` pairs at a time. It takes no memory: place is made as pairs are sent.
@@ -93,15 +104,7 @@ impl<T, P: Ord, W: Clone, A: Allocator + Copy> PriorityQueueChannel<T, P, W, A> 
         ensures opens { result.state ≡ opening cap false }
         ensures good { IsGood result.state }
     {
-        PriorityQueueChannel {
-            alloc,
-            bag: Bag::new(alloc),
-            length: AwaitableAtomicCounterAndBit::new(alloc, 0),
-            capacity: cap,
-            is_reserved: false,
-            sender_count: 1,
-            receiver_count: 1,
-        }
+        Self::over(alloc, Bag::new(alloc), cap, false)
     }
 
     /// A channel without a limit but memory: of capacity `u64::MAX`. It takes no memory.

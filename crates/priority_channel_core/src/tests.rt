@@ -1,0 +1,47 @@
+//! What no contract says: the worked examples, the program that the heap is compared with, and refused memory.
+//!
+//! Here a waker is a number.
+use crate::awaitable_atomics::Wakes;
+use crate::channel::PriorityQueueChannel;
+use crate::errors::{TryRecvError, TrySendError};
+use std::alloc::{Allocator, Global};
+
+mod bag;
+mod bulk;
+mod handles;
+mod polls;
+mod refused;
+mod runs;
+mod sends;
+mod word;
+
+type Core<T, A = Global> = PriorityQueueChannel<T, u64, u64, A>;
+
+/// Whom a call handed out: the tickets of those who waited for room, and of those who waited for a message, each with
+/// its waker.
+type Lists<A> = (Vec<(u64, u64), A>, Vec<(u64, u64), A>);
+
+fn hands_out_nobody<A: Allocator>(wakes: Wakes<u64, A>) -> bool {
+    let (room, message) = wakes.into_lists();
+    room.is_empty() && message.is_empty()
+}
+
+/// Sends where nobody waits.
+fn send<T: Drop, A: Allocator + Copy>(core: &mut Core<T, A>, msg: T, priority: u64) -> Result<(), TrySendError<(T, u64)>> {
+    let (reply, wakes) = core.try_send(msg, priority);
+    hands_out_nobody(wakes);
+    reply
+}
+
+/// Receives where nobody waits.
+fn receive<T: Drop, A: Allocator + Copy>(core: &mut Core<T, A>) -> Result<(T, u64), TryRecvError> {
+    let (reply, wakes) = core.try_recv();
+    hands_out_nobody(wakes);
+    reply
+}
+
+fn close<T: Drop, A: Allocator + Copy>(core: &mut Core<T, A>) -> bool {
+    let (was_open, wakes) = core.close();
+    hands_out_nobody(wakes);
+    was_open
+}

@@ -1,0 +1,136 @@
+ghost use Rattle.std.specs.Iterator.Adapters.{peekable_can};
+
+use crate::errors::TrySendError;
+use crate::tests::{Core, close, hands_out_nobody, receive, send};
+use std::alloc::AllocError;
+use std::cell::Cell;
+use std::iter::{Peekable, once, repeat_n};
+
+// A reply to a bulk send, with how many pairs came back.
+fn sendv<T: Drop, I: Iterator<Item = (T, u64)>>(core: &mut Core<T>, msgs: Peekable<I>) -> Result<(), TrySendError<usize>>
+    requires { peekable_can I.can_next msgs }
+{
+    let (reply, wakes) = core.try_sendv(msgs);
+    hands_out_nobody(wakes);
+    match reply {
+        Ok(()) => Ok(()),
+        Err(TrySendError::Full(rest)) => Err(TrySendError::Full(rest.count())),
+        Err(TrySendError::Closed(rest)) => Err(TrySendError::Closed(rest.count())),
+        Err(TrySendError::Memory(rest)) => Err(TrySendError::Memory(rest.count())),
+    }
+}
+
+#[test]
+fn sends_as_far_as_there_is_room(rt: HostRuntime) {
+    let mut core: Core<&str> = Core::bounded(rt.alloc(), 10);
+    assert_eq!(rt; sendv(&mut core, [("a", 0), ("b", 1)].into_iter().peekable()), Ok(()));
+    assert_eq!(rt; receive(&mut core), Ok(("b", 1)));
+    assert_eq!(rt; receive(&mut core), Ok(("a", 0)));
+    assert_eq!(rt; sendv(&mut core, repeat_n(("a", 0), 100).peekable()), Err(TrySendError::Full(90)));
+}
+
+#[test]
+fn sends_nothing_into_a_closed_channel(rt: HostRuntime) {
+    let mut core: Core<&str> = Core::bounded(rt.alloc(), 10);
+    assert!(rt; !core.is_closed());
+    assert!(rt; close(&mut core));
+    assert_eq!(rt; sendv(&mut core, [("a", 0), ("b", 1)].into_iter().peekable()), Err(TrySendError::Closed(2)));
+    assert_eq!(rt; core.len(), 0);
+}
+
+#[test]
+fn just_filling_is_no_refusal(rt: HostRuntime) {
+    let mut core: Core<&str> = Core::bounded(rt.alloc(), 2);
+    assert_eq!(rt; sendv(&mut core, [("a", 0), ("b", 1)].into_iter().peekable()), Ok(()));
+    assert!(rt; core.is_full());
+}
+
+fn no_pairs() -> Peekable<std::array::IntoIter<(&'static str, u64), 0>> {
+    [].into_iter().peekable()
+}
+
+#[test]
+fn an_empty_list_is_refused_where_a_pair_would_be(rt: HostRuntime) {
+    let mut core: Core<&str> = Core::bounded(rt.alloc(), 1);
+    assert_eq!(rt; sendv(&mut core, no_pairs()), Ok(()));
+    assert_eq!(rt; send(&mut core, "x", 5), Ok(()));
+    assert_eq!(rt; sendv(&mut core, no_pairs()), Err(TrySendError::Full(0)));
+    assert!(rt; close(&mut core));
+    assert_eq!(rt; sendv(&mut core, no_pairs()), Err(TrySendError::Closed(0)));
+    assert!(rt; !close(&mut core));
+}
+
+// The sources that callers have, each without a proof of their own.
+#[test]
+fn takes_any_iterator(rt: HostRuntime) -> Result<(), AllocError> {
+    let mut core: Core<u64> = Core::unbounded(rt.alloc());
+    let pairs = vec![in rt.alloc(); (1, 1), (2, 2)]?;
+    let slice = [(3, 3), (4, 4)];
+    assert_eq!(rt; sendv(&mut core, pairs.into_iter().peekable()), Ok(()));
+    assert_eq!(rt; sendv(&mut core, slice.iter().copied().peekable()), Ok(()));
+    assert_eq!(rt; sendv(&mut core, (5..8u64).map(|i| (i, i)).peekable()), Ok(()));
+    assert_eq!(rt; sendv(&mut core, once((8, 8)).peekable()), Ok(()));
+    assert_eq!(rt; sendv(&mut core, (9..11u64).zip(9..11u64).peekable()), Ok(()));
+    assert_eq!(rt; sendv(&mut core, repeat_n((11, 11), 2).peekable()), Ok(()));
+    for i in [11u64, 11, 10, 9, 8, 7, 6, 5, 4, 3, 2, 1] {
+        assert_eq!(rt; receive(&mut core), Ok((i, i)));
+    }
+    Ok(())
+}
+
+/// Counts the calls of `next`, also the one that gives None.
+#[derive(Drop)]
+struct CountsCalls<'a> {
+    left: u64,
+    calls: &'a Cell<u64>,
+}
+
+impl Iterator for CountsCalls<'_> {
+    type Item = (u64, u64);
+
+    fn next(&mut self) -> Option<(u64, u64)> {
+        self.calls.set(self.calls.get().wrapping_add(1));
+        if self.left == 0 {
+            return None;
+        }
+        self.left -= 1;
+        Some((self.left, self.left))
+    }
+}
+
+fn counting(left: u64, calls: &Cell<u64>) -> Peekable<CountsCalls<'_>> {
+    CountsCalls { left, calls }.peekable()
+}
+
+#[test]
+fn asks_the_iterator_for_one_pair_more_than_it_takes(rt: HostRuntime) {
+    let calls = Cell::new(0);
+    let mut core: Core<u64> = Core::bounded(rt.alloc(), 2);
+    let (reply, wakes) = core.try_sendv(counting(5, &calls));
+    assert!(rt; hands_out_nobody(wakes));
+    assert!(rt; matches!(reply, Err(TrySendError::Full(_))));
+    assert_eq!(rt; calls.get(), 3);
+    assert_eq!(rt; core.len(), 2);
+
+    calls.set(0);
+    let mut core: Core<u64> = Core::bounded(rt.alloc(), 2);
+    let (reply, wakes) = core.try_sendv(counting(2, &calls));
+    assert!(rt; hands_out_nobody(wakes));
+    assert!(rt; reply.is_ok());
+    assert_eq!(rt; calls.get(), 3);
+}
+
+#[test]
+fn does_not_touch_the_iterator_where_nothing_can_be_taken(rt: HostRuntime) {
+    let calls = Cell::new(0);
+    let mut core: Core<u64> = Core::bounded(rt.alloc(), 1);
+    assert_eq!(rt; send(&mut core, 1, 1), Ok(()));
+    let (reply, wakes) = core.try_sendv(counting(5, &calls));
+    assert!(rt; hands_out_nobody(wakes));
+    assert!(rt; matches!(reply, Err(TrySendError::Full(_))));
+    assert!(rt; close(&mut core));
+    let (reply, wakes) = core.try_sendv(counting(5, &calls));
+    assert!(rt; hands_out_nobody(wakes));
+    assert!(rt; matches!(reply, Err(TrySendError::Closed(_))));
+    assert_eq!(rt; calls.get(), 0);
+}

@@ -1,0 +1,66 @@
+use crate::errors::{TryRecvError, TrySendError};
+use crate::tests::{Core, hands_out_nobody, receive, send};
+use std::alloc::AllocError;
+
+fn drop_sender<T: Drop>(core: &mut Core<T>) {
+    if core.sender_count() > 0 {
+        hands_out_nobody(core.drop_sender());
+    }
+}
+
+fn drop_receiver<T: Drop>(core: &mut Core<T>) {
+    if core.receiver_count() > 0 {
+        hands_out_nobody(core.drop_receiver());
+    }
+}
+
+#[test]
+fn counts_clones(rt: HostRuntime) {
+    let mut core: Core<u64> = Core::bounded(rt.alloc(), 5);
+    for _ in 0..20 {
+        assert!(rt; core.clone_receiver());
+        assert!(rt; core.clone_sender());
+    }
+    assert_eq!(rt; (core.sender_count(), core.receiver_count()), (21, 21));
+    for _ in 0..20 {
+        drop_receiver(&mut core);
+        drop_sender(&mut core);
+    }
+    assert_eq!(rt; (core.sender_count(), core.receiver_count()), (1, 1));
+    assert!(rt; !core.is_closed());
+}
+
+#[test]
+fn the_last_sender_closes(rt: HostRuntime) {
+    let mut core: Core<u64> = Core::bounded(rt.alloc(), 2);
+    assert_eq!(rt; send(&mut core, 1, 1), Ok(()));
+    drop_sender(&mut core);
+    assert!(rt; core.is_closed());
+    assert_eq!(rt; core.sender_count(), 0);
+    assert_eq!(rt; receive(&mut core), Ok((1, 1)));
+    assert_eq!(rt; receive(&mut core), Err(TryRecvError::Closed));
+}
+
+#[test]
+fn the_last_receiver_closes(rt: HostRuntime) -> Result<(), AllocError> {
+    let mut core: Core<u64> = Core::bounded_reserved(rt.alloc(), 1)?;
+    drop_sender(&mut core);
+    assert_eq!(rt; core.sender_count(), 0);
+    assert!(rt; core.is_closed());
+    drop_receiver(&mut core);
+    assert_eq!(rt; core.receiver_count(), 0);
+    assert_eq!(rt; send(&mut core, 1, 1), Err(TrySendError::Closed((1, 1))));
+    Ok(())
+}
+
+#[test]
+fn a_clone_opens_nothing(rt: HostRuntime) -> Result<(), AllocError> {
+    let mut core: Core<u64> = Core::bounded_reserved(rt.alloc(), 1)?;
+    drop_sender(&mut core);
+    assert!(rt; core.clone_sender());
+    assert_eq!(rt; core.sender_count(), 1);
+    assert!(rt; core.is_closed());
+    drop_sender(&mut core);
+    assert_eq!(rt; core.sender_count(), 0);
+    Ok(())
+}

@@ -1,0 +1,169 @@
+use crate::calls::CorePoll;
+use crate::errors::{RecvError, RecvFault, SendFault};
+use crate::tests::{Core, close, receive, send};
+use std::alloc::AllocError;
+
+type Received = CorePoll<Result<(u64, u64), RecvFault>, ()>;
+
+/// Polls a receive, with the tickets that it handed out.
+fn poll_recv(core: &mut Core<u64>, ticket: Option<u64>, waker: u64) -> (Received, Vec<(u64, u64)>) {
+    let (poll, wakes) = core.poll_recv(ticket, &waker);
+    let (room, _) = wakes.into_lists();
+    (poll, room)
+}
+
+#[test]
+fn keeps_the_newest_waker(rt: HostRuntime) {
+    let mut core: Core<u64> = Core::bounded(rt.alloc(), 1);
+    assert!(rt; matches!(poll_recv(&mut core, None, 1).0, CorePoll::Pending((), 0)));
+    assert!(rt; matches!(poll_recv(&mut core, Some(0), 2).0, CorePoll::Pending((), 0)));
+    let (reply, wakes) = core.try_send(7, 1);
+    assert!(rt; reply.is_ok());
+    let (room, message) = wakes.into_lists();
+    assert!(rt; room.is_empty());
+    assert_eq!(rt; message.as_slice(), [(0, 2)].as_slice());
+    assert!(rt; matches!(poll_recv(&mut core, Some(0), 2).0, CorePoll::Ready(Ok((7, 1)))));
+}
+
+#[test]
+fn who_gives_up_is_not_handed_out(rt: HostRuntime) {
+    let mut core: Core<u64> = Core::bounded(rt.alloc(), 1);
+    assert_eq!(rt; send(&mut core, 1, 1), Ok(()));
+    for ticket in 0..2u64 {
+        let (poll, wakes) = core.poll_send(2, 2, None, &ticket);
+        let (room, message) = wakes.into_lists();
+        assert!(rt; room.is_empty() && message.is_empty());
+        assert!(rt; matches!(poll, CorePoll::Pending((2, 2), given) if given == ticket));
+    }
+    core.give_up(0);
+    let (reply, wakes) = core.try_recv();
+    assert_eq!(rt; reply, Ok((1, 1)));
+    let (room, message) = wakes.into_lists();
+    assert!(rt; message.is_empty());
+    assert_eq!(rt; room.as_slice(), [(1, 1)].as_slice());
+}
+
+#[test]
+fn an_unknown_ticket_gets_the_next_number(rt: HostRuntime) {
+    let mut core: Core<u64> = Core::bounded(rt.alloc(), 1);
+    assert!(rt; matches!(poll_recv(&mut core, Some(9), 1).0, CorePoll::Pending((), 0)));
+    core.give_up(9);
+    let (reply, wakes) = core.try_send(7, 1);
+    assert!(rt; reply.is_ok());
+    let (_, message) = wakes.into_lists();
+    assert_eq!(rt; message.as_slice(), [(0, 1)].as_slice());
+}
+
+#[test]
+fn closing_hands_out_everybody(rt: HostRuntime) {
+    let mut core: Core<u64> = Core::bounded(rt.alloc(), 1);
+    assert!(rt; matches!(poll_recv(&mut core, None, 1).0, CorePoll::Pending((), 0)));
+    assert!(rt; matches!(poll_recv(&mut core, None, 2).0, CorePoll::Pending((), 1)));
+    let (was_open, wakes) = core.close();
+    assert!(rt; was_open);
+    let (room, message) = wakes.into_lists();
+    assert!(rt; room.is_empty());
+    assert_eq!(rt; message.as_slice(), [(0, 1), (1, 2)].as_slice());
+    assert!(rt; matches!(poll_recv(&mut core, Some(0), 1).0, CorePoll::Ready(Err(RecvFault::Closed(RecvError)))));
+    assert!(rt; !close(&mut core));
+}
+
+/// A waker whose clone may be refused.
+#[derive(Drop)]
+struct Refusable {
+    is_refused: bool,
+}
+
+impl Clone for Refusable {
+    fn clone(&self) -> Result<Refusable, AllocError> {
+        if self.is_refused {
+            return Err(AllocError);
+        }
+        Ok(Refusable { is_refused: false })
+    }
+}
+
+#[test]
+fn a_refused_waker_waits_no_more(rt: HostRuntime) {
+    let mut core: crate::channel::PriorityQueueChannel<u64, u64, Refusable> = crate::channel::PriorityQueueChannel::bounded(rt.alloc(), 1);
+    for (is_refused, ticket) in [(false, None), (true, Some(0))] {
+        let (poll, wakes) = core.poll_recv(ticket, &Refusable { is_refused });
+        let (_room, _message) = wakes.into_lists();
+        if is_refused {
+            assert!(rt; matches!(poll, CorePoll::Ready(Err(RecvFault::Memory))));
+        } else {
+            assert!(rt; matches!(poll, CorePoll::Pending((), 0)));
+        }
+    }
+    let (reply, wakes) = core.try_send(7, 1);
+    assert!(rt; reply.is_ok());
+    let (room, message) = wakes.into_lists();
+    assert!(rt; room.is_empty() && message.is_empty());
+}
+
+#[test]
+fn an_empty_bulk_send_hands_out_nobody(rt: HostRuntime) {
+    let mut core: Core<u64> = Core::bounded(rt.alloc(), 1);
+    assert!(rt; matches!(poll_recv(&mut core, None, 1).0, CorePoll::Pending((), 0)));
+    let no_pairs: [(u64, u64); 0] = [];
+    let (reply, wakes) = core.try_sendv(no_pairs.into_iter().peekable());
+    assert!(rt; reply.is_ok());
+    let (room, message) = wakes.into_lists();
+    assert!(rt; room.is_empty() && message.is_empty());
+    let (reply, wakes) = core.try_send(7, 1);
+    assert!(rt; reply.is_ok());
+    let (_, message) = wakes.into_lists();
+    assert_eq!(rt; message.as_slice(), [(0, 1)].as_slice());
+}
+
+#[test]
+fn many_wait_and_some_give_up(rt: HostRuntime) {
+    let mut core: Core<u64> = Core::bounded(rt.alloc(), 1);
+    for ticket in 0..5u64 {
+        assert!(rt; matches!(poll_recv(&mut core, None, 1).0, CorePoll::Pending((), given) if given == ticket));
+    }
+    core.give_up(2);
+    core.give_up(2);
+    assert!(rt; matches!(poll_recv(&mut core, Some(3), 2).0, CorePoll::Pending((), 3)));
+    let (reply, wakes) = core.try_send(7, 1);
+    assert!(rt; reply.is_ok());
+    let (_, message) = wakes.into_lists();
+    assert_eq!(rt; message.as_slice(), [(0, 1), (1, 1), (3, 2), (4, 1)].as_slice());
+}
+
+#[test]
+fn a_ticket_of_the_other_side_is_not_kept(rt: HostRuntime) {
+    let mut core: Core<u64> = Core::bounded(rt.alloc(), 1);
+    assert!(rt; matches!(poll_recv(&mut core, None, 1).0, CorePoll::Pending((), 0)));
+    let (reply, wakes) = core.try_send(7, 1);
+    assert!(rt; reply.is_ok());
+    let (_, message) = wakes.into_lists();
+    assert_eq!(rt; message.as_slice(), [(0, 1)].as_slice());
+    let (poll, wakes) = core.poll_send(8, 2, Some(0), &1);
+    let (_room, _message) = wakes.into_lists();
+    assert!(rt; matches!(poll, CorePoll::Pending((8, 2), 1)));
+    let (poll, room) = poll_recv(&mut core, Some(1), 2);
+    assert!(rt; matches!(poll, CorePoll::Ready(Ok((7, 1)))));
+    assert_eq!(rt; room.as_slice(), [(1, 1)].as_slice());
+    assert_eq!(rt; core.len(), 0);
+}
+
+#[test]
+fn a_bulk_send_waits_with_its_rest(rt: HostRuntime) {
+    let mut core: Core<u64> = Core::bounded(rt.alloc(), 1);
+    let (poll, wakes) = core.poll_sendv([(1, 1), (2, 2)].into_iter().peekable(), None, &5);
+    let (_room, _message) = wakes.into_lists();
+    let CorePoll::Pending(rest, 0) = poll else {
+        assert!(rt; false);
+        return;
+    };
+    assert_eq!(rt; receive(&mut core), Ok((1, 1)));
+    let (poll, wakes) = core.poll_sendv(rest, Some(0), &5);
+    let (_room, _message) = wakes.into_lists();
+    assert!(rt; matches!(poll, CorePoll::Ready(Ok(()))));
+    assert!(rt; close(&mut core));
+    let (poll, wakes) = core.poll_sendv([(3, 3)].into_iter().peekable(), None, &5);
+    let (_room, _message) = wakes.into_lists();
+    assert!(rt; matches!(poll, CorePoll::Ready(Err(SendFault::Closed(_)))));
+    assert_eq!(rt; receive(&mut core), Ok((2, 2)));
+}

@@ -1,0 +1,95 @@
+use crate::errors::{TryRecvError, TrySendError};
+use crate::tests::{Core, close, hands_out_nobody, receive, send};
+use refusing::Refusing;
+use std::alloc::{AllocError, Allocator, Global};
+
+#[test]
+fn a_reserved_channel_needs_no_memory(rt: HostRuntime) -> Result<(), AllocError> {
+    let alloc = Refusing::new(rt.alloc());
+    let mut core: Core<u64, &Refusing<Global>> = Core::bounded_reserved(&alloc, 2)?;
+    alloc.refuse_all();
+    assert_eq!(rt; send(&mut core, 1, 1), Ok(()));
+    assert_eq!(rt; send(&mut core, 2, 2), Ok(()));
+    assert_eq!(rt; send(&mut core, 3, 3), Err(TrySendError::Full((3, 3))));
+    assert_eq!(rt; receive(&mut core), Ok((2, 2)));
+    assert_eq!(rt; send(&mut core, 3, 3), Ok(()));
+    assert!(rt; core.clone_sender());
+    assert!(rt; close(&mut core));
+    Ok(())
+}
+
+#[test]
+fn reserving_may_be_refused(rt: HostRuntime) {
+    let alloc = Refusing::new(rt.alloc());
+    alloc.refuse_all();
+    let refused: Result<Core<u64, &Refusing<Global>>, AllocError> = Core::bounded_reserved(&alloc, 2);
+    assert!(rt; refused.is_err());
+    let too_large: Result<Core<u64>, AllocError> = Core::bounded_reserved(rt.alloc(), 9223372036854775807);
+    assert!(rt; too_large.is_err());
+}
+
+#[test]
+fn a_refused_growth_hands_the_pair_back(rt: HostRuntime) {
+    let alloc = Refusing::new(rt.alloc());
+    alloc.refuse_all();
+    let mut core: Core<u64, &Refusing<Global>> = Core::bounded(&alloc, 10);
+    assert_eq!(rt; send(&mut core, 1, 5), Err(TrySendError::Memory((1, 5))));
+    assert_eq!(rt; receive(&mut core), Err(TryRecvError::Empty));
+    alloc.refuse_none();
+    assert_eq!(rt; send(&mut core, 1, 5), Ok(()));
+    assert_eq!(rt; receive(&mut core), Ok((1, 5)));
+}
+
+#[test]
+fn a_refused_growth_hands_the_list_back(rt: HostRuntime) {
+    let alloc = Refusing::new(rt.alloc());
+    let mut core: Core<&str, &Refusing<Global>> = Core::bounded(&alloc, 10);
+    alloc.refuse_nth(1);
+    let (reply, wakes) = core.try_sendv([("a", 0), ("b", 1)].into_iter().peekable());
+    assert!(rt; hands_out_nobody(wakes));
+    assert_eq!(rt; core.len(), 0);
+    let Err(TrySendError::Memory(rest)) = reply else {
+        assert!(rt; false);
+        return;
+    };
+    let (reply, wakes) = core.try_sendv(rest);
+    assert!(rt; hands_out_nobody(wakes));
+    assert!(rt; reply.is_ok());
+    assert_eq!(rt; receive(&mut core), Ok(("b", 1)));
+    assert_eq!(rt; receive(&mut core), Ok(("a", 0)));
+}
+
+// How many pairs a bulk send accepted before memory was refused, which come out together with those that came back.
+fn send_many<A: Allocator + Copy>(alloc: A) -> (u64, bool) {
+    let mut core: Core<u64, A> = Core::unbounded(alloc);
+    let (reply, wakes) = core.try_sendv((0..20u64).map(|i| (i, i % 7)).peekable());
+    hands_out_nobody(wakes);
+    let accepted = core.len();
+    let came_back = match reply {
+        Ok(()) => 0,
+        Err(TrySendError::Memory(rest)) => rest.count() as u64,
+        Err(_) => return (accepted, false),
+    };
+    let mut came_out = 0u64;
+    while receive(&mut core).is_ok() {
+        came_out = came_out.wrapping_add(1);
+    }
+    (accepted, came_out == accepted && accepted.wrapping_add(came_back) == 20)
+}
+
+#[test]
+fn no_pair_is_lost_where_growth_is_refused(rt: HostRuntime) {
+    let alloc = Refusing::new(rt.alloc());
+    let mut met_all = false;
+    for n in 1..100u64 {
+        alloc.refuse_nth(n);
+        let (accepted, none_lost) = send_many(&alloc);
+        met_all = alloc.refuse_none();
+        assert!(rt; none_lost, "at {n}");
+        assert_eq!(rt; accepted == 20, met_all, "at {n}");
+        if met_all {
+            break;
+        }
+    }
+    assert!(rt; met_all);
+}

@@ -1,0 +1,89 @@
+use crate::calls::{Answer, Call};
+use crate::channel::run::{Done, Ran};
+use crate::errors::{TryRecvError, TrySendError};
+use crate::tests::Core;
+use refusing::Refusing;
+use std::alloc::{AllocError, Allocator};
+use std::array::IntoIter;
+use std::iter::Peekable;
+
+type Pairs = Peekable<IntoIter<(u64, u64), 3>>;
+
+fn hands_out_nobody<A: Allocator>(done: &[Done<u64, u64, u64, Pairs, A>]) -> bool {
+    done.iter().all(|made| made.room_waiters.is_empty() && made.message_waiters.is_empty())
+}
+
+#[test]
+fn makes_each_call_in_order(rt: HostRuntime) -> Result<(), AllocError> {
+    let mut core: Core<u64> = Core::bounded_reserved(rt.alloc(), 2)?;
+    let calls: Vec<Call<u64, u64, u64, Pairs>> = vec![in rt.alloc(); Call::TrySend(1, 5), Call::TryRecv, Call::TryRecv, Call::Close]?;
+    let Ran { done, left } = core.run(calls);
+    assert!(rt; left.is_empty());
+    assert!(rt; hands_out_nobody(done.as_slice()));
+    assert!(rt; matches!(
+        done.as_slice(),
+        [
+            Done { answer: Answer::TrySend(Ok(())), .. },
+            Done { answer: Answer::TryRecv(Ok((1, 5))), .. },
+            Done { answer: Answer::TryRecv(Err(TryRecvError::Empty)), .. },
+            Done { answer: Answer::Close(true), .. },
+        ]
+    ));
+    let Ran { done, left } = core.run(Vec::<Call<u64, u64, u64, Pairs>>::new(rt.alloc()));
+    assert!(rt; done.is_empty() && left.is_empty());
+    Ok(())
+}
+
+// How many answers of the list of calls below are right, from this one on.
+fn right_answers<A: Allocator>(done: Vec<Done<u64, u64, u64, Pairs, A>, A>, before: usize) -> usize {
+    let mut right = before;
+    for made in done {
+        let is_right = match (right, made.answer) {
+            (0, Answer::TrySendv(Err(TrySendError::Full(mut rest)))) => rest.next() == Some((3, 5)) && rest.next().is_none(),
+            (1, Answer::CloneSender(done)) => done,
+            (2 | 3, Answer::DropSender) => true,
+            (4, Answer::IsClosed(told)) => told,
+            (5, Answer::TryRecv(reply)) => reply == Ok((2, 6)),
+            (6, Answer::TryRecv(reply)) => reply == Ok((1, 4)),
+            (7, Answer::TryRecv(reply)) => reply == Err(TryRecvError::Closed),
+            _ => false,
+        };
+        if !is_right {
+            return right;
+        }
+        right = right.saturating_add(1);
+    }
+    right
+}
+
+// Each growth of the answers is refused in turn; the calls that are left are then run with memory.
+#[test]
+fn stops_before_the_call_whose_answer_has_no_place(rt: HostRuntime) -> Result<(), AllocError> {
+    let alloc = Refusing::new(rt.alloc());
+    let mut met_all = false;
+    for n in 1..100u64 {
+        let mut core: Core<u64, &Refusing<_>> = Core::bounded_reserved(&alloc, 2)?;
+        let calls = vec![in &alloc;
+            Call::TrySendv([(1, 4), (2, 6), (3, 5)].into_iter().peekable()),
+            Call::CloneSender,
+            Call::DropSender,
+            Call::DropSender,
+            Call::IsClosed,
+            Call::TryRecv,
+            Call::TryRecv,
+            Call::TryRecv,
+        ]?;
+        alloc.refuse_nth(n);
+        let Ran { done, left } = core.run(calls);
+        met_all = alloc.refuse_none();
+        let made = done.len();
+        assert_eq!(rt; made.wrapping_add(left.len()), 8, "at {n}");
+        assert_eq!(rt; left.is_empty(), met_all, "at {n}");
+        assert_eq!(rt; right_answers(done, 0), made, "at {n}");
+        if met_all {
+            break;
+        }
+    }
+    assert!(rt; met_all);
+    Ok(())
+}

@@ -1,0 +1,189 @@
+use crate::errors::{TryRecvError, TrySendError};
+use crate::tests::{Core, close, receive, send};
+use std::alloc::AllocError;
+use std::cmp::Reverse;
+
+#[test]
+fn the_greatest_priority_comes_first(rt: HostRuntime) {
+    let mut core: Core<&str> = Core::unbounded(rt.alloc());
+    assert_eq!(rt; send(&mut core, "Foo", 0), Ok(()));
+    assert_eq!(rt; send(&mut core, "Bar", 2), Ok(()));
+    assert_eq!(rt; send(&mut core, "Baz", 1), Ok(()));
+    assert_eq!(rt; receive(&mut core), Ok(("Bar", 2)));
+}
+
+#[test]
+fn holds_one(rt: HostRuntime) {
+    let mut core: Core<&str> = Core::bounded(rt.alloc(), 1);
+    assert_eq!(rt; send(&mut core, "Foo", 0), Ok(()));
+    assert_eq!(rt; receive(&mut core), Ok(("Foo", 0)));
+}
+
+#[test]
+fn comes_out_in_falling_order(rt: HostRuntime) {
+    let mut core: Core<u64> = Core::unbounded(rt.alloc());
+    for i in [1, 3, 2] {
+        assert_eq!(rt; send(&mut core, i, i), Ok(()));
+    }
+    for i in [3, 2, 1] {
+        assert_eq!(rt; receive(&mut core), Ok((i, i)));
+    }
+}
+
+#[test]
+fn closed_is_told_before_full(rt: HostRuntime) {
+    let mut core: Core<u64> = Core::bounded(rt.alloc(), 3);
+    for i in [1, 3, 2] {
+        assert_eq!(rt; send(&mut core, i, i), Ok(()));
+    }
+    assert!(rt; close(&mut core));
+    assert_eq!(rt; send(&mut core, 4, 4), Err(TrySendError::Closed((4, 4))));
+    for i in [3, 2, 1] {
+        assert_eq!(rt; receive(&mut core), Ok((i, i)));
+    }
+    assert_eq!(rt; receive(&mut core), Err(TryRecvError::Closed));
+}
+
+#[test]
+fn a_closed_channel_takes_nothing(rt: HostRuntime) {
+    let mut core: Core<u64> = Core::bounded(rt.alloc(), 2);
+    assert!(rt; close(&mut core));
+    assert_eq!(rt; send(&mut core, 4, 4), Err(TrySendError::Closed((4, 4))));
+    assert_eq!(rt; receive(&mut core), Err(TryRecvError::Closed));
+    assert!(rt; !close(&mut core));
+}
+
+fn refuses_the_second(core: &mut Core<&str>, rt: HostRuntime) {
+    assert_eq!(rt; send(core, "x", 5), Ok(()));
+    assert_eq!(rt; send(core, "y", 9), Err(TrySendError::Full(("y", 9))));
+    assert_eq!(rt; receive(core), Ok(("x", 5)));
+    assert_eq!(rt; receive(core), Err(TryRecvError::Empty));
+}
+
+#[test]
+fn a_greater_priority_is_refused_all_the_same(rt: HostRuntime) -> Result<(), AllocError> {
+    refuses_the_second(&mut Core::bounded(rt.alloc(), 1), rt);
+    refuses_the_second(&mut Core::bounded_reserved(rt.alloc(), 1)?, rt);
+    Ok(())
+}
+
+#[test]
+fn tells_its_capacity(rt: HostRuntime) {
+    for capacity in 1..10u64 {
+        assert_eq!(rt; Core::<()>::bounded(rt.alloc(), capacity).capacity(), Some(capacity));
+    }
+    assert_eq!(rt; Core::<()>::bounded(rt.alloc(), u64::MAX).capacity(), None);
+    assert_eq!(rt; Core::<()>::bounded(rt.alloc(), 1 << 63).capacity(), Some(9223372036854775808));
+    assert_eq!(rt; Core::<()>::unbounded(rt.alloc()).capacity(), None);
+}
+
+fn looks(core: &Core<()>) -> (u64, bool, bool) {
+    (core.len(), core.is_empty(), core.is_full())
+}
+
+#[test]
+fn tells_how_full_it_is(rt: HostRuntime) {
+    let mut core: Core<()> = Core::bounded(rt.alloc(), 2);
+    assert_eq!(rt; looks(&core), (0, true, false));
+    assert_eq!(rt; send(&mut core, (), 0), Ok(()));
+    assert_eq!(rt; looks(&core), (1, false, false));
+    assert_eq!(rt; send(&mut core, (), 0), Ok(()));
+    assert_eq!(rt; looks(&core), (2, false, true));
+    assert_eq!(rt; receive(&mut core), Ok(((), 0)));
+    assert_eq!(rt; looks(&core), (1, false, false));
+    assert!(rt; !core.is_closed());
+    assert!(rt; close(&mut core));
+    assert!(rt; core.is_closed());
+}
+
+#[test]
+fn equal_priorities_come_out_in_the_order_of_acceptance(rt: HostRuntime) {
+    let mut core: Core<&str> = Core::unbounded(rt.alloc());
+    for (msg, priority) in [("a", 1), ("b", 1), ("c", 2), ("d", 1)] {
+        assert_eq!(rt; send(&mut core, msg, priority), Ok(()));
+    }
+    for (msg, priority) in [("c", 2), ("a", 1), ("b", 1), ("d", 1)] {
+        assert_eq!(rt; receive(&mut core), Ok((msg, priority)));
+    }
+}
+
+// A number that was used is not used again once its pair is received.
+#[test]
+fn and_also_after_receives(rt: HostRuntime) {
+    let mut core: Core<&str> = Core::bounded(rt.alloc(), 3);
+    assert_eq!(rt; send(&mut core, "a", 0), Ok(()));
+    assert_eq!(rt; send(&mut core, "b", 0), Ok(()));
+    assert_eq!(rt; receive(&mut core), Ok(("a", 0)));
+    assert_eq!(rt; send(&mut core, "c", 0), Ok(()));
+    assert_eq!(rt; send(&mut core, "d", 0), Ok(()));
+    for msg in ["b", "c", "d"] {
+        assert_eq!(rt; receive(&mut core), Ok((msg, 0)));
+    }
+}
+
+/// A priority channel as a list that is scanned.
+#[derive(Drop)]
+struct Scanned {
+    pending: Vec<(u64, u64)>,
+    capacity: usize,
+}
+
+impl Scanned {
+    fn try_send(&mut self, msg: u64, priority: u64) -> Result<Result<(), TrySendError<(u64, u64)>>, AllocError> {
+        if self.pending.len() >= self.capacity {
+            return Ok(Err(TrySendError::Full((msg, priority))));
+        }
+        self.pending.push((msg, priority))?;
+        Ok(Ok(()))
+    }
+
+    fn try_recv(&mut self) -> Result<(u64, u64), TryRecvError> {
+        let mut best = 0;
+        for i in 0..self.pending.len() {
+            if self.pending[best].1 < self.pending[i].1 {
+                best = i;
+            }
+        }
+        if self.pending.is_empty() {
+            return Err(TryRecvError::Empty);
+        }
+        Ok(self.pending.remove(best))
+    }
+}
+
+#[test]
+fn answers_as_a_scanned_list(rt: HostRuntime) -> Result<(), AllocError> {
+    let mut core: Core<u64> = Core::bounded(rt.alloc(), 64);
+    let mut list = Scanned {
+        pending: Vec::new(rt.alloc()),
+        capacity: 64,
+    };
+    let mut x: u64 = 1;
+    let mut full = 0u64;
+    for i in 1..=2000u64 {
+        x = x.wrapping_mul(1103515245).wrapping_add(12345) % (1 << 31);
+        if (x / 65536) % 3 == 0 {
+            assert_eq!(rt; receive(&mut core), list.try_recv(), "call {i}");
+        } else {
+            let reply = send(&mut core, i, x);
+            full = full.wrapping_add(reply.is_err() as u64);
+            assert_eq!(rt; reply, list.try_send(i, x)?, "call {i}");
+        }
+    }
+    assert!(rt; full > 0);
+    Ok(())
+}
+
+#[test]
+fn takes_any_ordered_priority(rt: HostRuntime) {
+    let mut least_first: crate::channel::PriorityQueueChannel<u64, Reverse<u64>, u64> = crate::channel::PriorityQueueChannel::unbounded(rt.alloc());
+    for i in [1u64, 3, 2] {
+        let (reply, wakes) = least_first.try_send(i, Reverse(i));
+        assert_eq!(rt; reply.is_ok(), crate::tests::hands_out_nobody(wakes));
+    }
+    for i in [1u64, 2, 3] {
+        let (reply, wakes) = least_first.try_recv();
+        assert!(rt; crate::tests::hands_out_nobody(wakes));
+        assert_eq!(rt; reply.map(|(msg, _)| msg), Ok(i));
+    }
+}

@@ -1,0 +1,44 @@
+use crate::awaitable_atomics::AwaitableAtomicCounterAndBit;
+use crate::comparisons::Comparisons;
+use crate::tests::hands_out_nobody;
+
+type Word = AwaitableAtomicCounterAndBit<u64>;
+
+fn set_bit(word: &mut Word) -> bool {
+    let (was_closed, wakes) = word.set_bit();
+    hands_out_nobody(wakes);
+    was_closed
+}
+
+#[test]
+fn counts_beside_the_bit(rt: HostRuntime) {
+    let mut word = Word::new(rt.alloc(), 5);
+    assert!(rt; !set_bit(&mut word));
+    assert_eq!(rt; word.load(), (true, 5));
+    let (before, wakes) = word.incr(2);
+    assert_eq!(rt; before, (true, 5));
+    assert!(rt; hands_out_nobody(wakes));
+    assert_eq!(rt; word.load(), (true, 7));
+    let (before, wakes) = word.decr();
+    assert_eq!(rt; before, (true, 7));
+    assert!(rt; hands_out_nobody(wakes));
+    let (before, wakes) = word.incr(0);
+    assert_eq!(rt; before, (true, 6));
+    assert!(rt; hands_out_nobody(wakes));
+    assert!(rt; set_bit(&mut word));
+}
+
+#[test]
+fn counts_up_to_bit_63(rt: HostRuntime) {
+    let mut word = Word::new(rt.alloc(), 9223372036854775807);
+    assert_eq!(rt; word.load(), (false, 9223372036854775807));
+    let (before, wakes) = word.decr();
+    assert_eq!(rt; before, (false, 9223372036854775807));
+    assert!(rt; hands_out_nobody(wakes));
+    assert_eq!(rt; word.load(), (false, 9223372036854775806));
+}
+
+#[test]
+fn counts_comparisons_at_no_cost(rt: HostRuntime) {
+    assert_eq!(rt; std::mem::size_of::<Comparisons>(), 0);
+}
