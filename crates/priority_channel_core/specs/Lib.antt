@@ -3,6 +3,7 @@ pub mod State
 pub mod Waiting
 pub mod Good
 pub mod Greatest
+pub mod Errors
 pub mod Sends
 pub mod Receives
 pub mod Polls

@@ -63,7 +63,7 @@ pub(crate) fn prepare<T, P: Ord, A: Allocator>(bag: &mut Bag<T, P, A>) -> bool
 impl<T, P: Ord, W: Clone, A: Allocator + Copy> PriorityQueueChannel<T, P, W, A> {
     ghost use Rattle.priority_channel_core.specs.State.{opening, nobody};
     ghost use Rattle.priority_channel_core.specs.Good.{IsGood};
-    ghost use Rattle.priority_channel_core.specs.Sends.{refused};
+    ghost use Rattle.priority_channel_core.specs.Errors.{refused};
     ghost use Rattle.priority_channel_core.specs.Receives.{capacity_told};
     ghost use Rattle.priority_channel_core.specs.Step.{Step};
     ghost use Rattle.priority_channel_core.specs.Channel.{ComparesAtMost};
@@ -184,8 +184,7 @@ impl<T, P: Ord, W: Clone, A: Allocator + Copy> PriorityQueueChannel<T, P, W, A> 
         ensures answer { result ≡ self.now.state.is_closed }
         ensures step { Step P.cmp W.is_clone self.now.state Call.IsClosed (Answer.IsClosed result) nobody self.now.state }
     {
-        let (is_closed, _) = self.length.load();
-        is_closed
+        self.length.load().0
     }
 
     /// How many pairs are pending.
@@ -193,8 +192,7 @@ impl<T, P: Ord, W: Clone, A: Allocator + Copy> PriorityQueueChannel<T, P, W, A> 
         ensures answer { result ≡ length self.now.state.pending }
         ensures step { Step P.cmp W.is_clone self.now.state Call.Len (Answer.Len result) nobody self.now.state }
     {
-        let (_, count) = self.length.load();
-        count
+        self.length.load().1
     }
 
     /// Whether no pair is pending.

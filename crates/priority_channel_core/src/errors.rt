@@ -1,7 +1,22 @@
 //! What a send and a receive that were refused answer.
+//!
+//! The error of a send holds what was to be sent. `{}` and `{:?}` print nothing of that, so its type need not print.
+ghost use Rattle.std.specs.Prelude.{◌≡◌, ◌↔◌, IsTrue, Some, codes};
+
+use std::error::Error;
+use std::fmt;
+
+#[cfg(test)]
+mod tests;
 
 /// Why a pair, or the rest of a list of pairs, was not taken. It holds what was to be sent.
-#[derive(Drop)]
+///
+/// ```
+/// let refusal = TrySendError::Full(("late", 3));
+/// assert!(rt; refusal.is_full() && !refusal.is_closed());
+/// let (message, priority) = refusal.into_inner();
+/// ```
+#[derive(Clone, Copy, Drop, PartialEq, Eq)]
 pub enum TrySendError<T> {
     /// As many are pending as the channel may hold.
     Full(T),
@@ -11,8 +26,67 @@ pub enum TrySendError<T> {
     Memory(T),
 }
 
+impl<T> TrySendError<T> {
+    ghost use Rattle.priority_channel_core.specs.Errors.{refused};
+
+    /// What was to be sent.
+    pub fn into_inner(self) -> T
+        ensures { result ≡ refused self }
+    {
+        match self {
+            TrySendError::Full(held) => held,
+            TrySendError::Closed(held) => held,
+            TrySendError::Memory(held) => held,
+        }
+    }
+
+    /// Whether the channel was full. A send that found room, but no memory, did not find it full.
+    pub fn is_full(&self) -> bool
+        ensures { IsTrue result ↔ (self.now ≡ TrySendError.Full (refused self.now)) }
+    {
+        matches!(self, TrySendError::Full(_))
+    }
+
+    /// Whether the channel was closed, so that it takes nothing more.
+    pub fn is_closed(&self) -> bool
+        ensures { IsTrue result ↔ (self.now ≡ TrySendError.Closed (refused self.now)) }
+    {
+        matches!(self, TrySendError::Closed(_))
+    }
+}
+
+impl<T> fmt::Display for TrySendError<T> {
+    ghost use Rattle.priority_channel_core.specs.Errors.{try_send_error_text};
+
+    ghost output = { λ error. Some (try_send_error_text error) };
+
+    fn fmt<W: fmt::Write>(&self, f: &mut fmt::Formatter<W>) -> fmt::Result {
+        f.write_str(match self {
+            TrySendError::Full(_) => "sending into a full channel",
+            TrySendError::Closed(_) => "sending into a closed channel",
+            TrySendError::Memory(_) => "no memory for sending",
+        })
+    }
+}
+
+impl<T> fmt::Debug for TrySendError<T> {
+    ghost use Rattle.priority_channel_core.specs.Errors.{try_send_error_debug};
+
+    ghost debug_output = { λ error. Some (try_send_error_debug error) };
+
+    fn fmt<W: fmt::Write>(&self, f: &mut fmt::Formatter<W>) -> fmt::Result {
+        f.write_str(match self {
+            TrySendError::Full(_) => "Full(..)",
+            TrySendError::Closed(_) => "Closed(..)",
+            TrySendError::Memory(_) => "Memory(..)",
+        })
+    }
+}
+
+impl<T: Drop> Error for TrySendError<T> {}
+
 /// Why there is no message.
-#[derive(Clone, Copy, Drop)]
+#[derive(Clone, Copy, Debug, Drop, PartialEq, Eq)]
 pub enum TryRecvError {
     /// None is pending.
     Empty,
@@ -20,16 +94,85 @@ pub enum TryRecvError {
     Closed,
 }
 
+impl TryRecvError {
+    /// Whether the channel was open, so that a message may still come.
+    pub fn is_empty(&self) -> bool
+        ensures { IsTrue result ↔ (self.now ≡ TryRecvError.Empty) }
+    {
+        matches!(self, TryRecvError::Empty)
+    }
+
+    /// Whether the channel was closed, so that no message will come.
+    pub fn is_closed(&self) -> bool
+        ensures { IsTrue result ↔ (self.now ≡ TryRecvError.Closed) }
+    {
+        matches!(self, TryRecvError::Closed)
+    }
+}
+
+impl fmt::Display for TryRecvError {
+    ghost use Rattle.priority_channel_core.specs.Errors.{try_recv_error_text};
+
+    ghost output = { λ error. Some (try_recv_error_text error) };
+
+    fn fmt<W: fmt::Write>(&self, f: &mut fmt::Formatter<W>) -> fmt::Result {
+        f.write_str(match self {
+            TryRecvError::Empty => "receiving from an empty channel",
+            TryRecvError::Closed => "receiving from an empty and closed channel",
+        })
+    }
+}
+
+impl Error for TryRecvError {}
+
 /// The channel is closed. It holds what was to be sent.
-#[derive(Drop)]
+#[derive(Clone, Copy, Drop, PartialEq, Eq)]
 pub struct SendError<T>(pub T);
 
+impl<T> SendError<T> {
+    /// What was to be sent.
+    pub fn into_inner(self) -> T
+        ensures { result ≡ self.0 }
+    {
+        let SendError(held) = self;
+        held
+    }
+}
+
+impl<T> fmt::Display for SendError<T> {
+    ghost output = { λ _. Some (codes "sending into a closed channel") };
+
+    fn fmt<W: fmt::Write>(&self, f: &mut fmt::Formatter<W>) -> fmt::Result {
+        f.write_str("sending into a closed channel")
+    }
+}
+
+impl<T> fmt::Debug for SendError<T> {
+    ghost debug_output = { λ _. Some (codes "SendError(..)") };
+
+    fn fmt<W: fmt::Write>(&self, f: &mut fmt::Formatter<W>) -> fmt::Result {
+        f.write_str("SendError(..)")
+    }
+}
+
+impl<T: Drop> Error for SendError<T> {}
+
 /// The channel is closed and empty.
-#[derive(Clone, Copy, Drop)]
+#[derive(Clone, Copy, Debug, Drop, PartialEq, Eq)]
 pub struct RecvError;
 
+impl fmt::Display for RecvError {
+    ghost output = { λ _. Some (codes "receiving from an empty and closed channel") };
+
+    fn fmt<W: fmt::Write>(&self, f: &mut fmt::Formatter<W>) -> fmt::Result {
+        f.write_str("receiving from an empty and closed channel")
+    }
+}
+
+impl Error for RecvError {}
+
 /// Why a send that waits has ended. It holds what was not sent.
-#[derive(Drop)]
+#[derive(Clone, Copy, Drop, PartialEq, Eq)]
 pub enum SendFault<T> {
     /// The channel is closed.
     Closed(SendError<T>),
@@ -37,11 +180,68 @@ pub enum SendFault<T> {
     Memory(T),
 }
 
+impl<T> SendFault<T> {
+    ghost use Rattle.priority_channel_core.specs.Errors.{unsent};
+
+    /// What was not sent.
+    pub fn into_inner(self) -> T
+        ensures { result ≡ unsent self }
+    {
+        match self {
+            SendFault::Closed(error) => error.into_inner(),
+            SendFault::Memory(held) => held,
+        }
+    }
+}
+
+impl<T> fmt::Display for SendFault<T> {
+    ghost use Rattle.priority_channel_core.specs.Errors.{send_fault_text};
+
+    ghost output = { λ fault. Some (send_fault_text fault) };
+
+    fn fmt<W: fmt::Write>(&self, f: &mut fmt::Formatter<W>) -> fmt::Result {
+        f.write_str(match self {
+            SendFault::Closed(_) => "sending into a closed channel",
+            SendFault::Memory(_) => "no memory for sending",
+        })
+    }
+}
+
+impl<T> fmt::Debug for SendFault<T> {
+    ghost use Rattle.priority_channel_core.specs.Errors.{send_fault_debug};
+
+    ghost debug_output = { λ fault. Some (send_fault_debug fault) };
+
+    fn fmt<W: fmt::Write>(&self, f: &mut fmt::Formatter<W>) -> fmt::Result {
+        f.write_str(match self {
+            SendFault::Closed(_) => "Closed(..)",
+            SendFault::Memory(_) => "Memory(..)",
+        })
+    }
+}
+
+impl<T: Drop> Error for SendFault<T> {}
+
 /// Why a receive that waits has ended.
-#[derive(Clone, Copy, Drop)]
+#[derive(Clone, Copy, Debug, Drop, PartialEq, Eq)]
 pub enum RecvFault {
     /// The channel is closed and empty.
     Closed(RecvError),
     /// There is no memory for waiting.
     Memory,
 }
+
+impl fmt::Display for RecvFault {
+    ghost use Rattle.priority_channel_core.specs.Errors.{recv_fault_text};
+
+    ghost output = { λ fault. Some (recv_fault_text fault) };
+
+    fn fmt<W: fmt::Write>(&self, f: &mut fmt::Formatter<W>) -> fmt::Result {
+        f.write_str(match self {
+            RecvFault::Closed(_) => "receiving from an empty and closed channel",
+            RecvFault::Memory => "no memory for waiting",
+        })
+    }
+}
+
+impl Error for RecvFault {}

@@ -83,7 +83,8 @@ fn send_front<T: Drop, P: Ord + Drop, A: Allocator, I: Iterator<Item = (T, P)>>(
 impl<T: Drop, P: Ord + Drop, W: Clone, A: Allocator + Copy> PriorityQueueChannel<T, P, W, A> {
     ghost use Rattle.priority_channel_core.specs.State.{room as room_of};
     ghost use Rattle.priority_channel_core.specs.Good.{IsGood};
-    ghost use Rattle.priority_channel_core.specs.Sends.{refused, OnFull, AddsFront};
+    ghost use Rattle.priority_channel_core.specs.Errors.{refused};
+    ghost use Rattle.priority_channel_core.specs.Sends.{OnFull, AddsFront};
     ghost use Rattle.priority_channel_core.specs.Bulk.{Performs};
     ghost use Rattle.priority_channel_core.specs.Channel.{ComparesAtMost};
 

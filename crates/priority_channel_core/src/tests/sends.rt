@@ -1,5 +1,6 @@
+use crate::channel::PriorityQueueChannel;
 use crate::errors::{TryRecvError, TrySendError};
-use crate::tests::{Core, close, receive, send};
+use crate::tests::{Core, close, hands_out_nobody, receive, send};
 use std::alloc::AllocError;
 use std::cmp::Reverse;
 
@@ -53,17 +54,16 @@ fn a_closed_channel_takes_nothing(rt: HostRuntime) {
     assert!(rt; !close(&mut core));
 }
 
-fn refuses_the_second(core: &mut Core<&str>, rt: HostRuntime) {
-    assert_eq!(rt; send(core, "x", 5), Ok(()));
-    assert_eq!(rt; send(core, "y", 9), Err(TrySendError::Full(("y", 9))));
-    assert_eq!(rt; receive(core), Ok(("x", 5)));
-    assert_eq!(rt; receive(core), Err(TryRecvError::Empty));
+fn refuses_the_second(mut core: Core<&str>) -> bool {
+    let replies = (send(&mut core, "x", 5), send(&mut core, "y", 9));
+    let received = (receive(&mut core), receive(&mut core));
+    replies == (Ok(()), Err(TrySendError::Full(("y", 9)))) && received == (Ok(("x", 5)), Err(TryRecvError::Empty))
 }
 
 #[test]
 fn a_greater_priority_is_refused_all_the_same(rt: HostRuntime) -> Result<(), AllocError> {
-    refuses_the_second(&mut Core::bounded(rt.alloc(), 1), rt);
-    refuses_the_second(&mut Core::bounded_reserved(rt.alloc(), 1)?, rt);
+    assert!(rt; refuses_the_second(Core::bounded(rt.alloc(), 1)));
+    assert!(rt; refuses_the_second(Core::bounded_reserved(rt.alloc(), 1)?));
     Ok(())
 }
 
@@ -176,14 +176,42 @@ fn answers_as_a_scanned_list(rt: HostRuntime) -> Result<(), AllocError> {
 
 #[test]
 fn takes_any_ordered_priority(rt: HostRuntime) {
-    let mut least_first: crate::channel::PriorityQueueChannel<u64, Reverse<u64>, u64> = crate::channel::PriorityQueueChannel::unbounded(rt.alloc());
+    let mut core: PriorityQueueChannel<u64, Reverse<u64>, u64> = PriorityQueueChannel::unbounded(rt.alloc());
     for i in [1u64, 3, 2] {
-        let (reply, wakes) = least_first.try_send(i, Reverse(i));
-        assert_eq!(rt; reply.is_ok(), crate::tests::hands_out_nobody(wakes));
+        let (reply, wakes) = core.try_send(i, Reverse(i));
+        assert!(rt; hands_out_nobody(wakes) && reply.is_ok());
     }
     for i in [1u64, 2, 3] {
-        let (reply, wakes) = least_first.try_recv();
-        assert!(rt; crate::tests::hands_out_nobody(wakes));
-        assert_eq!(rt; reply.map(|(msg, _)| msg), Ok(i));
+        let (reply, wakes) = core.try_recv();
+        assert!(rt; hands_out_nobody(wakes));
+        assert_eq!(rt; reply, Ok((i, Reverse(i))));
+    }
+}
+
+#[test]
+fn takes_pairs_as_priorities(rt: HostRuntime) {
+    let mut core: PriorityQueueChannel<&str, (u64, &str), u64> = PriorityQueueChannel::unbounded(rt.alloc());
+    for (msg, priority) in [("a", (1, "x")), ("b", (1, "y")), ("c", (0, "z"))] {
+        let (reply, wakes) = core.try_send(msg, priority);
+        assert!(rt; hands_out_nobody(wakes) && reply.is_ok());
+    }
+    for msg in ["b", "a", "c"] {
+        let (reply, wakes) = core.try_recv();
+        assert!(rt; hands_out_nobody(wakes));
+        assert_eq!(rt; reply.map(|(msg, _)| msg), Ok(msg));
+    }
+}
+
+#[test]
+fn without_priorities_it_is_a_queue(rt: HostRuntime) {
+    let mut core: PriorityQueueChannel<u64, (), u64> = PriorityQueueChannel::unbounded(rt.alloc());
+    for i in 1..4u64 {
+        let (reply, wakes) = core.try_send(i, ());
+        assert!(rt; hands_out_nobody(wakes) && reply.is_ok());
+    }
+    for i in 1..4u64 {
+        let (reply, wakes) = core.try_recv();
+        assert!(rt; hands_out_nobody(wakes));
+        assert_eq!(rt; reply, Ok((i, ())));
     }
 }

@@ -1,0 +1,108 @@
+use super::*;
+use std::alloc::{AllocError, Global};
+use std::test::Fail;
+
+// A message that can be neither printed nor compared.
+#[derive(Drop)]
+struct Opaque;
+
+// A message that cannot even be dropped.
+struct Parcel;
+
+// What `{}` and `{:?}` print of an error.
+fn printed(alloc: Global, error: impl Error) -> Result<String, AllocError> {
+    format!(in alloc; "{error} / {error:?}")
+}
+
+#[test]
+fn errors_print_why_and_not_what(rt: HostRuntime) -> Result<(), Fail> {
+    let alloc = rt.alloc();
+
+    let closed = printed(alloc, SendError(Opaque))?;
+    assert_eq!(rt;
+        closed.as_str(),
+        "sending into a closed channel / SendError(..)"
+    );
+    let closed = printed(alloc, RecvError)?;
+    assert_eq!(rt;
+        closed.as_str(),
+        "receiving from an empty and closed channel / RecvError"
+    );
+
+    let full = printed(alloc, TrySendError::Full(Opaque))?;
+    assert_eq!(rt; full.as_str(), "sending into a full channel / Full(..)");
+    let closed = printed(alloc, TrySendError::Closed(Opaque))?;
+    assert_eq!(rt;
+        closed.as_str(),
+        "sending into a closed channel / Closed(..)"
+    );
+    let memory = printed(alloc, TrySendError::Memory(Opaque))?;
+    assert_eq!(rt; memory.as_str(), "no memory for sending / Memory(..)");
+
+    let empty = printed(alloc, TryRecvError::Empty)?;
+    assert_eq!(rt; empty.as_str(), "receiving from an empty channel / Empty");
+    let closed = printed(alloc, TryRecvError::Closed)?;
+    assert_eq!(rt;
+        closed.as_str(),
+        "receiving from an empty and closed channel / Closed"
+    );
+
+    let closed = printed(alloc, SendFault::Closed(SendError(Opaque)))?;
+    assert_eq!(rt;
+        closed.as_str(),
+        "sending into a closed channel / Closed(..)"
+    );
+    let memory = printed(alloc, SendFault::Memory(Opaque))?;
+    assert_eq!(rt; memory.as_str(), "no memory for sending / Memory(..)");
+
+    let closed = printed(alloc, RecvFault::Closed(RecvError))?;
+    assert_eq!(rt;
+        closed.as_str(),
+        "receiving from an empty and closed channel / Closed(RecvError)"
+    );
+    let memory = printed(alloc, RecvFault::Memory)?;
+    assert_eq!(rt; memory.as_str(), "no memory for waiting / Memory");
+    Ok(())
+}
+
+#[test]
+fn errors_are_equal_where_variant_and_content_are(rt: HostRuntime) -> Result<(), Fail> {
+    let error = SendError(1);
+    assert_eq!(rt; error, SendError(1));
+    assert_eq!(rt; error.clone()?, error);
+    let copy = error;
+    assert_eq!(rt; copy, error);
+
+    assert_ne!(rt; TrySendError::Full(1), TrySendError::Full(2));
+    assert_ne!(rt; TrySendError::Full(1), TrySendError::Closed(1));
+    assert_eq!(rt; TrySendError::Memory(1).clone()?, TrySendError::Memory(1));
+
+    assert_ne!(rt; SendFault::Memory(1), SendFault::Closed(SendError(1)));
+    assert_eq!(rt; SendFault::Memory(1).clone()?, SendFault::Memory(1));
+
+    assert_ne!(rt; TryRecvError::Empty, TryRecvError::Closed);
+    assert_eq!(rt; RecvError.clone()?, RecvError);
+    assert_ne!(rt; RecvFault::Memory, RecvFault::Closed(RecvError));
+    Ok(())
+}
+
+#[test]
+fn errors_hand_back_what_was_not_sent(rt: HostRuntime) {
+    let refusal = TrySendError::Full(("late", 3));
+    assert!(rt; refusal.is_full() && !refusal.is_closed());
+    assert_eq!(rt; refusal.into_inner(), ("late", 3));
+
+    let refusal = TrySendError::Memory(1);
+    assert!(rt; !refusal.is_full() && !refusal.is_closed());
+
+    let Parcel = TrySendError::Closed(Parcel).into_inner();
+    let Parcel = SendError(Parcel).into_inner();
+    let Parcel = SendFault::Closed(SendError(Parcel)).into_inner();
+    let Parcel = SendFault::Memory(Parcel).into_inner();
+}
+
+#[test]
+fn a_receive_tells_empty_from_closed(rt: HostRuntime) {
+    assert!(rt; TryRecvError::Empty.is_empty() && !TryRecvError::Empty.is_closed());
+    assert!(rt; TryRecvError::Closed.is_closed() && !TryRecvError::Closed.is_empty());
+}
