@@ -62,7 +62,11 @@ impl<T: Drop, P: Ord + Drop, W: Clone, A: Allocator + Copy> PriorityQueueChannel
     ) -> Ran<T, P, W, Peekable<I>, A>
         requires allowed { AllowsRun self.old.state calls.items }
         requires callable { All (MayCall (peekable_can I.can_next)) calls.items }
-        ensures { RunsFront (HasList I.next_gives) P.cmp W.is_clone self.old.state calls.items result.done.items result.left.items self.new.state }
+        ensures run { RunsFront (HasList I.next_gives) P.cmp W.is_clone self.old.state calls.items result.done.items result.left.items self.new.state }
+
+        // What is left can be run from here.
+        ensures allowed { AllowsRun self.new.state result.left.items }
+        ensures callable { All (MayCall (peekable_can I.can_next)) result.left.items }
     {
         calls.reverse();
         let mut done = Vec::new(self.alloc);

@@ -1,5 +1,5 @@
 use crate::calls::CorePoll;
-use crate::errors::{RecvError, RecvFault, SendFault};
+use crate::errors::{RecvError, RecvFault};
 use crate::tests::{Core, close, receive, send};
 use std::alloc::AllocError;
 
@@ -153,10 +153,11 @@ fn a_bulk_send_waits_with_its_rest(rt: HostRuntime) {
     let mut core: Core<u64> = Core::bounded(rt.alloc(), 1);
     let (poll, wakes) = core.poll_sendv([(1, 1), (2, 2)].into_iter().peekable(), None, &5);
     let (_room, _message) = wakes.into_lists();
-    let CorePoll::Pending(rest, 0) = poll else {
+    let CorePoll::Pending(rest, ticket) = poll else {
         assert!(rt; false);
         return;
     };
+    assert_eq!(rt; ticket, 0);
     assert_eq!(rt; receive(&mut core), Ok((1, 1)));
     let (poll, wakes) = core.poll_sendv(rest, Some(0), &5);
     let (_room, _message) = wakes.into_lists();
@@ -164,6 +165,10 @@ fn a_bulk_send_waits_with_its_rest(rt: HostRuntime) {
     assert!(rt; close(&mut core));
     let (poll, wakes) = core.poll_sendv([(3, 3)].into_iter().peekable(), None, &5);
     let (_room, _message) = wakes.into_lists();
-    assert!(rt; matches!(poll, CorePoll::Ready(Err(SendFault::Closed(_)))));
+    let CorePoll::Ready(Err(fault)) = poll else {
+        assert!(rt; false);
+        return;
+    };
+    assert_eq!(rt; fault.into_inner().count(), 1);
     assert_eq!(rt; receive(&mut core), Ok((2, 2)));
 }

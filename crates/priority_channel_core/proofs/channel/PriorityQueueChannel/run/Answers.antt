@@ -34,10 +34,16 @@ loop-done-preserved g c = record {
       (RunsFront-more _ _ _ _ _ _ _ _ _ _ c.make.result (rw (c.in-Some.ensures.items, reverse-append) at c.loop-done.invariant.runs) c.make.ensures.step);
 }
 
-pub returns : goal.returns
-returns g c =
+pub returns-clause-run : goal.returns-clause-run
+returns-clause-run g c =
     rw c.reverse-2.ensures.items
     (elim c.loop-done-test.branch [
       | then-loop-done-test+else-is_ok w ↦ rw (w.done-is, w.reserve.ensures.items) c.loop-done.invariant.runs
       | else-loop-done-test w ↦ rw w.done-is c.loop-done.invariant.runs
     ])
+
+pub returns-clause-allowed : goal.returns-clause-allowed
+returns-clause-allowed g c = rw c.reverse-2.ensures.items c.loop-done.invariant.allowed
+
+pub returns-clause-callable : goal.returns-clause-callable
+returns-clause-callable g c = rw c.reverse-2.ensures.items c.loop-done.invariant.callable
