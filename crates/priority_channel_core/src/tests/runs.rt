@@ -9,10 +9,36 @@ use std::iter::Peekable;
 
 type Pairs = Peekable<IntoIter<(u64, u64), 3>>;
 
+/// Which list of calls was run.
+#[derive(Clone, Copy)]
+enum Row {
+    InOrder,
+    WithDrops,
+}
+
+impl Row {
+    fn is_right(self, at: usize, answer: Answer<u64, u64, Pairs>) -> bool {
+        match (self, at, answer) {
+            (Row::InOrder, 0, Answer::TrySend(reply)) => reply == Ok(()),
+            (Row::InOrder, 1, Answer::TryRecv(reply)) => reply == Ok((1, 5)),
+            (Row::InOrder, 2, Answer::TryRecv(reply)) => reply == Err(TryRecvError::Empty),
+            (Row::InOrder, 3, Answer::Close(was_open)) => was_open,
+            (Row::WithDrops, 0, Answer::TrySendv(Err(TrySendError::Full(mut rest)))) => rest.next() == Some((3, 5)) && rest.next().is_none(),
+            (Row::WithDrops, 1, Answer::CloneSender(done)) => done,
+            (Row::WithDrops, 2 | 3, Answer::DropSender) => true,
+            (Row::WithDrops, 4, Answer::IsClosed(told)) => told,
+            (Row::WithDrops, 5, Answer::TryRecv(reply)) => reply == Ok((2, 6)),
+            (Row::WithDrops, 6, Answer::TryRecv(reply)) => reply == Ok((1, 4)),
+            (Row::WithDrops, 7, Answer::TryRecv(reply)) => reply == Err(TryRecvError::Closed),
+            _ => false,
+        }
+    }
+}
+
 /// The first answer that is not right, from this one of a list on. A call that hands somebody out is not.
 fn right_answers<A: Allocator>(
     done: Vec<Done<u64, u64, u64, Pairs, A>, A>,
-    is_right: fn(usize, Answer<u64, u64, Pairs>) -> bool,
+    row: Row,
     first: usize,
 ) -> usize {
     let mut right = first;
@@ -22,7 +48,7 @@ fn right_answers<A: Allocator>(
             room_waiters,
             message_waiters,
         } = made;
-        if !is_right(right, answer) || !room_waiters.is_empty() || !message_waiters.is_empty() {
+        if !row.is_right(right, answer) || !room_waiters.is_empty() || !message_waiters.is_empty() {
             return right;
         }
         right = right.saturating_add(1);
@@ -38,34 +64,11 @@ fn makes_each_call_in_order(rt: HostRuntime) -> Result<(), AllocError> {
     let Ran { done, left } = core.run(calls);
     assert!(rt; left.is_empty());
     assert_eq!(rt; done.len(), 4);
-    assert_eq!(rt; right_answers(done, is_right_in_order, 0), 4);
+    assert_eq!(rt; right_answers(done, Row::InOrder, 0), 4);
     let Ran { done, left } = core.run(Vec::<Call<u64, u64, u64, Pairs>>::new(rt.alloc()));
     assert!(rt; done.is_empty() && left.is_empty());
     assert!(rt; core.is_closed());
     Ok(())
-}
-
-fn is_right_in_order(at: usize, answer: Answer<u64, u64, Pairs>) -> bool {
-    match (at, answer) {
-        (0, Answer::TrySend(reply)) => reply == Ok(()),
-        (1, Answer::TryRecv(reply)) => reply == Ok((1, 5)),
-        (2, Answer::TryRecv(reply)) => reply == Err(TryRecvError::Empty),
-        (3, Answer::Close(was_open)) => was_open,
-        _ => false,
-    }
-}
-
-fn is_right_of_drops(at: usize, answer: Answer<u64, u64, Pairs>) -> bool {
-    match (at, answer) {
-        (0, Answer::TrySendv(Err(TrySendError::Full(mut rest)))) => rest.next() == Some((3, 5)) && rest.next().is_none(),
-        (1, Answer::CloneSender(done)) => done,
-        (2 | 3, Answer::DropSender) => true,
-        (4, Answer::IsClosed(told)) => told,
-        (5, Answer::TryRecv(reply)) => reply == Ok((2, 6)),
-        (6, Answer::TryRecv(reply)) => reply == Ok((1, 4)),
-        (7, Answer::TryRecv(reply)) => reply == Err(TryRecvError::Closed),
-        _ => false,
-    }
 }
 
 // Each growth of the answers is refused in turn; the calls that are left are then run with memory.
@@ -91,10 +94,10 @@ fn stops_before_the_call_whose_answer_has_no_place(rt: HostRuntime) -> Result<()
         let made = done.len();
         assert_eq!(rt; made.wrapping_add(left.len()), 8, "at {n}");
         assert_eq!(rt; left.is_empty(), met_all, "at {n}");
-        assert_eq!(rt; right_answers(done, is_right_of_drops, 0), made, "at {n}");
+        assert_eq!(rt; right_answers(done, Row::WithDrops, 0), made, "at {n}");
         let Ran { done, left } = core.run(left);
         assert!(rt; left.is_empty(), "at {n}");
-        assert_eq!(rt; right_answers(done, is_right_of_drops, made), 8, "at {n}");
+        assert_eq!(rt; right_answers(done, Row::WithDrops, made), 8, "at {n}");
         if met_all {
             break;
         }

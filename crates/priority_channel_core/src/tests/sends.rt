@@ -139,15 +139,19 @@ impl Scanned {
 
     fn try_recv(&mut self) -> Result<(u64, u64), TryRecvError> {
         let mut best = 0;
-        for i in 0..self.pending.len() {
-            if self.pending[best].1 < self.pending[i].1 {
-                best = i;
+        for at in 0..self.pending.len() {
+            if self.priority(best) < self.priority(at) {
+                best = at;
             }
         }
-        if self.pending.is_empty() {
-            return Err(TryRecvError::Empty);
+        if best < self.pending.len() {
+            return Ok(self.pending.remove(best));
         }
-        Ok(self.pending.remove(best))
+        Err(TryRecvError::Empty)
+    }
+
+    fn priority(&self, at: usize) -> Option<u64> {
+        self.pending.get(at).map(|pair| pair.1)
     }
 }
 
