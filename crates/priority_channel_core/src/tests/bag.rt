@@ -117,7 +117,10 @@ fn fill_and_drain<A: Allocator>(alloc: A) -> (u64, bool) {
         pushed = i + 1;
     }
     let mut popped = 0u64;
-    while let Some(_pair) = bag.pop() {
+    for _ in 0..100 {
+        if bag.pop().is_none() {
+            break;
+        }
         popped = popped.wrapping_add(1);
     }
     (pushed, popped == pushed)

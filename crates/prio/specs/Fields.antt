@@ -1,0 +1,21 @@
+use Rattle.std.specs.Prelude.{ℕ, ℤ, List, [], ◌∷◌, ◌++◌, ◌<◌, ◌==◌, if◌then◌else◌, length, All, Option, Some, None}
+use Rattle.std.specs.Char.{IsAsciiGraphic}
+use Rattle.std.specs.Fmt.{signed_decimal}
+
+-- the first field: what stands before the first space
+abbrev pub name_of : List ℕ → List ℕ
+name_of [] = []
+name_of (b ∷ bs) = if b == 32 then [] else b ∷ name_of bs
+
+-- what follows that space, if there is one
+abbrev pub fields_of : List ℕ → Option (List ℕ)
+fields_of [] = None
+fields_of (b ∷ bs) = if b == 32 then Some bs else fields_of bs
+
+-- printable characters, and no space
+abbrev pub IsWord : List ℕ → Type 0
+IsWord field = (0 < length field) × All IsAsciiGraphic field
+
+-- a priority as it is printed, and a word
+abbrev pub pair_text : ℤ → List ℕ → List ℕ
+pair_text priority word = signed_decimal priority ++ 32 ∷ word

@@ -1,0 +1,4 @@
+pub mod Call
+pub mod Fields
+pub mod Opening
+pub mod Stop

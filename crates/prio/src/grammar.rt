@@ -1,0 +1,116 @@
+// Which lines are calls.
+ghost use Rattle.std.specs.Prelude.{◌≡◌, ◌≢◌, ◌↔◌, ◌<◌, ◌^◌, ℕ, ℤ, List, FitsSigned, IfSome, IfNone, IsTrue, slice_index};
+ghost use Rattle.std.specs.Int.{w64, IsInRange};
+ghost use Rattle.std.specs.Option.{option_copied};
+ghost use Rattle.std.specs.Fmt.{decimal, signed_decimal};
+ghost use Rattle.prio.specs.Fields.{IsWord, fields_of, name_of, pair_text};
+ghost use Rattle.prio.specs.Call.{CanCall, call_text};
+ghost use Rattle.prio.specs.Opening.{CanOpen, opening_text};
+
+/// What a first line asks for.
+pub enum Opening {
+    /// A channel with place for so many pairs, made at once.
+    Reserved(u64),
+}
+
+/// What any other line asks for.
+pub enum Call<'a> {
+    Send { priority: i64, word: &'a str },
+    Recv,
+    Close,
+}
+
+/// What the first line of a script asks for, if it is one.
+pub fn parse_opening(line: &str) -> Option<Opening>
+    ensures sound { IfSome result (λ opening. CanOpen opening × (line.now ≡ opening_text opening)) }
+    ensures complete { IfNone result ((opening : Opening) → CanOpen opening → line.now ≢ opening_text opening) }
+{
+    match name_and_fields(line) {
+        ("reserved", Some(capacity)) => Some(Opening::Reserved(parse_capacity(capacity)?)),
+        _ => None,
+    }
+}
+
+/// What another line of a script asks for, if it is one.
+#[tactic(auto, using(crate::proofs::Fields::joined, crate::proofs::Fields::whole))]
+pub fn parse_call(line: &str) -> Option<Call<'_>>
+    ensures sound { IfSome result (λ call. CanCall call × (line.now ≡ call_text call)) }
+    ensures complete { IfNone result ((call : Call) → CanCall call → line.now ≢ call_text call) }
+{
+    match name_and_fields(line) {
+        ("send", Some(pair)) => {
+            let (priority, word) = parse_pair(pair)?;
+            Some(Call::Send { priority, word })
+        }
+        ("recv", None) => Some(Call::Recv),
+        ("close", None) => Some(Call::Close),
+        _ => None,
+    }
+}
+
+// The first field, and what follows the space behind it.
+fn name_and_fields(line: &str) -> (&str, Option<&str>)
+    ensures name { result.0.now ≡ name_of line.now }
+    ensures fields { option_copied result.1 ≡ fields_of line.now }
+{
+    match line.split_once(' ') {
+        Some((name, fields)) => (name, Some(fields)),
+        None => (line, None),
+    }
+}
+
+// `PRIORITY WORD`.
+fn parse_pair(fields: &str) -> Option<(i64, &str)>
+    ensures sound { IfSome result (λ pair. IsWord pair.1.now × (fields.now ≡ pair_text pair.0 pair.1.now)) }
+    ensures complete { IfNone result ((z : ℤ) (word : List ℕ) → FitsSigned w64 z → IsWord word → fields.now ≢ pair_text z word) }
+{
+    let (priority, word) = fields.split_once(' ')?;
+    let priority = parse_priority(priority)?;
+    if is_word(word) {
+        Some((priority, word))
+    } else {
+        None
+    }
+}
+
+// From 1 to 2^63 - 1, as it is printed.
+fn parse_capacity(field: &str) -> Option<u64>
+    ensures sound { IfSome result (λ n. (field.now ≡ decimal n) × (0 < n) × (n < 2 ^ 63)) }
+    ensures complete { IfNone result ((n : ℕ) → 0 < n → n < 2 ^ 63 → field.now ≢ decimal n) }
+{
+    if !starts_with_nonzero_digit(field) {
+        return None;
+    }
+    match field.parse() {
+        Ok(capacity) if capacity < 1 << 63 => Some(capacity),
+        _ => None,
+    }
+}
+
+// A number as it is printed.
+fn parse_priority(field: &str) -> Option<i64>
+    ensures sound { IfSome result (λ z. field.now ≡ signed_decimal z) }
+    ensures complete { IfNone result ((z : ℤ) → FitsSigned w64 z → field.now ≢ signed_decimal z) }
+{
+    if field == "0" {
+        return Some(0);
+    }
+    if !starts_with_nonzero_digit(field.strip_prefix('-').unwrap_or(field)) {
+        return None;
+    }
+    field.parse().ok()
+}
+
+// `parse` also takes a `+` and leading zeros.
+fn starts_with_nonzero_digit(field: &str) -> bool
+    ensures { IsTrue result ↔ IsInRange 49 57 (slice_index field.now 0) }
+{
+    matches!(field.as_bytes().first(), Some(b'1'..=b'9'))
+}
+
+// Printable characters, and no space.
+fn is_word(field: &str) -> bool
+    ensures { IsTrue result ↔ IsWord field.now }
+{
+    !field.is_empty() && field.bytes().all(|b| b.is_ascii_graphic())
+}

@@ -1,0 +1,155 @@
+// The lines of a script, and the answers to them.
+ghost use Rattle.std.specs.Prelude.{◌≡◌, ◌+◌, ◌-◌, ◌^◌, min};
+
+use crate::grammar::{Call, Opening, parse_call, parse_opening};
+use crate::run::{Fault, Stop};
+use priority_channel_core::awaitable_atomics::Wakes;
+use priority_channel_core::channel::PriorityQueueChannel;
+use priority_channel_core::errors::{TryRecvError, TrySendError};
+use std::alloc::{AllocError, Allocator};
+use std::io::{BufRead, BufReader, BufWriter, ErrorKind, Read, Write};
+
+// For the input, and for the answers.
+const BUFFER_SIZE: usize = 1 << 16;
+
+type Channel<A> = PriorityQueueChannel<String<A>, i64, (), A>;
+
+/// A script that is read line by line. Before it waits for input it writes out the answers so far.
+pub struct Script<R: Read, W: Write + Drop, A: Allocator + Copy> {
+    alloc: A,
+    input: BufReader<R, A>,
+    answers: BufWriter<W, A>,
+    line: Vec<u8, A>,
+    number: u64,
+}
+
+impl<R: Read + Drop, W: Write + Drop, A: Allocator + Copy> Script<R, W, A> {
+    pub fn new(alloc: A, input: R, answers: W) -> Result<Self, AllocError> {
+        // Nothing but memory can be wanting.
+        let input = BufReader::with_capacity(alloc, BUFFER_SIZE, input).or(Err(AllocError))?;
+        let answers = BufWriter::with_capacity(alloc, BUFFER_SIZE, answers).or(Err(AllocError))?;
+        Ok(Script {
+            alloc,
+            input,
+            answers,
+            line: Vec::new(alloc),
+            number: 0,
+        })
+    }
+
+    /// Makes the calls of all lines, or of those before a fault, and writes out their answers.
+    pub fn run(mut self) -> Result<(), Stop> {
+        let end = match self.answer_lines() {
+            // What could not be written is not tried again.
+            Err(Fault::Failed) => Err(Fault::Failed),
+            end => self.answers.flush().map_err(Fault::from).and(end),
+        };
+        let Script {
+            alloc: _,
+            input: _,
+            answers,
+            line: _,
+            number,
+        } = self;
+        // Nor here: a buffered writer that is dropped whole flushes.
+        let (_answers, _unwritten) = answers.into_parts();
+        end.map_err(|fault| Stop {
+            fault,
+            line: number,
+        })
+    }
+
+    fn answer_lines(&mut self) -> Result<(), Fault> {
+        if !self.read_line()? {
+            return Err(Fault::NotACall);
+        }
+        let mut channel = self.open()?;
+        // No input is so long that this or the loop of `read_line` runs out.
+        for _ in 0..u64::MAX {
+            if !self.read_line()? {
+                return Ok(());
+            }
+            self.call(&mut channel)?;
+        }
+        Err(Fault::Failed)
+    }
+
+    // Makes the channel that the first line asks for.
+    fn open(&mut self) -> Result<Channel<A>, Fault> {
+        let line = str::from_utf8(&self.line)?;
+        let channel = match parse_opening(line).ok_or(Fault::NotACall)? {
+            Opening::Reserved(capacity) => Channel::bounded_reserved(self.alloc, capacity)?,
+        };
+        self.answers.write_all(b"ok\n")?;
+        Ok(channel)
+    }
+
+    // Makes the call that another line asks for.
+    fn call(&mut self, channel: &mut Channel<A>) -> Result<(), Fault> {
+        let line = str::from_utf8(&self.line)?;
+        let answers = &mut self.answers;
+        match parse_call(line).ok_or(Fault::NotACall)? {
+            Call::Send { priority, word } => {
+                let word = String::from_str(self.alloc, word)?;
+                let answer: &[u8] = match answer_of(channel.try_send(word, priority)) {
+                    Ok(()) => b"ok\n",
+                    Err(TrySendError::Full(_)) => b"full\n",
+                    Err(TrySendError::Closed(_)) => b"closed\n",
+                    Err(TrySendError::Memory(_)) => b"memory\n",
+                };
+                answers.write_all(answer)?;
+            }
+            Call::Recv => match answer_of(channel.try_recv()) {
+                Ok((word, priority)) => writeln!(answers, "{word} {priority}")?,
+                Err(TryRecvError::Empty) => answers.write_all(b"empty\n")?,
+                Err(TryRecvError::Closed) => answers.write_all(b"closed\n")?,
+            },
+            Call::Close => {
+                let was_open = answer_of(channel.close());
+                writeln!(answers, "{was_open}")?;
+            }
+        }
+        Ok(())
+    }
+
+    // Reads the next line, without its line feed. False at the end of the input.
+    fn read_line(&mut self) -> Result<bool, Fault>
+        ensures number { self.new.number ≡ min (self.old.number + 1) (2 ^ 64 - 1) }
+    {
+        self.number = self.number.saturating_add(1);
+        self.line.clear();
+        for _ in 0..u64::MAX {
+            // Only where the buffer is empty can the next look at the input wait.
+            if self.input.buffer().is_empty() {
+                self.answers.flush()?;
+            }
+            let bytes = match self.input.fill_buf() {
+                Ok(bytes) => bytes,
+                Err(e) if e.kind() == ErrorKind::Interrupted => continue,
+                Err(_) => return Err(Fault::Failed),
+            };
+            if bytes.is_empty() {
+                return Ok(!self.line.is_empty());
+            }
+            match bytes.iter().position(|b| *b == b'\n') {
+                Some(end) => {
+                    self.line.extend_from_slice(&bytes[..end])?;
+                    self.input.consume(end + 1);
+                    return Ok(true);
+                }
+                None => {
+                    let read = bytes.len();
+                    self.line.extend_from_slice(bytes)?;
+                    self.input.consume(read);
+                }
+            }
+        }
+        Err(Fault::Failed)
+    }
+}
+
+// Nobody waits on this channel, so nobody is to be woken.
+fn answer_of<T, A: Allocator>((answer, wakes): (T, Wakes<(), A>)) -> T {
+    let _ = wakes.into_lists();
+    answer
+}
