@@ -149,7 +149,7 @@ impl<R: Read + Drop, W: Write + Drop, A: Allocator + Copy> Script<R, W, A> {
 }
 
 // Nobody waits on this channel, so nobody is to be woken.
-fn answer_of<T, A: Allocator>((answer, wakes): (T, Wakes<(), A>)) -> T {
+fn answer_of<T, A: Allocator + Copy>((answer, wakes): (T, Wakes<(), A>)) -> T {
     let _ = wakes.into_lists();
     answer
 }

@@ -1,5 +1,5 @@
 -- What is known of the list of a `Peekable` at a call of `next`, and at a `peek`.
-use Rattle.std.proofs.Common.{◌≡◌, ℕ, ◌<◌, ◌↔◌, IsTrue, is_some, List, [], ◌∷◌, length, refl, sym, ap, subst, arith, Option, Some, None, MatchOption, Bor}
+use Rattle.std.proofs.Common.{◌≡◌, ◌<◌, ◌↔◌, IsTrue, is_some, List, [], ◌∷◌, length, refl, sym, ap, subst, arith, Option, Some, None, MatchOption, Bor}
 use Rattle.std.specs.Option.{option_copied}
 use Rattle.std.specs.Iterator.Adapters.{peekable_source, peekable_peeked, peekable_steps, PeeksNext, PeekedOrNext}
 use Rattle.std.specs.declared.iter.Ahead.{Ahead}

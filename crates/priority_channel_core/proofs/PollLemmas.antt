@@ -1,5 +1,5 @@
 -- Polls of a send, by what the send left and how the poll ended.
-use Rattle.std.proofs.Common.{◌≡◌, ℕ, ◌+◌, ◌*◌, ◌≤◌, ◌⊎◌, List, [], ◌∷◌, length, refl, ap, arith, inl, inr}
+use Rattle.std.proofs.Common.{◌≡◌, ℕ, ◌*◌, ◌≤◌, ◌⊎◌, List, [], ◌∷◌, length, refl, ap, arith, inl, inr}
 use Rattle.std.specs.Prelude.{Result, Ok, Err, Option, IfSome, ◌==◌, if◌then◌else◌}
 use Rattle.std.proofs.lemmas.Bool.Decides.{eqb_tells}
 use Rattle.std.specs.declared.cmp.Ordering.{Ordering}
@@ -54,7 +54,7 @@ module _ {T P W : Type 0} (is_clone : W → W → Type 0) (old mid new : Counted
       let room = ap (λ (s : State T P W). length s.room_waiters) adds.new_is in
       let message = ap (λ (s : State T P W). length s.message_waiters) adds.new_is in
       let shorter : length (if length front == 0 then old.state.message_waiters else []) ≤ length old.state.message_waiters =
-          elim (eqb_tells (length front) 0) [ inl h ↦ let e = h.0 in rw e (omega arith) | inr h ↦ let e = h.0 in rw e (omega arith) ] in
+      elim (eqb_tells (length front) 0) [ inl h ↦ let e = h.0 in rw e (omega arith) | inr h ↦ let e = h.0 in rw e (omega arith) ] in
       digits_shorter old.state.room_waiters old.state.message_waiters mid.state.room_waiters mid.state.message_waiters (omega (arith, room)) (omega (arith, message, shorter))
 
   same_pending : (new.state ≡ unlisted given mid.state) ⊎ ((ticket : ℕ) × WaitsForRoom is_clone given waker mid.state ticket new.state)

@@ -15,7 +15,7 @@ refused (Closed held) = held
 refused (Full held) = held
 refused (Memory held) = held
 
--- what a send that waited has not sent
+-- what a send that waited in vain has not sent
 abbrev pub unsent : {A : Type 0} → SendFault A → A
 unsent (send_fault.Closed error) = error.0
 unsent (send_fault.Memory held) = held

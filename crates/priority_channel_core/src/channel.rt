@@ -120,7 +120,11 @@ impl<T, P: Ord, W: Clone, A: Allocator + Copy> PriorityQueueChannel<T, P, W, A> 
     ///
     /// `Memory` comes where place was refused, or where the last number of a pair was used; into reserved place it
     /// never comes before 2^64 - 1 pairs were accepted.
-    pub fn try_send(&mut self, msg: T, priority: P) -> (Result<(), TrySendError<(T, P)>>, Wakes<W, A>)
+    pub fn try_send(
+        &mut self,
+        msg: T,
+        priority: P,
+    ) -> (Result<(), TrySendError<(T, P)>>, Wakes<W, A>)
         ensures step { Step P.cmp W.is_clone self.old.state (Call.TrySend msg priority) (Answer.TrySend result.0) result.1 self.new.state }
         ensures closed { self.old.state.is_closed ≡ true → result.0 ≡ Err (TrySendError.Closed (msg, priority)) }
         ensures full { self.old.state.is_closed ≡ false → length self.old.state.pending ≡ self.old.state.capacity → result.0 ≡ Err (TrySendError.Full (msg, priority)) }
@@ -131,13 +135,22 @@ impl<T, P: Ord, W: Clone, A: Allocator + Copy> PriorityQueueChannel<T, P, W, A> 
     {
         let (is_closed, count) = self.length.load();
         if is_closed {
-            return (Err(TrySendError::Closed((msg, priority))), Wakes::nobody(self.alloc));
+            return (
+                Err(TrySendError::Closed((msg, priority))),
+                Wakes::nobody(self.alloc),
+            );
         }
         if count >= self.capacity {
-            return (Err(TrySendError::Full((msg, priority))), Wakes::nobody(self.alloc));
+            return (
+                Err(TrySendError::Full((msg, priority))),
+                Wakes::nobody(self.alloc),
+            );
         }
         if !prepare(&mut self.bag) {
-            return (Err(TrySendError::Memory((msg, priority))), Wakes::nobody(self.alloc));
+            return (
+                Err(TrySendError::Memory((msg, priority))),
+                Wakes::nobody(self.alloc),
+            );
         }
         self.bag.push(msg, priority);
         let (_, wakes) = self.length.incr(1);

@@ -40,14 +40,14 @@ impl<T> TrySendError<T> {
         }
     }
 
-    /// Whether the channel was full. A send that found room, but no memory, did not find it full.
+    /// Whether the channel was full, rather than closed or out of memory.
     pub fn is_full(&self) -> bool
         ensures { IsTrue result ↔ (self.now ≡ TrySendError.Full (refused self.now)) }
     {
         matches!(self, TrySendError::Full(_))
     }
 
-    /// Whether the channel was closed, so that it takes nothing more.
+    /// Whether the channel was closed, so that it takes nothing any more.
     pub fn is_closed(&self) -> bool
         ensures { IsTrue result ↔ (self.now ≡ TrySendError.Closed (refused self.now)) }
     {
@@ -134,8 +134,7 @@ impl<T> SendError<T> {
     pub fn into_inner(self) -> T
         ensures { result ≡ self.0 }
     {
-        let SendError(held) = self;
-        held
+        self.0
     }
 }
 
@@ -188,8 +187,7 @@ impl<T> SendFault<T> {
         ensures { result ≡ unsent self }
     {
         match self {
-            SendFault::Closed(error) => error.into_inner(),
-            SendFault::Memory(held) => held,
+            SendFault::Closed(SendError(held)) | SendFault::Memory(held) => held,
         }
     }
 }

@@ -27,7 +27,11 @@ fn hands_out_nobody<A: Allocator>(wakes: Wakes<u64, A>) -> bool {
 }
 
 /// Sends where nobody waits.
-fn send<T: Drop, A: Allocator + Copy>(core: &mut Core<T, A>, msg: T, priority: u64) -> Result<(), TrySendError<(T, u64)>> {
+fn send<T: Drop, A: Allocator + Copy>(
+    core: &mut Core<T, A>,
+    msg: T,
+    priority: u64,
+) -> Result<(), TrySendError<(T, u64)>> {
     let (reply, wakes) = core.try_send(msg, priority);
     hands_out_nobody(wakes);
     reply

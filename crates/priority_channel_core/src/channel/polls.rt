@@ -38,7 +38,11 @@ impl<T, P: Ord, W: Clone, A: Allocator + Copy> PriorityQueueChannel<T, P, W, A> 
         }
     }
 
-    fn wait_for_message(&mut self, ticket: Option<u64>, waker: &W) -> CorePoll<Result<(T, P), RecvFault>, ()>
+    fn wait_for_message(
+        &mut self,
+        ticket: Option<u64>,
+        waker: &W,
+    ) -> CorePoll<Result<(T, P), RecvFault>, ()>
         requires empty { self.old.state.pending ≡ [] }
         requires opened { self.old.state.is_closed ≡ false }
         ensures step { Step P.cmp W.is_clone self.old.state (Call.PollRecv ticket waker.now) (Answer.PollRecv result) nobody self.new.state }
@@ -55,7 +59,11 @@ impl<T, P: Ord, W: Clone, A: Allocator + Copy> PriorityQueueChannel<T, P, W, A> 
     ///
     /// A ready answer leaves the given ticket in neither waiting list. `Memory` is answered where the channel is open
     /// and empty and the clone of the waker, its place or the ticket's number was refused.
-    pub fn poll_recv(&mut self, ticket: Option<u64>, waker: &W) -> (CorePoll<Result<(T, P), RecvFault>, ()>, Wakes<W, A>)
+    pub fn poll_recv(
+        &mut self,
+        ticket: Option<u64>,
+        waker: &W,
+    ) -> (CorePoll<Result<(T, P), RecvFault>, ()>, Wakes<W, A>)
         ensures step { Step P.cmp W.is_clone self.old.state (Call.PollRecv ticket waker.now) (Answer.PollRecv result.0) result.1 self.new.state }
         ensures cost { ComparesAtMost (2 * digits (length self.old.state.pending)) (search_bound self.old.state) self.old self.new }
     {
@@ -73,7 +81,12 @@ impl<T, P: Ord, W: Clone, A: Allocator + Copy> PriorityQueueChannel<T, P, W, A> 
         }
     }
 
-    fn wait_for_room<K>(&mut self, kept: K, ticket: Option<u64>, waker: &W) -> CorePoll<Result<(), SendFault<K>>, K>
+    fn wait_for_room<K>(
+        &mut self,
+        kept: K,
+        ticket: Option<u64>,
+        waker: &W,
+    ) -> CorePoll<Result<(), SendFault<K>>, K>
         requires full { room self.old.state ≡ 0 }
         requires opened { self.old.state.is_closed ≡ false }
         ensures waits { KeepsWaiting W.is_clone ticket waker.now kept self.old.state result self.new.state }
@@ -88,7 +101,13 @@ impl<T, P: Ord, W: Clone, A: Allocator + Copy> PriorityQueueChannel<T, P, W, A> 
 
     /// Sends a pair, or waits for room under the answered ticket and hands the pair back for the next poll. Tickets
     /// and wakers are treated as by `poll_recv`.
-    pub fn poll_send(&mut self, msg: T, priority: P, ticket: Option<u64>, waker: &W) -> (CorePoll<Result<(), SendFault<(T, P)>>, (T, P)>, Wakes<W, A>)
+    pub fn poll_send(
+        &mut self,
+        msg: T,
+        priority: P,
+        ticket: Option<u64>,
+        waker: &W,
+    ) -> (CorePoll<Result<(), SendFault<(T, P)>>, (T, P)>, Wakes<W, A>)
         ensures step { Step P.cmp W.is_clone self.old.state (Call.PollSend msg priority ticket waker.now) (Answer.PollSend result.0) result.1 self.new.state }
         ensures cost { ComparesAtMost (digits (length self.new.state.pending)) (search_bound self.old.state) self.old self.new }
     {
@@ -100,7 +119,10 @@ impl<T, P: Ord, W: Clone, A: Allocator + Copy> PriorityQueueChannel<T, P, W, A> 
             }
             Err(TrySendError::Closed(pair)) => {
                 self.give_up_given(ticket);
-                (CorePoll::Ready(Err(SendFault::Closed(SendError(pair)))), wakes)
+                (
+                    CorePoll::Ready(Err(SendFault::Closed(SendError(pair)))),
+                    wakes,
+                )
             }
             Err(TrySendError::Memory(pair)) => {
                 self.give_up_given(ticket);
@@ -123,7 +145,10 @@ impl<T: Drop, P: Ord + Drop, W: Clone, A: Allocator + Copy> PriorityQueueChannel
         msgs: Peekable<I>,
         ticket: Option<u64>,
         waker: &W,
-    ) -> (CorePoll<Result<(), SendFault<Peekable<I>>>, Peekable<I>>, Wakes<W, A>)
+    ) -> (
+        CorePoll<Result<(), SendFault<Peekable<I>>>, Peekable<I>>,
+        Wakes<W, A>,
+    )
         requires { peekable_can I.can_next msgs }
         ensures step { Performs (HasList I.next_gives) P.cmp W.is_clone self.old.state (Call.PollSendv msgs ticket waker.now) (Answer.PollSendv result.0) result.1 self.new.state }
         ensures callable { IfSome (kept_by result.0) (peekable_can I.can_next) }
@@ -141,7 +166,10 @@ impl<T: Drop, P: Ord + Drop, W: Clone, A: Allocator + Copy> PriorityQueueChannel
             }
             Err(TrySendError::Closed(rest)) => {
                 self.give_up_given(ticket);
-                (CorePoll::Ready(Err(SendFault::Closed(SendError(rest)))), wakes)
+                (
+                    CorePoll::Ready(Err(SendFault::Closed(SendError(rest)))),
+                    wakes,
+                )
             }
             Err(TrySendError::Memory(rest)) => {
                 self.give_up_given(ticket);

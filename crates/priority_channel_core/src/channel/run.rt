@@ -80,7 +80,10 @@ impl<T: Drop, P: Ord + Drop, W: Clone, A: Allocator + Copy> PriorityQueueChannel
         Ran { done, left: calls }
     }
 
-    fn make<I: Iterator<Item = (T, P)>>(&mut self, call: Call<T, P, W, Peekable<I>>) -> Done<T, P, W, Peekable<I>, A>
+    fn make<I: Iterator<Item = (T, P)>>(
+        &mut self,
+        call: Call<T, P, W, Peekable<I>>,
+    ) -> Done<T, P, W, Peekable<I>, A>
         requires allowed { IsAllowed self.old.state call }
         requires callable { MayCall (peekable_can I.can_next) call }
         ensures step { Performs (HasList I.next_gives) P.cmp W.is_clone self.old.state call result.answer result.handed self.new.state }
@@ -103,15 +106,33 @@ impl<T: Drop, P: Ord + Drop, W: Clone, A: Allocator + Copy> PriorityQueueChannel
                 let (was_open, wakes) = self.close();
                 Done::new(Answer::Close(was_open), wakes)
             }
-            Call::IsClosed => Done::new(Answer::IsClosed(self.is_closed()), Wakes::nobody(self.alloc)),
+            Call::IsClosed => Done::new(
+                Answer::IsClosed(self.is_closed()),
+                Wakes::nobody(self.alloc),
+            ),
             Call::IsEmpty => Done::new(Answer::IsEmpty(self.is_empty()), Wakes::nobody(self.alloc)),
             Call::IsFull => Done::new(Answer::IsFull(self.is_full()), Wakes::nobody(self.alloc)),
             Call::Len => Done::new(Answer::Len(self.len()), Wakes::nobody(self.alloc)),
-            Call::Capacity => Done::new(Answer::Capacity(self.capacity()), Wakes::nobody(self.alloc)),
-            Call::SenderCount => Done::new(Answer::SenderCount(self.sender_count()), Wakes::nobody(self.alloc)),
-            Call::ReceiverCount => Done::new(Answer::ReceiverCount(self.receiver_count()), Wakes::nobody(self.alloc)),
-            Call::CloneSender => Done::new(Answer::CloneSender(self.clone_sender()), Wakes::nobody(self.alloc)),
-            Call::CloneReceiver => Done::new(Answer::CloneReceiver(self.clone_receiver()), Wakes::nobody(self.alloc)),
+            Call::Capacity => Done::new(
+                Answer::Capacity(self.capacity()),
+                Wakes::nobody(self.alloc),
+            ),
+            Call::SenderCount => Done::new(
+                Answer::SenderCount(self.sender_count()),
+                Wakes::nobody(self.alloc),
+            ),
+            Call::ReceiverCount => Done::new(
+                Answer::ReceiverCount(self.receiver_count()),
+                Wakes::nobody(self.alloc),
+            ),
+            Call::CloneSender => Done::new(
+                Answer::CloneSender(self.clone_sender()),
+                Wakes::nobody(self.alloc),
+            ),
+            Call::CloneReceiver => Done::new(
+                Answer::CloneReceiver(self.clone_receiver()),
+                Wakes::nobody(self.alloc),
+            ),
             Call::DropSender => Done::new(Answer::DropSender, self.drop_sender()),
             Call::DropReceiver => Done::new(Answer::DropReceiver, self.drop_receiver()),
             Call::PollSend(msg, priority, ticket, waker) => {

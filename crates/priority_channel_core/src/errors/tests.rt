@@ -6,7 +6,7 @@ use std::test::Fail;
 #[derive(Drop)]
 struct Opaque;
 
-// A message that cannot even be dropped.
+// A message that cannot be dropped either.
 struct Parcel;
 
 // What `{}` and `{:?}` print of an error.

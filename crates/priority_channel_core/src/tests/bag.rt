@@ -97,7 +97,11 @@ fn compares_seldom_at_each_length(rt: HostRuntime) -> Result<(), AllocError> {
         let Some((_, priority)) = bag.pop() else {
             break;
         };
-        assert!(rt; count.get() <= digits_of(1024 - i).wrapping_mul(2), "a pop from {}", 1024 - i);
+        assert!(rt;
+            count.get() <= digits_of(1024 - i).wrapping_mul(2),
+            "a pop from {}",
+            1024 - i
+        );
         assert!(rt; priority.value <= last);
         last = priority.value;
     }

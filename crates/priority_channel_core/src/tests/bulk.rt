@@ -21,7 +21,10 @@ fn sendv<T: Drop>(core: &mut Core<T>, msgs: Vec<(T, u64)>) -> Result<(), TrySend
 #[test]
 fn sends_as_far_as_there_is_room(rt: HostRuntime) -> Result<(), AllocError> {
     let mut core: Core<&str> = Core::bounded(rt.alloc(), 10);
-    assert_eq!(rt; sendv(&mut core, vec![in rt.alloc(); ("a", 0), ("b", 1)]?), Ok(()));
+    assert_eq!(rt;
+        sendv(&mut core, vec![in rt.alloc(); ("a", 0), ("b", 1)]?),
+        Ok(())
+    );
     assert_eq!(rt; receive(&mut core), Ok(("b", 1)));
     assert_eq!(rt; receive(&mut core), Ok(("a", 0)));
     let mut many = Vec::new(rt.alloc());
@@ -37,7 +40,10 @@ fn sends_nothing_into_a_closed_channel(rt: HostRuntime) -> Result<(), AllocError
     let mut core: Core<&str> = Core::bounded(rt.alloc(), 10);
     assert!(rt; !core.is_closed());
     assert!(rt; close(&mut core));
-    assert_eq!(rt; sendv(&mut core, vec![in rt.alloc(); ("a", 0), ("b", 1)]?), Err(TrySendError::Closed(2)));
+    assert_eq!(rt;
+        sendv(&mut core, vec![in rt.alloc(); ("a", 0), ("b", 1)]?),
+        Err(TrySendError::Closed(2))
+    );
     assert_eq!(rt; core.len(), 0);
     Ok(())
 }
@@ -45,7 +51,10 @@ fn sends_nothing_into_a_closed_channel(rt: HostRuntime) -> Result<(), AllocError
 #[test]
 fn just_filling_is_no_refusal(rt: HostRuntime) -> Result<(), AllocError> {
     let mut core: Core<&str> = Core::bounded(rt.alloc(), 2);
-    assert_eq!(rt; sendv(&mut core, vec![in rt.alloc(); ("a", 0), ("b", 1)]?), Ok(()));
+    assert_eq!(rt;
+        sendv(&mut core, vec![in rt.alloc(); ("a", 0), ("b", 1)]?),
+        Ok(())
+    );
     assert!(rt; core.is_full());
     Ok(())
 }
@@ -55,9 +64,15 @@ fn an_empty_list_is_refused_where_a_pair_would_be(rt: HostRuntime) {
     let mut core: Core<&str> = Core::bounded(rt.alloc(), 1);
     assert_eq!(rt; sendv(&mut core, Vec::new(rt.alloc())), Ok(()));
     assert_eq!(rt; send(&mut core, "x", 5), Ok(()));
-    assert_eq!(rt; sendv(&mut core, Vec::new(rt.alloc())), Err(TrySendError::Full(0)));
+    assert_eq!(rt;
+        sendv(&mut core, Vec::new(rt.alloc())),
+        Err(TrySendError::Full(0))
+    );
     assert!(rt; close(&mut core));
-    assert_eq!(rt; sendv(&mut core, Vec::new(rt.alloc())), Err(TrySendError::Closed(0)));
+    assert_eq!(rt;
+        sendv(&mut core, Vec::new(rt.alloc())),
+        Err(TrySendError::Closed(0))
+    );
     assert!(rt; !close(&mut core));
 }
 

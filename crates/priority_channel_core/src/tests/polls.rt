@@ -22,7 +22,12 @@ fn keeps_the_newest_waker(rt: HostRuntime) {
     let (room, message) = wakes.into_lists();
     assert!(rt; room.is_empty());
     assert_eq!(rt; message.as_slice(), [(0, 2)].as_slice());
-    assert!(rt; matches!(poll_recv(&mut core, Some(0), 2).0, CorePoll::Ready(Ok((7, 1)))));
+    assert!(rt;
+        matches!(
+            poll_recv(&mut core, Some(0), 2).0,
+            CorePoll::Ready(Ok((7, 1)))
+        )
+    );
 }
 
 #[test]
@@ -64,7 +69,12 @@ fn closing_hands_out_everybody(rt: HostRuntime) {
     let (room, message) = wakes.into_lists();
     assert!(rt; room.is_empty());
     assert_eq!(rt; message.as_slice(), [(0, 1), (1, 2)].as_slice());
-    assert!(rt; matches!(poll_recv(&mut core, Some(0), 1).0, CorePoll::Ready(Err(RecvFault::Closed(RecvError)))));
+    assert!(rt;
+        matches!(
+            poll_recv(&mut core, Some(0), 1).0,
+            CorePoll::Ready(Err(RecvFault::Closed(RecvError)))
+        )
+    );
     assert!(rt; !close(&mut core));
 }
 
@@ -85,7 +95,8 @@ impl Clone for Refusable {
 
 #[test]
 fn a_refused_waker_waits_no_more(rt: HostRuntime) {
-    let mut core: crate::channel::PriorityQueueChannel<u64, u64, Refusable> = crate::channel::PriorityQueueChannel::bounded(rt.alloc(), 1);
+    let mut core: crate::channel::PriorityQueueChannel<u64, u64, Refusable> =
+        crate::channel::PriorityQueueChannel::bounded(rt.alloc(), 1);
     for (is_refused, ticket) in [(false, None), (true, Some(0))] {
         let (poll, wakes) = core.poll_recv(ticket, &Refusable { is_refused });
         let (_room, _message) = wakes.into_lists();
@@ -120,7 +131,9 @@ fn an_empty_bulk_send_hands_out_nobody(rt: HostRuntime) {
 fn many_wait_and_some_give_up(rt: HostRuntime) {
     let mut core: Core<u64> = Core::bounded(rt.alloc(), 1);
     for ticket in 0..5u64 {
-        assert!(rt; matches!(poll_recv(&mut core, None, 1).0, CorePoll::Pending((), given) if given == ticket));
+        assert!(rt;
+            matches!(poll_recv(&mut core, None, 1).0, CorePoll::Pending((), given) if given == ticket)
+        );
     }
     core.give_up(2);
     core.give_up(2);
@@ -128,7 +141,10 @@ fn many_wait_and_some_give_up(rt: HostRuntime) {
     let (reply, wakes) = core.try_send(7, 1);
     assert!(rt; reply.is_ok());
     let (_, message) = wakes.into_lists();
-    assert_eq!(rt; message.as_slice(), [(0, 1), (1, 1), (3, 2), (4, 1)].as_slice());
+    assert_eq!(rt;
+        message.as_slice(),
+        [(0, 1), (1, 1), (3, 2), (4, 1)].as_slice()
+    );
 }
 
 #[test]

@@ -22,9 +22,14 @@ fn a_reserved_channel_needs_no_memory(rt: HostRuntime) -> Result<(), AllocError>
 fn reserving_may_be_refused(rt: HostRuntime) {
     let alloc = Refusing::new(rt.alloc());
     alloc.refuse_all();
-    let refused: Result<Core<u64, &Refusing<Global>>, AllocError> = Core::bounded_reserved(&alloc, 2);
+    let refused: Result<Core<u64, &Refusing<Global>>, AllocError> = Core::bounded_reserved(
+        &alloc, 2,
+    );
     assert!(rt; refused.is_err());
-    let too_large: Result<Core<u64>, AllocError> = Core::bounded_reserved(rt.alloc(), 9223372036854775807);
+    let too_large: Result<Core<u64>, AllocError> = Core::bounded_reserved(
+        rt.alloc(),
+        9223372036854775807,
+    );
     assert!(rt; too_large.is_err());
 }
 
@@ -77,7 +82,10 @@ fn send_many<A: Allocator + Copy>(alloc: A) -> (u64, bool) {
         }
         came_out = came_out.wrapping_add(1);
     }
-    (accepted, came_out == accepted && accepted.wrapping_add(came_back) == 20)
+    (
+        accepted,
+        came_out == accepted && accepted.wrapping_add(came_back) == 20,
+    )
 }
 
 #[test]

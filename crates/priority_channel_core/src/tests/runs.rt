@@ -23,7 +23,9 @@ impl Row {
             (Row::InOrder, 1, Answer::TryRecv(reply)) => reply == Ok((1, 5)),
             (Row::InOrder, 2, Answer::TryRecv(reply)) => reply == Err(TryRecvError::Empty),
             (Row::InOrder, 3, Answer::Close(was_open)) => was_open,
-            (Row::WithDrops, 0, Answer::TrySendv(Err(TrySendError::Full(mut rest)))) => rest.next() == Some((3, 5)) && rest.next().is_none(),
+            (Row::WithDrops, 0, Answer::TrySendv(Err(TrySendError::Full(mut rest)))) => rest.next()
+                == Some((3, 5))
+                && rest.next().is_none(),
             (Row::WithDrops, 1, Answer::CloneSender(done)) => done,
             (Row::WithDrops, 2 | 3, Answer::DropSender) => true,
             (Row::WithDrops, 4, Answer::IsClosed(told)) => told,
@@ -59,8 +61,12 @@ fn right_answers<A: Allocator>(
 #[test]
 fn makes_each_call_in_order(rt: HostRuntime) -> Result<(), AllocError> {
     let mut core: Core<u64> = Core::bounded_reserved(rt.alloc(), 2)?;
-    let calls: Vec<Call<u64, u64, u64, Pairs>> =
-        vec![in rt.alloc(); Call::TrySend(1, 5), Call::TryRecv, Call::TryRecv, Call::Close]?;
+    let calls: Vec<Call<u64, u64, u64, Pairs>> = vec![in rt.alloc();
+        Call::TrySend(1, 5),
+        Call::TryRecv,
+        Call::TryRecv,
+        Call::Close,
+    ]?;
     let Ran { done, left } = core.run(calls);
     assert!(rt; left.is_empty());
     assert_eq!(rt; done.len(), 4);

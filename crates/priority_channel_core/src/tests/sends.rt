@@ -57,7 +57,8 @@ fn a_closed_channel_takes_nothing(rt: HostRuntime) {
 fn refuses_the_second(mut core: Core<&str>) -> bool {
     let replies = (send(&mut core, "x", 5), send(&mut core, "y", 9));
     let received = (receive(&mut core), receive(&mut core));
-    replies == (Ok(()), Err(TrySendError::Full(("y", 9)))) && received == (Ok(("x", 5)), Err(TryRecvError::Empty))
+    replies == (Ok(()), Err(TrySendError::Full(("y", 9))))
+        && received == (Ok(("x", 5)), Err(TryRecvError::Empty))
 }
 
 #[test]
@@ -70,10 +71,16 @@ fn a_greater_priority_is_refused_all_the_same(rt: HostRuntime) -> Result<(), All
 #[test]
 fn tells_its_capacity(rt: HostRuntime) {
     for capacity in 1..10u64 {
-        assert_eq!(rt; Core::<()>::bounded(rt.alloc(), capacity).capacity(), Some(capacity));
+        assert_eq!(rt;
+            Core::<()>::bounded(rt.alloc(), capacity).capacity(),
+            Some(capacity)
+        );
     }
     assert_eq!(rt; Core::<()>::bounded(rt.alloc(), u64::MAX).capacity(), None);
-    assert_eq!(rt; Core::<()>::bounded(rt.alloc(), 1 << 63).capacity(), Some(9223372036854775808));
+    assert_eq!(rt;
+        Core::<()>::bounded(rt.alloc(), 1 << 63).capacity(),
+        Some(9223372036854775808)
+    );
     assert_eq!(rt; Core::<()>::unbounded(rt.alloc()).capacity(), None);
 }
 
@@ -129,7 +136,11 @@ struct Scanned {
 }
 
 impl Scanned {
-    fn try_send(&mut self, msg: u64, priority: u64) -> Result<Result<(), TrySendError<(u64, u64)>>, AllocError> {
+    fn try_send(
+        &mut self,
+        msg: u64,
+        priority: u64,
+    ) -> Result<Result<(), TrySendError<(u64, u64)>>, AllocError> {
         if self.pending.len() >= self.capacity {
             return Ok(Err(TrySendError::Full((msg, priority))));
         }
@@ -180,7 +191,9 @@ fn answers_as_a_scanned_list(rt: HostRuntime) -> Result<(), AllocError> {
 
 #[test]
 fn takes_any_ordered_priority(rt: HostRuntime) {
-    let mut core: PriorityQueueChannel<u64, Reverse<u64>, u64> = PriorityQueueChannel::unbounded(rt.alloc());
+    let mut core: PriorityQueueChannel<u64, Reverse<u64>, u64> = PriorityQueueChannel::unbounded(
+        rt.alloc(),
+    );
     for i in [1u64, 3, 2] {
         let (reply, wakes) = core.try_send(i, Reverse(i));
         assert!(rt; hands_out_nobody(wakes) && reply.is_ok());
@@ -194,7 +207,9 @@ fn takes_any_ordered_priority(rt: HostRuntime) {
 
 #[test]
 fn takes_pairs_as_priorities(rt: HostRuntime) {
-    let mut core: PriorityQueueChannel<&str, (u64, &str), u64> = PriorityQueueChannel::unbounded(rt.alloc());
+    let mut core: PriorityQueueChannel<&str, (u64, &str), u64> = PriorityQueueChannel::unbounded(
+        rt.alloc(),
+    );
     for (msg, priority) in [("a", (1, "x")), ("b", (1, "y")), ("c", (0, "z"))] {
         let (reply, wakes) = core.try_send(msg, priority);
         assert!(rt; hands_out_nobody(wakes) && reply.is_ok());

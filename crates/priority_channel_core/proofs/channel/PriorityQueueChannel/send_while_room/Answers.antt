@@ -1,4 +1,4 @@
-use Rattle.std.proofs.Common.{◌≡◌, ℕ, ◌<◌, ◌⊎◌, ◌+◌, ◌-◌, ◌≤◌, ◌^◌, false, length, arith, rules}
+use Rattle.std.proofs.Common.{◌≡◌, ℕ, ◌<◌, ◌⊎◌, ◌+◌, ◌-◌, ◌≤◌, ◌^◌, false, length, rules}
 use Rattle.priority_channel_core.specs.Front.{sent_before}
 use Rattle.priority_channel_core.proofs.ChannelLemmas.{sound_adds, refused_in_channel}
 use Rattle.priority_channel_core.proofs.FrontLemmas.{sent_within, stops_for}

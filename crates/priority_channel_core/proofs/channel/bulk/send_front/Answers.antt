@@ -1,7 +1,7 @@
-use Rattle.std.proofs.Common.{◌+◌, [], ◌∷◌, length, length-append, ap, arith, rules}
+use Rattle.std.proofs.Common.{[], ◌∷◌, length, length-append, ap, arith, rules}
 use Rattle.priority_channel_core.specs.Bag.{Contents}
 use Rattle.priority_channel_core.proofs.DigitsLemmas.{push_costs}
-use Rattle.priority_channel_core.proofs.FrontLemmas.{moved_none, moved_peeked, moved_more, more_left, none_left}
+use Rattle.priority_channel_core.proofs.FrontLemmas.{moved_more}
 use Rattle.priority_channel_core.proofs.channel.bulk.send_front.Goals as goal
 
 pub loop-sent-preserved : goal.loop-sent-preserved

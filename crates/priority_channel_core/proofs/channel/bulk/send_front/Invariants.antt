@@ -1,4 +1,4 @@
-use Rattle.std.proofs.Common.{◌≡◌, ℕ, ◌+◌, ◌*◌, ◌<◌, ◌≤◌, ◌^◌, length}
+use Rattle.std.proofs.Common.{◌≡◌, ◌+◌, ◌*◌, ◌<◌, ◌≤◌, ◌^◌, length}
 use Rattle.std.specs.Iterator.Adapters.{peekable_can}
 use Rattle.priority_channel_core.specs.Digits.{digits}
 use Rattle.priority_channel_core.specs.Front.{MovesFront}
