@@ -12,6 +12,4 @@ pub mod errors;
 pub mod item;
 pub mod laws;
 mod sift;
-#[cfg(test)]
-mod tests;
 mod waiting_list;

@@ -1,6 +1,6 @@
-use crate::channel::PriorityQueueChannel;
-use crate::errors::{TryRecvError, TrySendError};
 use crate::tests::{Core, close, hands_out_nobody, receive, send};
+use priority_channel_core::channel::PriorityQueueChannel;
+use priority_channel_core::errors::{TryRecvError, TrySendError};
 use std::alloc::AllocError;
 use std::cmp::Reverse;
 

@@ -1,4 +1,4 @@
-use crate::bag::Bag;
+use priority_channel_core::bag::Bag;
 use refusing::Refusing;
 use std::alloc::{AllocError, Allocator};
 use std::cell::Cell;

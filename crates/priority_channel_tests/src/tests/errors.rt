@@ -1,5 +1,9 @@
-use super::*;
+use priority_channel_core::errors::{
+    RecvError, RecvFault, SendError, SendFault, TryRecvError, TrySendError,
+};
 use std::alloc::{AllocError, Global};
+use std::error::Error;
+use std::fmt::Display;
 use std::test::Fail;
 
 // A message that can be neither printed nor compared.

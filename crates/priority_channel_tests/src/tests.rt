@@ -1,13 +1,12 @@
-//! What no contract says: the worked examples, the program that the heap is compared with, and refused memory.
-//!
-//! Here a waker is a number.
-use crate::awaitable_atomics::Wakes;
-use crate::channel::PriorityQueueChannel;
-use crate::errors::{TryRecvError, TrySendError};
+//! What the tests share: calls whose wakes are spent at once.
+use priority_channel_core::awaitable_atomics::Wakes;
+use priority_channel_core::channel::PriorityQueueChannel;
+use priority_channel_core::errors::{TryRecvError, TrySendError};
 use std::alloc::{Allocator, Global};
 
 mod bag;
 mod bulk;
+mod errors;
 mod handles;
 mod polls;
 mod refused;
@@ -16,10 +15,6 @@ mod sends;
 mod word;
 
 type Core<T, A = Global> = PriorityQueueChannel<T, u64, u64, A>;
-
-/// Whom a call handed out: the tickets of those who waited for room, and of those who waited for a message, each with
-/// its waker.
-type Lists<A> = (Vec<(u64, u64), A>, Vec<(u64, u64), A>);
 
 fn hands_out_nobody<A: Allocator>(wakes: Wakes<u64, A>) -> bool {
     let (room, message) = wakes.into_lists();

@@ -1,7 +1,7 @@
 ghost use Rattle.std.specs.Iterator.Adapters.{peekable_can};
 
-use crate::errors::TrySendError;
 use crate::tests::{Core, close, hands_out_nobody, receive, send};
+use priority_channel_core::errors::TrySendError;
 use std::alloc::AllocError;
 use std::cell::Cell;
 use std::iter::{Peekable, once, repeat_n};

@@ -1,6 +1,6 @@
-use crate::calls::CorePoll;
-use crate::errors::{RecvError, RecvFault, SendFault};
 use crate::tests::{Core, close, receive, send};
+use priority_channel_core::calls::CorePoll;
+use priority_channel_core::errors::{RecvError, RecvFault, SendFault};
 use std::alloc::AllocError;
 
 type Received = CorePoll<Result<(u64, u64), RecvFault>, ()>;
@@ -95,8 +95,8 @@ impl Clone for Refusable {
 
 #[test]
 fn a_refused_waker_waits_no_more(rt: HostRuntime) {
-    let mut core: crate::channel::PriorityQueueChannel<u64, u64, Refusable> =
-        crate::channel::PriorityQueueChannel::bounded(rt.alloc(), 1);
+    let mut core: priority_channel_core::channel::PriorityQueueChannel<u64, u64, Refusable> =
+        priority_channel_core::channel::PriorityQueueChannel::bounded(rt.alloc(), 1);
     for (is_refused, ticket) in [(false, None), (true, Some(0))] {
         let (poll, wakes) = core.poll_recv(ticket, &Refusable { is_refused });
         let (_room, _message) = wakes.into_lists();

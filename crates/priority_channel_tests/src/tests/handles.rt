@@ -1,5 +1,5 @@
-use crate::errors::{TryRecvError, TrySendError};
 use crate::tests::{Core, hands_out_nobody, receive, send};
+use priority_channel_core::errors::{TryRecvError, TrySendError};
 use std::alloc::AllocError;
 
 fn drop_sender<T: Drop>(core: &mut Core<T>) {

@@ -1,7 +1,7 @@
-use crate::calls::{Answer, Call};
-use crate::channel::run::{Done, Ran};
-use crate::errors::{TryRecvError, TrySendError};
 use crate::tests::Core;
+use priority_channel_core::calls::{Answer, Call};
+use priority_channel_core::channel::run::{Done, Ran};
+use priority_channel_core::errors::{TryRecvError, TrySendError};
 use refusing::Refusing;
 use std::alloc::{AllocError, Allocator};
 use std::array::IntoIter;

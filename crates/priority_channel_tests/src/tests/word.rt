@@ -1,6 +1,6 @@
-use crate::awaitable_atomics::AwaitableAtomicCounterAndBit;
-use crate::comparisons::Comparisons;
 use crate::tests::hands_out_nobody;
+use priority_channel_core::awaitable_atomics::AwaitableAtomicCounterAndBit;
+use priority_channel_core::comparisons::Comparisons;
 
 type Word = AwaitableAtomicCounterAndBit<u64>;
 

@@ -1,5 +1,5 @@
-use crate::errors::{TryRecvError, TrySendError};
 use crate::tests::{Core, close, hands_out_nobody, receive, send};
+use priority_channel_core::errors::{TryRecvError, TrySendError};
 use refusing::Refusing;
 use std::alloc::{AllocError, Allocator, Global};
 
