@@ -1,0 +1,4 @@
+pub mod Accepted
+pub mod Alike
+pub mod World
+pub mod WaitingLaw

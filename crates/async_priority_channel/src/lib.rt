@@ -1,0 +1,4 @@
+//! A priority channel for many parties.
+#![tactic(auto)]
+
+pub mod laws;
