@@ -2,8 +2,9 @@
 use Rattle.std.proofs.Common.{◌≡◌, ℕ, ◌⊎◌, Bool, true, false, refl, sym, inl, inr}
 use Rattle.std.specs.Prelude.{Some, if◌then◌else◌}
 use Rattle.priority_channel_core.specs.State.{Handed}
-use Rattle.async_priority_channel.specs.World.{Standing, ticket_of, is_handed, called}
-use Rattle.async_priority_channel.specs.World.Standing.{New, Waiting, Called, Done}
+use Rattle.async_priority_channel.specs.Future.{Standing, ticket_of}
+use Rattle.async_priority_channel.specs.World.{is_handed, called}
+use Rattle.async_priority_channel.specs.Future.Standing.{New, Waiting, Called, Done}
 
 -- a called standing keeps its ticket
 pub called-ticket : {W : Type 0} (handed : Handed W) (s : Standing W) → ticket_of (called handed s) ≡ ticket_of s

@@ -9,8 +9,9 @@ use Rattle.async_priority_channel.specs.WaitingLaw.{waker_of}
 use Rattle.priority_channel_core.specs.Good.{IsGood}
 use Rattle.priority_channel_core.specs.Polls.{unlisted}
 use Rattle.priority_channel_core.specs.Step.{Step, Answers}
-use Rattle.async_priority_channel.specs.World.{Task, Standing, Future, World, Event, ticket_of, called, call_out, poll_of, polled, PollsFuture, GivesUpTicket, Happens, Leads, IsOpening}
-use Rattle.async_priority_channel.specs.World.Standing.{New, Waiting, Called, Done}
+use Rattle.async_priority_channel.specs.Future.{Tasks, Standing, Futures, ticket_of, poll_of, polled}
+use Rattle.async_priority_channel.specs.World.{World, Event, called, call_out, PollsFuture, GivesUpTicket, Happens, Leads, IsOpening}
+use Rattle.async_priority_channel.specs.Future.Standing.{New, Waiting, Called, Done}
 use Rattle.async_priority_channel.specs.World.Event.{Makes, Polls, GivesUp}
 use Rattle.async_priority_channel.specs.WaitingLaw.{waits_for_room, waiters_of, CanGoOn, NobodyIsForgotten, GivenOnce, CalledBy}
 use Rattle.async_priority_channel.proofs.Places.{mapped_at, at_mapped, changed_at}
@@ -52,8 +53,8 @@ module _ {T P W : Type 0} where
     passes_called old new handed h is = record {
       grows = let n = h.next in omega arith;
       held = λ i g t at has lt.
-          let m = mapped_at (λ (future : Future T P W). record { task = future.task; standing = called handed future.standing }) old.futures i g (ap (λ (fs : List (Future T P W)). slice_get fs i) (sym is) ∙ at) in
-          (m.0, m.1, sym (called-ticket handed m.0.standing) ∙ (ap (λ (x : Future T P W). ticket_of x.standing) m.2 ∙ has));
+          let m = mapped_at (λ (future : Futures T P W). record { task = future.task; standing = called handed future.standing }) old.futures i g (ap (λ (fs : List (Futures T P W)). slice_get fs i) (sym is) ∙ at) in
+          (m.0, m.1, sym (called-ticket handed m.0.standing) ∙ (ap (λ (x : Futures T P W). ticket_of x.standing) m.2 ∙ has));
     }
 
     passes_same : (old new : World T P W) → new ≡ old → Passes old new
@@ -69,7 +70,7 @@ module _ {T P W : Type 0} where
 
     -- one future is changed, after those who are handed out were called
     changed_world : (old new : World T P W) (mid : State T P W) (handed : Handed W) (h : Hands old.state mid handed) (k : IsKept old)
-        (i : ℕ) (f g : Future T P W) (at : slice_get old.futures i ≡ Some f)
+        (i : ℕ) (f g : Futures T P W) (at : slice_get old.futures i ≡ Some f)
         (at' : slice_get (call_out handed old.futures) i ≡ Some (record { task = f.task; standing = called handed f.standing }))
         (lists' : Bool → List (ℕ × W)) (next' : ℕ)
         → Changes is_clone (lists_of mid) mid.next_ticket (call_out handed old.futures) (called_world old mid handed h k) i (record { task = f.task; standing = called handed f.standing }) g at' lists' next'
@@ -81,14 +82,14 @@ module _ {T P W : Type 0} where
           record {
             grows = let n = h.next in let e = c.grows in omega arith;
             held = λ j u t there has lt.
-                elim (changed_at (call_out handed old.futures) i j g u (ap (λ (fs : List (Future T P W)). slice_get fs j) (sym futures) ∙ there)) [
-                  | inl s ↦ elim (c.ticket t (ap (λ (x : Future T P W). ticket_of x.standing) s.1 ∙ has)).1 [
+                elim (changed_at (call_out handed old.futures) i j g u (ap (λ (fs : List (Futures T P W)). slice_get fs j) (sym futures) ∙ there)) [
+                  | inl s ↦ elim (c.ticket t (ap (λ (x : Futures T P W). ticket_of x.standing) s.1 ∙ has)).1 [
                     | inl mine ↦ (f, ap (slice_get old.futures) (sym s.0) ∙ at, sym (called-ticket handed f.standing) ∙ mine)
                     | inr above ↦ let n = h.next in absurd (omega arith)
                   ]
                   | inr s ↦
-                      let m = mapped_at (λ (future : Future T P W). record { task = future.task; standing = called handed future.standing }) old.futures j u s.1 in
-                      (m.0, m.1, sym (called-ticket handed m.0.standing) ∙ (ap (λ (x : Future T P W). ticket_of x.standing) m.2 ∙ has))
+                      let m = mapped_at (λ (future : Futures T P W). record { task = future.task; standing = called handed future.standing }) old.futures j u s.1 in
+                      (m.0, m.1, sym (called-ticket handed m.0.standing) ∙ (ap (λ (x : Futures T P W). ticket_of x.standing) m.2 ∙ has))
                 ];
           },
         )
@@ -98,12 +99,12 @@ module _ {T P W : Type 0} where
     unlisted_lists given mid new is false = ap (λ (s : State T P W). s.message_waiters) is
 
     -- a poll of a future that is not done
-    live : (cmp : P → P → Ordering) (old new : World T P W) (which : ℕ) (waker : W) (f : Future T P W) (handed : Handed W) (reply : Answers T P)
+    live : (cmp : P → P → Ordering) (old new : World T P W) (which : ℕ) (waker : W) (f : Futures T P W) (handed : Handed W) (reply : Answers T P)
         → slice_get old.futures which ≡ Some f → Step cmp is_clone old.state (poll_of f.task (ticket_of f.standing) waker) reply handed new.state
         → new.futures ≡ set (call_out handed old.futures) which (polled f.task waker reply) → IsKept old → IsKept new × Passes old new
     live cmp old new which waker f handed reply at step futures k =
         let given = ticket_of f.standing in
-        let at' = at_mapped (λ (future : Future T P W). record { task = future.task; standing = called handed future.standing }) old.futures which f at in
+        let at' = at_mapped (λ (future : Futures T P W). record { task = future.task; standing = called handed future.standing }) old.futures which f at in
         let own : given ≡ ticket_of (called handed f.standing) = sym (called-ticket handed f.standing) in
         elim (poll_end cmp is_clone old.state new.state handed given waker f.task reply step.moves) [
           | inl e ↦
@@ -118,7 +119,7 @@ module _ {T P W : Type 0} where
               (λ side. refl) refl futures step.good
         ]
 
-    polls_kept : (cmp : P → P → Ordering) (old new : World T P W) (which : ℕ) (waker : W) (task : Task T P) (standing : Standing W) (handed : Handed W)
+    polls_kept : (cmp : P → P → Ordering) (old new : World T P W) (which : ℕ) (waker : W) (task : Tasks T P) (standing : Standing W) (handed : Handed W)
         → slice_get old.futures which ≡ Some (record { task = task; standing = standing })
         → PollsFuture cmp is_clone old which waker task standing handed new → IsKept old → IsKept new × Passes old new
     polls_kept cmp old new which waker task Done handed at h k = (rw h.1 k, passes_same old new h.1)
@@ -126,7 +127,7 @@ module _ {T P W : Type 0} where
     polls_kept cmp old new which waker task (Waiting t w) handed at h k = live cmp old new which waker _ handed h.0 at h.1 h.2 k
     polls_kept cmp old new which waker task (Called t w) handed at h k = live cmp old new which waker _ handed h.0 at h.1 h.2 k
 
-    call_out_nobody : (futures : List (Future T P W)) → call_out nobody futures ≡ futures
+    call_out_nobody : (futures : List (Futures T P W)) → call_out nobody futures ≡ futures
     call_out_nobody [] = refl
     call_out_nobody (f ∷ futures) =
         let e = called_nobody f.standing in let r = call_out_nobody futures in
@@ -137,15 +138,15 @@ module _ {T P W : Type 0} where
     gives_up_left cmp old new None good h = (rw h good, h)
     gives_up_left cmp old new (Some t) good h = (h.good, h.moves.1)
 
-    gives_up_kept : (cmp : P → P → Ordering) (old new : World T P W) (which : ℕ) (f : Future T P W) → slice_get old.futures which ≡ Some f
+    gives_up_kept : (cmp : P → P → Ordering) (old new : World T P W) (which : ℕ) (f : Futures T P W) → slice_get old.futures which ≡ Some f
         → GivesUpTicket cmp is_clone old.state (ticket_of f.standing) new.state → new.futures ≡ set old.futures which (record { task = f.task; standing = Done })
         → IsKept old → IsKept new × Passes old new
     gives_up_kept cmp old new which f at h futures k =
         let given = ticket_of f.standing in
         let handing : Hands old.state old.state nobody = record { room = inl (refl, refl); message = inl (refl, refl); next = refl } in
-        let at' = at_mapped (λ (future : Future T P W). record { task = future.task; standing = called nobody future.standing }) old.futures which f at in
+        let at' = at_mapped (λ (future : Futures T P W). record { task = future.task; standing = called nobody future.standing }) old.futures which f at in
         let own : given ≡ ticket_of (called nobody f.standing) = sym (called-ticket nobody f.standing) in
-        let g : Future T P W = record { task = f.task; standing = Done } in
+        let g : Futures T P W = record { task = f.task; standing = Done } in
         let left = gives_up_left cmp old.state new.state given k.good h in
         changed_world old new old.state nobody handing k which f g at at' _ _
         (ends is_clone (lists_of old.state) old.state.next_ticket (call_out nobody old.futures) (called_world old old.state nobody handing k) which _ g at' given own refl)
@@ -169,8 +170,8 @@ module _ {T P W : Type 0} where
 
     opening_kept : (world : World T P W) → IsOpening world → IsKept world
     opening_kept world o =
-        let fresh : (i : ℕ) (f : Future T P W) → slice_get world.futures i ≡ Some f → f.standing ≡ New = λ i f at.
-        ap (λ (x : Future T P W). x.standing) (sym (get_or_from_slice_get world.futures i f f at)) ∙ o.2 i f (slice_get_within world.futures i f at) in
+        let fresh : (i : ℕ) (f : Futures T P W) → slice_get world.futures i ≡ Some f → f.standing ≡ New = λ i f at.
+        ap (λ (x : Futures T P W). x.standing) (sym (get_or_from_slice_get world.futures i f f at)) ∙ o.2 i f (slice_get_within world.futures i f at) in
         record {
           good = o.0;
           keeps = record {
@@ -201,7 +202,7 @@ module _ {T P W : Type 0} where
         → Leads cmp is_clone opening events world → NobodyIsForgotten is_clone world
     nobody_is_forgotten cmp opening world events o h =
         let k = (leads_kept cmp opening world events h (opening_kept opening o)).0 in
-        let cannot : (i : ℕ) (f : Future T P W) (t : ℕ) (w : W) → slice_get world.futures i ≡ Some f → f.standing ≡ Waiting t w → CanGoOn world.state (waits_for_room f.task) → ⊥ =
+        let cannot : (i : ℕ) (f : Futures T P W) (t : ℕ) (w : W) → slice_get world.futures i ≡ Some f → f.standing ≡ Waiting t w → CanGoOn world.state (waits_for_room f.task) → ⊥ =
         λ i f t w at is can. let l = k.keeps.kept i f t w at is in cannot_go_on world.state (waits_for_room f.task) t l.0 k.good l.2 can in
         record {
           waiting_is_listed = k.keeps.kept;
@@ -224,15 +225,15 @@ module _ {T P W : Type 0} where
         (leads_kept cmp earlier later after k first).1.held
 
     -- the event's own future is not called
-    changed_called : (old new : World T P W) (mid : State T P W) (handed : Handed W) → Hands old.state mid handed → IsKept old → (i : ℕ) (g : Future T P W)
+    changed_called : (old new : World T P W) (mid : State T P W) (handed : Handed W) → Hands old.state mid handed → IsKept old → (i : ℕ) (g : Futures T P W)
         → ((t : ℕ) (w : W) → g.standing ≡ Called t w → ⊥) → new.futures ≡ set (call_out handed old.futures) i g → CalledBy is_clone old handed new
     changed_called old new mid handed h k i g not_called futures = λ j f t w at is.
-        elim (changed_at (call_out handed old.futures) i j g f (ap (λ (fs : List (Future T P W)). slice_get fs j) (sym futures) ∙ at)) [
-          | inl s ↦ absurd (not_called t w (ap (λ (x : Future T P W). x.standing) s.1 ∙ is))
+        elim (changed_at (call_out handed old.futures) i j g f (ap (λ (fs : List (Futures T P W)). slice_get fs j) (sym futures) ∙ at)) [
+          | inl s ↦ absurd (not_called t w (ap (λ (x : Futures T P W). x.standing) s.1 ∙ is))
           | inr s ↦ called_from is_clone (lists_of old.state) old.state.next_ticket old.futures k.keeps handed (lists_of mid) (stays_or_leaves old.state mid handed h) j f t w s.1 is
         ]
 
-    live_called : (cmp : P → P → Ordering) (old new : World T P W) (which : ℕ) (waker : W) (f : Future T P W) (handed : Handed W) (reply : Answers T P)
+    live_called : (cmp : P → P → Ordering) (old new : World T P W) (which : ℕ) (waker : W) (f : Futures T P W) (handed : Handed W) (reply : Answers T P)
         → Step cmp is_clone old.state (poll_of f.task (ticket_of f.standing) waker) reply handed new.state
         → new.futures ≡ set (call_out handed old.futures) which (polled f.task waker reply) → IsKept old → CalledBy is_clone old handed new
     live_called cmp old new which waker f handed reply step futures k =
@@ -241,7 +242,7 @@ module _ {T P W : Type 0} where
           | inr v ↦ changed_called old new v.mid handed v.handing k which (polled f.task waker reply) (λ t w is. let d = v.stands in absurd (cc)) futures
         ]
 
-    polls_called : (cmp : P → P → Ordering) (old new : World T P W) (which : ℕ) (waker : W) (task : Task T P) (standing : Standing W) (handed : Handed W)
+    polls_called : (cmp : P → P → Ordering) (old new : World T P W) (which : ℕ) (waker : W) (task : Tasks T P) (standing : Standing W) (handed : Handed W)
         → PollsFuture cmp is_clone old which waker task standing handed new → IsKept old → CalledBy is_clone old handed new
     polls_called cmp old new which waker task Done handed h k = λ j f t w at is.
         (f, ap (λ (world : World T P W). slice_get world.futures j) (sym h.1) ∙ at, inl is)
@@ -254,11 +255,11 @@ module _ {T P W : Type 0} where
     happens_called cmp old new (Makes made) handed h k = λ j f t w at is.
         let handing = hands old.state new.state handed cmp is_clone made h.1 h.0 h.2.moves in
         called_from is_clone (lists_of old.state) old.state.next_ticket old.futures k.keeps handed (lists_of new.state) (stays_or_leaves old.state new.state handed handing) j f t w
-        (ap (λ (fs : List (Future T P W)). slice_get fs j) (sym h.3) ∙ at) is
+        (ap (λ (fs : List (Futures T P W)). slice_get fs j) (sym h.3) ∙ at) is
     happens_called cmp old new (Polls which waker) handed h k = polls_called cmp old new which waker h.0.task h.0.standing handed h.2 k
     happens_called cmp old new (GivesUp which) handed h k = λ j f t w at is.
-        elim (changed_at old.futures which j (record { task = h.0.task; standing = Done }) f (ap (λ (fs : List (Future T P W)). slice_get fs j) (sym h.4) ∙ at)) [
-          | inl s ↦ let d : Done ≡ f.standing = ap (λ (x : Future T P W). x.standing) s.1 in absurd (cc)
+        elim (changed_at old.futures which j (record { task = h.0.task; standing = Done }) f (ap (λ (fs : List (Futures T P W)). slice_get fs j) (sym h.4) ∙ at)) [
+          | inl s ↦ let d : Done ≡ f.standing = ap (λ (x : Futures T P W). x.standing) s.1 in absurd (cc)
           | inr s ↦ (f, s.1, inl is)
         ]
 

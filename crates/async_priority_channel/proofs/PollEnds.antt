@@ -15,9 +15,9 @@ use Rattle.priority_channel_core.specs.Waiting.{listing}
 use Rattle.priority_channel_core.specs.Good.{IsGood}
 use Rattle.priority_channel_core.specs.Polls.{unlisted, WaitsForRoom, WaitsForMessage}
 use Rattle.priority_channel_core.specs.Step.{Moves, Answers}
-use Rattle.async_priority_channel.specs.World.{Task, Future, poll_of, polled}
-use Rattle.async_priority_channel.specs.World.Task.{Send, Sendv, Recv}
-use Rattle.async_priority_channel.specs.World.Standing.{Waiting, Done}
+use Rattle.async_priority_channel.specs.Future.{Tasks, Futures, poll_of, polled}
+use Rattle.async_priority_channel.specs.Future.Task.{Send, Sendv, Recv}
+use Rattle.async_priority_channel.specs.Future.Standing.{Waiting, Done}
 use Rattle.async_priority_channel.specs.WaitingLaw.{waits_for_room, waiters_of}
 use Rattle.async_priority_channel.proofs.Hands.{handed_of, StaysOrLeaves, Hands, hands_sends, hands_receives}
 
@@ -43,14 +43,14 @@ module _ {T P W : Type 0} where
       either false = good.tickets.message_given
 
   -- a poll that ends its future
-  pub record Ended (old : State T P W) (given : Option ℕ) (future : Future T P W) (handed : Handed W) (new : State T P W) : Type 0 where
+  pub record Ended (old : State T P W) (given : Option ℕ) (future : Futures T P W) (handed : Handed W) (new : State T P W) : Type 0 where
     pub mid : State T P W
     pub handing : Hands old mid handed
     pub left : new ≡ unlisted given mid
     pub done : future.standing ≡ Done
 
   -- a poll that leaves its future waiting
-  pub record Waits (is_clone : W → W → Type 0) (old : State T P W) (given : Option ℕ) (waker : W) (side : Bool) (future : Future T P W) (handed : Handed W) (new : State T P W) : Type 0 where
+  pub record Waits (is_clone : W → W → Type 0) (old : State T P W) (given : Option ℕ) (waker : W) (side : Bool) (future : Futures T P W) (handed : Handed W) (new : State T P W) : Type 0 where
     pub mid : State T P W
     pub handing : Hands old mid handed
     pub kept : W
@@ -61,7 +61,7 @@ module _ {T P W : Type 0} where
     pub goes_on : waits_for_room future.task ≡ side
     pub stands : future.standing ≡ Waiting (listing given kept (lists_of mid side) mid.next_ticket).ticket waker
 
-  for_room : (is_clone : W → W → Type 0) (old mid new : State T P W) (given : Option ℕ) (waker : W) (ticket : ℕ) (task : Task T P) (handed : Handed W)
+  for_room : (is_clone : W → W → Type 0) (old mid new : State T P W) (given : Option ℕ) (waker : W) (ticket : ℕ) (task : Tasks T P) (handed : Handed W)
       → waits_for_room task ≡ true → Hands old mid handed → WaitsForRoom is_clone given waker mid ticket new
       → Waits is_clone old given waker true (record { task = task; standing = Waiting ticket waker }) handed new
   for_room is_clone old mid new given waker ticket task handed side h w = record {
@@ -101,7 +101,7 @@ module _ {T P W : Type 0} where
 
   module _ (cmp : P → P → Ordering) (is_clone : W → W → Type 0) (old new : State T P W) (handed : Handed W) (given : Option ℕ) (waker : W) where
     -- each poll ends its future or leaves it waiting
-    pub poll_end : (task : Task T P) (reply : Answers T P) → Moves cmp is_clone old (poll_of task given waker) reply handed new
+    pub poll_end : (task : Tasks T P) (reply : Answers T P) → Moves cmp is_clone old (poll_of task given waker) reply handed new
         → Ended old given (polled task waker reply) handed new ⊎ Waits is_clone old given waker (waits_for_room task) (polled task waker reply) handed new
     poll_end (Send m p) (answer.PollSend (Ready (Ok done))) h =
         inl (record { mid = h.0; handing = hands_sends old h.0 handed ((m, p) ∷ []) (Ok done) h.1; left = h.2; done = refl })

@@ -6,8 +6,8 @@ use Rattle.std.proofs.lemmas.Bool.{ne_eqb}
 use Rattle.std.proofs.lemmas.Bool.Decides.{eqb_tells}
 use Rattle.priority_channel_core.specs.Waiting.{without_given, listing}
 use Rattle.async_priority_channel.specs.WaitingLaw.{waker_of}
-use Rattle.async_priority_channel.specs.World.{Future, ticket_of}
-use Rattle.async_priority_channel.specs.World.Standing.{Waiting, Done}
+use Rattle.async_priority_channel.specs.Future.{Futures, ticket_of}
+use Rattle.async_priority_channel.specs.Future.Standing.{Waiting, Done}
 use Rattle.async_priority_channel.specs.WaitingLaw.{waits_for_room}
 use Rattle.async_priority_channel.proofs.Places.{Some-same}
 use Rattle.async_priority_channel.proofs.Lookups.{put, waker_of-without, waker_of-listing, waker_of-listed, place}
@@ -34,7 +34,7 @@ same_side false true = inr (λ e. cc)
 same_side false false = inl refl
 
 module _ {T P W : Type 0} (is_clone : W → W → Type 0) where
-  pub Keeps-same : (lists lists' : Bool → List (ℕ × W)) (next next' : ℕ) (futures : List (Future T P W))
+  pub Keeps-same : (lists lists' : Bool → List (ℕ × W)) (next next' : ℕ) (futures : List (Futures T P W))
       → ((side : Bool) → lists' side ≡ lists side) → next' ≡ next → Keeps is_clone lists next futures → Keeps is_clone lists' next' futures
   Keeps-same lists lists' next next' futures same e k = record {
     kept = λ i f t w at waits. let o = k.kept i f t w at waits in (o.0, o.1, ap (waker_of t) (same (waits_for_room f.task)) ∙ o.2);
@@ -43,8 +43,8 @@ module _ {T P W : Type 0} (is_clone : W → W → Type 0) where
     differ = k.differ;
   }
 
-  module _ (lists : Bool → List (ℕ × W)) (next : ℕ) (futures : List (Future T P W)) (keeps : Keeps is_clone lists next futures)
-      (i : ℕ) (f g : Future T P W) (at : slice_get futures i ≡ Some f) where
+  module _ (lists : Bool → List (ℕ × W)) (next : ℕ) (futures : List (Futures T P W)) (keeps : Keeps is_clone lists next futures)
+      (i : ℕ) (f g : Futures T P W) (at : slice_get futures i ≡ Some f) where
     -- a future ends, and its ticket leaves both lists
     pub ends : (given : Option ℕ) → given ≡ ticket_of f.standing → g.standing ≡ Done
         → Changes is_clone lists next futures keeps i f g at (λ side. without_given given (lists side)) next
@@ -109,7 +109,7 @@ module _ {T P W : Type 0} (is_clone : W → W → Type 0) where
                           let found = keeps.listed s t k old in
                           let same : i ≡ found.which = keeps.differ i found.which f found.future t at found.there has (ap ticket_of found.waits) in
                           let one : f ≡ found.future = Some-same _ f found.future at (ap (slice_get futures) same ∙ found.there) in
-                          ne (sym found.on_side ∙ (sym (ap (λ (x : Future T P W). waits_for_room x.task) one) ∙ on_side)),
+                          ne (sym found.on_side ∙ (sym (ap (λ (x : Futures T P W). waits_for_room x.task) one) ∙ on_side)),
                     )
               ];
           ticket = λ t has.

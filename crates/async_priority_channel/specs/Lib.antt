@@ -1,4 +1,5 @@
 pub mod Accepted
 pub mod Alike
+pub mod Future
 pub mod World
 pub mod WaitingLaw

@@ -4,32 +4,17 @@ use Rattle.std.specs.List.{All}
 use Rattle.std.specs.declared.cmp.Ordering.{Ordering}
 use Rattle.priority_channel_core.specs.declared.calls.Call.TheVariants as call
 use Rattle.priority_channel_core.specs.declared.calls.Answer.TheVariants as answer
-use Rattle.priority_channel_core.specs.declared.calls.CorePoll.TheVariants.{Pending}
 use Rattle.priority_channel_core.specs.State.{State, Handed, nobody, opening}
 use Rattle.priority_channel_core.specs.Waiting.{is_listed}
 use Rattle.priority_channel_core.specs.Good.{IsGood}
 use Rattle.priority_channel_core.specs.Step.{Step, Calls, Answers}
+use Rattle.async_priority_channel.specs.Future.{Tasks, Standing, Futures, ticket_of, poll_of, polled}
+use Rattle.async_priority_channel.specs.Future.Standing.{New, Waiting, Called, Done}
 
--- what a future is still to do
-pub data Task (T P : Type 0) : Type 0 where
-  Send : T → P → Task T P
-  Sendv : List (T × P) → Task T P
-  Recv : Task T P
-
--- how far a future has come: its ticket and the waker of its last poll, while it has them
-pub data Standing (W : Type 0) : Type 0 where
-  New : Standing W
-  Waiting : ℕ → W → Standing W
-  Called : ℕ → W → Standing W
-  Done : Standing W
-
-pub record Future (T P W : Type 0) : Type 0 where
-  pub task : Task T P
-  pub standing : Standing W
-
+-- a channel, and the futures that use it
 pub record World (T P W : Type 0) : Type 0 where
   pub state : State T P W
-  pub futures : List (Future T P W)
+  pub futures : List (Futures T P W)
 
 -- a direct call on the channel, or a poll or the end of the future at a place of the list
 pub data Event (T P W : Type 0) : Type 0 where
@@ -45,12 +30,6 @@ IsDirect (call.PollRecv given waker) = ⊥
 IsDirect (call.GiveUp ticket) = ⊥
 IsDirect _ = ⊤
 
-abbrev pub ticket_of : {W : Type 0} → Standing W → Option ℕ
-ticket_of New = None
-ticket_of (Waiting ticket waker) = Some ticket
-ticket_of (Called ticket waker) = Some ticket
-ticket_of Done = None
-
 -- a waiting future is called when its ticket is handed out
 abbrev pub is_handed : {W : Type 0} → ℕ → Handed W → Bool
 is_handed ticket handed = is_listed ticket handed.room || is_listed ticket handed.message
@@ -61,25 +40,12 @@ called handed (Waiting ticket waker) = if is_handed ticket handed then Called ti
 called handed (Called ticket waker) = Called ticket waker
 called handed Done = Done
 
-abbrev pub call_out : {T P W : Type 0} → Handed W → List (Future T P W) → List (Future T P W)
+abbrev pub call_out : {T P W : Type 0} → Handed W → List (Futures T P W) → List (Futures T P W)
 call_out handed futures = map (λ future. record { task = future.task; standing = called handed future.standing }) futures
-
--- the call that polls a future
-abbrev pub poll_of : {T P W : Type 0} → Task T P → Option ℕ → W → Calls T P W
-poll_of (Send msg priority) given waker = call.PollSend msg priority given waker
-poll_of (Sendv pairs) given waker = call.PollSendv pairs given waker
-poll_of Recv given waker = call.PollRecv given waker
-
--- the future after its poll: waiting with what was not sent, or done
-abbrev pub polled : {T P W : Type 0} → Task T P → W → Answers T P → Future T P W
-polled task waker (answer.PollSend (Pending pair ticket)) = record { task = Send pair.0 pair.1; standing = Waiting ticket waker }
-polled task waker (answer.PollSendv (Pending rest ticket)) = record { task = Sendv rest; standing = Waiting ticket waker }
-polled task waker (answer.PollRecv (Pending kept ticket)) = record { task = Recv; standing = Waiting ticket waker }
-polled task waker _ = record { task = task; standing = Done }
 
 module _ {T P W : Type 0} (cmp : P → P → Ordering) (is_clone : W → W → Type 0) where
   -- a poll, with the future's own ticket. The waiting futures are called before the polled one gets its new standing
-  abbrev pub PollsFuture : World T P W → ℕ → W → Task T P → Standing W → Handed W → World T P W → Type 0
+  abbrev pub PollsFuture : World T P W → ℕ → W → Tasks T P → Standing W → Handed W → World T P W → Type 0
   PollsFuture old which waker task Done handed new = (handed ≡ nobody) × (new ≡ old)
   PollsFuture old which waker task standing handed new =
       (reply : Answers T P) × Step cmp is_clone old.state (poll_of task (ticket_of standing) waker) reply handed new.state
@@ -96,10 +62,10 @@ module _ {T P W : Type 0} (cmp : P → P → Ordering) (is_clone : W → W → T
       IsDirect made × (reply : Answers T P) × Step cmp is_clone old.state made reply handed new.state
       × (new.futures ≡ call_out handed old.futures)
   Happens old (Polls which waker) handed new =
-      (future : Future T P W) × (slice_get old.futures which ≡ Some future)
+      (future : Futures T P W) × (slice_get old.futures which ≡ Some future)
       × PollsFuture old which waker future.task future.standing handed new
   Happens old (GivesUp which) handed new =
-      (future : Future T P W) × (slice_get old.futures which ≡ Some future) × (handed ≡ nobody)
+      (future : Futures T P W) × (slice_get old.futures which ≡ Some future) × (handed ≡ nobody)
       × GivesUpTicket old.state (ticket_of future.standing) new.state
       × (new.futures ≡ slice_set old.futures which (record { task = future.task; standing = Done }))
 
