@@ -11,4 +11,5 @@ pub mod Places
 pub mod PollEnds
 pub mod Runs
 pub mod Standings
+pub mod StateLemmas
 pub mod Worlds
