@@ -1,5 +1,5 @@
 -- What the code keeps of a future between its polls.
-use Rattle.std.specs.Prelude.{◌≡◌, ℕ, Option, Some, None, Result, Ok, Err}
+use Rattle.std.specs.Prelude.{◌≡◌, ℕ, List, drop, Option, Some, None, Result, Ok, Err}
 use Rattle.std.specs.Option.{option_map}
 use Rattle.futures.specs.declared.task.Poll.{Poll}
 use Rattle.futures.specs.declared.task.Poll.TheVariants as poll
@@ -42,6 +42,10 @@ unsent poll.Pending = None
 unsent (poll.Ready (Ok sent)) = None
 unsent (poll.Ready (Err (send_fault.Closed e))) = Some e.0
 unsent (poll.Ready (Err (send_fault.Memory held))) = Some held
+
+-- whatever list the old one holds, the new one holds a tail of it
+pub record HoldsTail {X M : Type 0} (holds : M → List X → Type 0) (old new : M) : Type 0 where
+  pub at : (list : List X) → holds old list → (n : ℕ) × holds new (drop n list)
 
 -- the tasks of a send that keeps its pair, and of a receive, which keeps nothing
 abbrev pub send_of : {T P : Type 0} → T × P → Tasks T P

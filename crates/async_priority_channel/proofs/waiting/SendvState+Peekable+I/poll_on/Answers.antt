@@ -4,7 +4,8 @@ use Rattle.priority_channel_core.specs.Lists.{HasList}
 use Rattle.priority_channel_core.specs.Bulk.{Performs}
 use Rattle.priority_channel_core.specs.declared.calls.Answer.TheVariants as answer
 use Rattle.async_priority_channel.specs.Future.Task.{Sendv}
-use Rattle.async_priority_channel.proofs.StateLemmas.{polls_kept, sendv_left, unsent_kept}
+use Rattle.async_priority_channel.specs.States.{HoldsTail}
+use Rattle.async_priority_channel.proofs.StateLemmas.{polls_kept, sendv_left, unsent_kept, left_kept, polled_tail}
 use Rattle.async_priority_channel.proofs.waiting.SendvState+Peekable+I.poll_on.Goals as goal
 
 pub returns-clause-step : goal.returns-clause-step
@@ -14,4 +15,16 @@ returns-clause-step g c =
 
 pub returns-clause-unsent : goal.returns-clause-unsent
 returns-clause-unsent g c =
+    rw (← c.self.view_is, c.in-Some.ensures.taken, c.keep.ensures.told)
+    (unsent_kept (HoldsTail (HasList g.I.Iterator.next_gives) c.in-Some.msgs) c.poll_sendv-answer.result.0
+    (polled_tail (HasList g.I.Iterator.next_gives) g.P.Ord.cmp g.W.Clone.is_clone _ _ _ _ _ _ _ c.poll_sendv-answer.ensures.step))
+
+pub returns-clause-kept : goal.returns-clause-kept
+returns-clause-kept g c =
+    rw (← c.self.view_is, c.in-Some.ensures.taken, c.keep.ensures.left)
+    (left_kept (HoldsTail (HasList g.I.Iterator.next_gives) c.in-Some.msgs) c.poll_sendv-answer.result.0
+    (polled_tail (HasList g.I.Iterator.next_gives) g.P.Ord.cmp g.W.Clone.is_clone _ _ _ _ _ _ _ c.poll_sendv-answer.ensures.step))
+
+pub returns-clause-unsent_callable : goal.returns-clause-unsent_callable
+returns-clause-unsent_callable g c =
     rw c.keep.ensures.told (unsent_kept (peekable_can g.I.Iterator.can_next) c.poll_sendv-answer.result.0 c.poll_sendv-answer.ensures.callable)
