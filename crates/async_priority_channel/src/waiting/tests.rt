@@ -4,6 +4,9 @@ use futures::task::Poll;
 use priority_channel_core::awaitable_atomics::Wakes;
 use priority_channel_core::channel::PriorityQueueChannel;
 use priority_channel_core::errors::{RecvFault, SendError, SendFault, TryRecvError};
+use std::alloc::AllocError;
+use std::iter::Peekable;
+use std::vec::IntoIter;
 
 type Core<T> = PriorityQueueChannel<T, u64, u64>;
 
@@ -30,14 +33,21 @@ fn waits<R: Drop>(polled: (Poll<R>, Wakes<u64>)) -> bool {
     is_nobody(&wakes.into_lists()) && matches!(poll, Poll::Pending)
 }
 
+// How many pairs came back from a closed channel.
+fn closed_with(
+    poll: Poll<Result<(), SendFault<Peekable<IntoIter<(&str, u64)>>>>>,
+) -> Option<usize> {
+    match poll {
+        Poll::Ready(Err(SendFault::Closed(SendError(rest)))) => Some(rest.count()),
+        _ => None,
+    }
+}
+
 #[test]
-fn a_bulk_send_goes_on_as_room_comes(rt: HostRuntime) {
+fn a_bulk_send_goes_on_as_room_comes(rt: HostRuntime) -> Result<(), AllocError> {
     let mut core: Core<&str> = Core::bounded(rt.alloc(), 2);
-    let mut state = SendvState::new(
-        [("a", 1), ("b", 2), ("c", 3), ("d", 4), ("e", 5)]
-            .into_iter()
-            .peekable(),
-    );
+    let pairs = vec![in rt.alloc(); ("a", 1), ("b", 2), ("c", 3), ("d", 4), ("e", 5)]?;
+    let mut state = SendvState::new(pairs.into_iter().peekable());
     assert!(rt; waits(state.poll_on(&mut core, &7)));
     assert_eq!(rt; state.ticket(), Some(0));
     assert_eq!(rt; core.len(), 2);
@@ -61,11 +71,7 @@ fn a_bulk_send_goes_on_as_room_comes(rt: HostRuntime) {
 
     let (poll, wakes) = state.poll_on(&mut core, &9);
     assert!(rt; is_nobody(&wakes.into_lists()));
-    let left = match poll {
-        Poll::Ready(Err(SendFault::Closed(SendError(rest)))) => Some(rest.count()),
-        _ => None,
-    };
-    assert_eq!(rt; left, Some(2));
+    assert_eq!(rt; closed_with(poll), Some(2));
     assert!(rt; state.is_done());
     assert_eq!(rt; state.ticket(), None);
 
@@ -73,6 +79,7 @@ fn a_bulk_send_goes_on_as_room_comes(rt: HostRuntime) {
     assert!(rt; matches!(reply, Ok(("a", 1))));
     let (reply, _) = receive(&mut core);
     assert!(rt; matches!(reply, Err(TryRecvError::Closed)));
+    Ok(())
 }
 
 #[test]
@@ -82,7 +89,7 @@ fn a_bulk_send_of_nothing_waits_for_room(rt: HostRuntime) {
     assert!(rt; reply.is_ok());
     assert!(rt; is_nobody(&wakes.into_lists()));
 
-    let nothing: [(&str, u64); 0] = [];
+    let nothing: Vec<(&str, u64)> = Vec::new(rt.alloc());
     let mut state = SendvState::new(nothing.into_iter().peekable());
     assert!(rt; waits(state.poll_on(&mut core, &1)));
     assert_eq!(rt; state.ticket(), Some(0));
@@ -93,11 +100,7 @@ fn a_bulk_send_of_nothing_waits_for_room(rt: HostRuntime) {
 
     let (poll, wakes) = state.poll_on(&mut core, &1);
     assert!(rt; is_nobody(&wakes.into_lists()));
-    let left = match poll {
-        Poll::Ready(Err(SendFault::Closed(SendError(rest)))) => Some(rest.count()),
-        _ => None,
-    };
-    assert_eq!(rt; left, Some(0));
+    assert_eq!(rt; closed_with(poll), Some(0));
 
     assert!(rt; waits(state.poll_on(&mut core, &1)));
     assert!(rt; state.is_done());
