@@ -192,6 +192,13 @@ impl<T, P: Ord, W: Clone, A: Allocator + Copy> PriorityQueueChannel<T, P, W, A> 
         (!was_closed, wakes)
     }
 
+    /// Empty wakes, for a caller that answers without a call that hands out. It takes no memory.
+    pub fn nobody(&self) -> Wakes<W, A>
+        ensures { result ≡ nobody }
+    {
+        Wakes::nobody(self.alloc)
+    }
+
     /// Whether the channel is closed.
     pub fn is_closed(&self) -> bool
         ensures answer { result ≡ self.now.state.is_closed }

@@ -1,0 +1,190 @@
+//! States polled in turn on one core. Here a waker is a number.
+use crate::waiting::{RecvState, SendState, SendvState};
+use futures::task::Poll;
+use priority_channel_core::awaitable_atomics::Wakes;
+use priority_channel_core::channel::PriorityQueueChannel;
+use priority_channel_core::errors::{RecvFault, SendError, SendFault, TryRecvError};
+use std::alloc::AllocError;
+use std::iter::Peekable;
+use std::vec::IntoIter;
+
+type Core<T> = PriorityQueueChannel<T, u64, u64>;
+
+/// The tickets of those who waited for room, and of those who waited for a message, each with its waker.
+type Lists = (Vec<(u64, u64)>, Vec<(u64, u64)>);
+
+fn is_nobody(lists: &Lists) -> bool {
+    lists.0.is_empty() && lists.1.is_empty()
+}
+
+fn receive<T: Drop>(core: &mut Core<T>) -> (Result<(T, u64), TryRecvError>, Lists) {
+    let (reply, wakes) = core.try_recv();
+    (reply, wakes.into_lists())
+}
+
+fn close<T: Drop>(core: &mut Core<T>) -> (bool, Lists) {
+    let (was_open, wakes) = core.close();
+    (was_open, wakes.into_lists())
+}
+
+// Whether a poll left its state waiting, and handed out nobody.
+fn waits<R: Drop>(polled: (Poll<R>, Wakes<u64>)) -> bool {
+    let (poll, wakes) = polled;
+    is_nobody(&wakes.into_lists()) && matches!(poll, Poll::Pending)
+}
+
+// How many pairs came back from a closed channel.
+fn closed_with(
+    poll: Poll<Result<(), SendFault<Peekable<IntoIter<(&str, u64)>>>>>,
+) -> Option<usize> {
+    match poll {
+        Poll::Ready(Err(SendFault::Closed(SendError(rest)))) => Some(rest.count()),
+        _ => None,
+    }
+}
+
+#[test]
+fn a_bulk_send_goes_on_as_room_comes(rt: HostRuntime) -> Result<(), AllocError> {
+    let mut core: Core<&str> = Core::bounded(rt.alloc(), 2);
+    let pairs = vec![in rt.alloc(); ("a", 1), ("b", 2), ("c", 3), ("d", 4), ("e", 5)]?;
+    let mut state = SendvState::new(pairs.into_iter().peekable());
+    assert!(rt; waits(state.poll_on(&mut core, &7)));
+    assert_eq!(rt; state.ticket(), Some(0));
+    assert_eq!(rt; core.len(), 2);
+
+    let (reply, handed) = receive(&mut core);
+    assert!(rt; matches!(reply, Ok(("b", 2))));
+    assert_eq!(rt; handed.0.as_slice(), [(0, 7)].as_slice());
+    assert!(rt; handed.1.is_empty());
+
+    assert!(rt; waits(state.poll_on(&mut core, &8)));
+    assert_eq!(rt; state.ticket(), Some(1));
+    assert_eq!(rt; core.len(), 2);
+
+    let (reply, handed) = receive(&mut core);
+    assert!(rt; matches!(reply, Ok(("c", 3))));
+    assert_eq!(rt; handed.0.as_slice(), [(1, 8)].as_slice());
+
+    let (was_open, handed) = close(&mut core);
+    assert!(rt; was_open);
+    assert!(rt; is_nobody(&handed));
+
+    let (poll, wakes) = state.poll_on(&mut core, &9);
+    assert!(rt; is_nobody(&wakes.into_lists()));
+    assert_eq!(rt; closed_with(poll), Some(2));
+    assert!(rt; state.is_done());
+    assert_eq!(rt; state.ticket(), None);
+
+    let (reply, _) = receive(&mut core);
+    assert!(rt; matches!(reply, Ok(("a", 1))));
+    let (reply, _) = receive(&mut core);
+    assert!(rt; matches!(reply, Err(TryRecvError::Closed)));
+    Ok(())
+}
+
+#[test]
+fn a_bulk_send_of_nothing_waits_for_room(rt: HostRuntime) {
+    let mut core: Core<&str> = Core::bounded(rt.alloc(), 1);
+    let (reply, wakes) = core.try_send("x", 5);
+    assert!(rt; reply.is_ok());
+    assert!(rt; is_nobody(&wakes.into_lists()));
+
+    let nothing: Vec<(&str, u64)> = Vec::new(rt.alloc());
+    let mut state = SendvState::new(nothing.into_iter().peekable());
+    assert!(rt; waits(state.poll_on(&mut core, &1)));
+    assert_eq!(rt; state.ticket(), Some(0));
+
+    let (was_open, handed) = close(&mut core);
+    assert!(rt; was_open);
+    assert_eq!(rt; handed.0.as_slice(), [(0, 1)].as_slice());
+
+    let (poll, wakes) = state.poll_on(&mut core, &1);
+    assert!(rt; is_nobody(&wakes.into_lists()));
+    assert_eq!(rt; closed_with(poll), Some(0));
+
+    assert!(rt; waits(state.poll_on(&mut core, &1)));
+    assert!(rt; state.is_done());
+    assert_eq!(rt; core.len(), 1);
+}
+
+#[test]
+fn what_a_bulk_send_sent_stays(rt: HostRuntime) {
+    let mut core: Core<&str> = Core::bounded(rt.alloc(), 1);
+    let mut state = SendvState::new([("a", 1), ("b", 2)].into_iter().peekable());
+    assert!(rt; waits(state.poll_on(&mut core, &1)));
+    assert_eq!(rt; core.len(), 1);
+    let left = match state.give_up_on(&mut core) {
+        Some(rest) => Some(rest.count()),
+        None => None,
+    };
+    assert_eq!(rt; left, Some(1));
+    assert!(rt; state.is_done());
+
+    let (reply, handed) = receive(&mut core);
+    assert!(rt; matches!(reply, Ok(("a", 1))));
+    assert!(rt; is_nobody(&handed));
+    let (reply, _) = receive(&mut core);
+    assert!(rt; matches!(reply, Err(TryRecvError::Empty)));
+}
+
+#[test]
+fn a_send_is_given_up(rt: HostRuntime) {
+    let mut core: Core<u64> = Core::bounded(rt.alloc(), 1);
+    let (reply, wakes) = core.try_send(1, 1);
+    assert!(rt; reply.is_ok());
+    assert!(rt; is_nobody(&wakes.into_lists()));
+
+    let mut first = SendState::new(2, 2);
+    let mut second = SendState::new(3, 3);
+    assert!(rt; waits(first.poll_on(&mut core, &1)));
+    assert!(rt; waits(second.poll_on(&mut core, &2)));
+    assert_eq!(rt; first.ticket(), Some(0));
+    assert_eq!(rt; second.ticket(), Some(1));
+
+    let (reply, handed) = receive(&mut core);
+    assert!(rt; matches!(reply, Ok((1, 1))));
+    assert_eq!(rt; handed.0.as_slice(), [(0, 1), (1, 2)].as_slice());
+
+    let (poll, wakes) = second.poll_on(&mut core, &2);
+    assert!(rt; is_nobody(&wakes.into_lists()));
+    assert!(rt; matches!(poll, Poll::Ready(Ok(()))));
+    assert!(rt; waits(first.poll_on(&mut core, &1)));
+    assert_eq!(rt; first.ticket(), Some(2));
+
+    assert_eq!(rt; first.give_up_on(&mut core), Some((2, 2)));
+    assert!(rt; first.is_done());
+    assert!(rt; waits(first.poll_on(&mut core, &1)));
+    assert!(rt; first.is_done());
+    assert_eq!(rt; core.len(), 1);
+    assert_eq!(rt; first.give_up_on(&mut core), None);
+
+    let (reply, handed) = receive(&mut core);
+    assert!(rt; matches!(reply, Ok((3, 3))));
+    assert!(rt; is_nobody(&handed));
+}
+
+#[test]
+fn a_receive_is_given_up(rt: HostRuntime) {
+    let mut core: Core<u64> = Core::bounded(rt.alloc(), 2);
+    let mut first = RecvState::new();
+    let mut second = RecvState::new();
+    let polled: (Poll<Result<(u64, u64), RecvFault>>, Wakes<u64>) = first.poll_on(&mut core, &1);
+    assert!(rt; waits(polled));
+    assert!(rt; waits(second.poll_on(&mut core, &2)));
+    assert_eq!(rt; first.ticket(), Some(0));
+    assert_eq!(rt; second.ticket(), Some(1));
+
+    let (reply, wakes) = core.try_sendv([(1, 1), (2, 2)].into_iter().peekable());
+    assert!(rt; reply.is_ok());
+    let (room, message) = wakes.into_lists();
+    assert!(rt; room.is_empty());
+    assert_eq!(rt; message.as_slice(), [(0, 1), (1, 2)].as_slice());
+
+    assert_eq!(rt; first.give_up_on(&mut core), Some(()));
+    assert!(rt; first.is_done());
+    let (poll, wakes) = second.poll_on(&mut core, &2);
+    assert!(rt; is_nobody(&wakes.into_lists()));
+    assert!(rt; matches!(poll, Poll::Ready(Ok((2, 2)))));
+    assert!(rt; second.is_done());
+    assert_eq!(rt; core.len(), 1);
+}
