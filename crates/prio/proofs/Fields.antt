@@ -3,7 +3,10 @@ use Rattle.std.proofs.Common.{◌≡◌, ◌≢◌, ℕ, suc, ◌<◌, List, [],
 use Rattle.std.specs.Option.{MatchOption, option_copied}
 use Rattle.std.proofs.lemmas.Bool.{cases_eq, ne_eqb, eq-eqb}
 use Rattle.std.proofs.lemmas.Str.Pattern.{IsSplitOnceResult, split_parts}
-use Rattle.prio.specs.Fields.{fields_of, name_of}
+use Rattle.std.proofs.Common.{All, ℤ, ◌+◌, append_assoc, length-append}
+use Rattle.std.specs.Char.{IsAsciiGraphic}
+use Rattle.std.specs.Fmt.{signed_decimal}
+use Rattle.prio.specs.Fields.{fields_of, further_text, name_of, pair_text}
 
 -- they are parted by the first space
 pub parted : (name rest : List ℕ) → ((i : ℕ) → i < length name → get_or name i 0 ≢ 32) → (name_of (name ++ 32 ∷ rest) ≡ name) × (fields_of (name ++ 32 ∷ rest) ≡ Some rest)
@@ -50,3 +53,43 @@ pub joins : (line name : List ℕ) (fields : Option (Bor (List ℕ))) (rest : Bo
     → line ≡ name ++ 32 ∷ rest.now
 joins line name fields rest named parts some =
     joined line rest.now (sym parts ∙ ap option_copied some) ∙ ap (λ t. t ++ 32 ∷ rest.now) (sym named)
+
+-- a word is the first field of what begins with it
+pub word_first : (word : List ℕ) (further : Option (List ℕ)) → All IsAsciiGraphic word → (name_of (word ++ further_text further) ≡ word) × (fields_of (word ++ further_text further) ≡ further)
+word_first [] None graphic = (refl, refl)
+word_first [] (Some fields) graphic = (refl, refl)
+word_first (b ∷ word) further graphic =
+    let parts = word_first word further (λ k d below. graphic (suc k) d (omega arith)) in
+    let first = graphic 0 0 (omega arith) in
+    rw (ne_eqb b 32 (λ e. omega arith)) (ap (λ t. b ∷ t) parts.0, parts.1)
+
+-- a line is its first field and what stands behind that
+pub apart : (line : List ℕ) → line ≡ name_of line ++ further_text (fields_of line)
+apart [] = refl
+apart (b ∷ line) = elim (cases_eq b 32) [
+  | inl space ↦ rw (eq-eqb b 32 space) (ap (λ x. x ∷ line) space)
+  | inr other ↦ rw (ne_eqb b 32 other) (ap (λ t. b ∷ t) (apart line))
+]
+
+-- a pair's two fields
+pub two_fields : (z : ℤ) (word : List ℕ) (further : Option (List ℕ)) → pair_text z word ++ further_text further ≡ signed_decimal z ++ 32 ∷ (word ++ further_text further)
+two_fields z word further = append_assoc (signed_decimal z) (32 ∷ word) (further_text further)
+
+-- what the parts say of the fields that a pair is taken off
+pub taken : (fields priority rest word : List ℕ) (further : Option (List ℕ)) (z : ℤ)
+    → fields ≡ priority ++ 32 ∷ rest → priority ≡ signed_decimal z → word ≡ name_of rest → further ≡ fields_of rest
+    → fields ≡ pair_text z word ++ further_text further
+taken fields priority rest word further z splits printed named behind =
+    splits ∙ ap (λ t. t ++ 32 ∷ rest) printed
+    ∙ ap (λ t. signed_decimal z ++ 32 ∷ t) (apart rest ∙ ap (λ t. t ++ further_text (fields_of rest)) (sym named) ∙ ap (λ t. word ++ further_text t) (sym behind))
+    ∙ sym (two_fields z word further)
+
+-- what the two parts say of the line, with or without a space behind the first
+pub joins_any : (line name : List ℕ) (fields : Option (Bor (List ℕ))) → name ≡ name_of line → option_copied fields ≡ fields_of line → line ≡ name ++ further_text (option_copied fields)
+joins_any line name fields named parts = apart line ∙ ap (λ t. t ++ further_text (fields_of line)) (sym named) ∙ ap (λ t. name ++ further_text t) (sym parts)
+
+-- it shortens them
+pub shorter : (fields : List ℕ) (z : ℤ) (word : List ℕ) (further : Option (List ℕ)) → fields ≡ pair_text z word ++ further_text further → length (further_text further) < suc (length fields)
+shorter fields z word further same =
+    let whole : length fields ≡ length (pair_text z word) + length (further_text further) = ap length same ∙ length-append (pair_text z word) (further_text further) in
+    omega (arith, whole)

@@ -19,3 +19,8 @@ IsWord field = (0 < length field) × All IsAsciiGraphic field
 -- a priority as it is printed, and a word
 abbrev pub pair_text : ℤ → List ℕ → List ℕ
 pair_text priority word = signed_decimal priority ++ 32 ∷ word
+
+-- what stands behind a field: nothing, or a space and further fields
+abbrev pub further_text : Option (List ℕ) → List ℕ
+further_text None = []
+further_text (Some fields) = 32 ∷ fields

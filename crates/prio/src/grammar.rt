@@ -1,32 +1,49 @@
 // Which lines are calls.
-ghost use Rattle.std.specs.Prelude.{◌≡◌, ◌≢◌, ◌↔◌, ◌<◌, ◌^◌, ℕ, ℤ, List, FitsSigned, IfSome, IfNone, IsTrue, slice_index};
+ghost use Rattle.std.specs.Prelude.{◌≡◌, ◌≢◌, ◌↔◌, ◌<◌, ◌≤◌, ◌++◌, ℕ, ℤ, List, Option, FitsSigned, IfSome, IfNone, IsTrue, slice_index};
 ghost use Rattle.std.specs.Int.{w64, IsInRange};
 ghost use Rattle.std.specs.Option.{option_copied};
 ghost use Rattle.std.specs.Fmt.{decimal, signed_decimal};
-ghost use Rattle.prio.specs.Fields.{IsWord, fields_of, name_of, pair_text};
+ghost use Rattle.prio.specs.Fields.{IsWord, fields_of, further_text, name_of, pair_text};
 ghost use Rattle.prio.specs.Call.{CanCall, call_text};
 ghost use Rattle.prio.specs.Opening.{CanOpen, opening_text};
 
 /// What a first line asks for.
 pub enum Opening {
+    /// A channel for at most so many pairs.
+    Bounded(u64),
     /// A channel with place for so many pairs, made at once.
     Reserved(u64),
+    /// A channel without a limit but memory.
+    Unbounded,
 }
+
+// More places cannot be made at once.
+const MOST_RESERVED: u64 = (1 << 63) - 1;
 
 /// What any other line asks for.
 pub enum Call<'a> {
     Send { priority: i64, word: &'a str },
+    /// What follows the name, for `take_pair` to take the pairs off it.
+    Sendv { pairs: Option<&'a str> },
     Recv,
     Close,
+    Len,
+    Capacity,
 }
 
 /// What the first line of a script asks for, if it is one.
+#[tactic(auto, using(crate::proofs::Fields::joined, crate::proofs::Fields::whole))]
 pub fn parse_opening(line: &str) -> Option<Opening>
     ensures sound { IfSome result (λ opening. CanOpen opening × (line.now ≡ opening_text opening)) }
     ensures complete { IfNone result ((opening : Opening) → CanOpen opening → line.now ≢ opening_text opening) }
 {
     match name_and_fields(line) {
-        ("reserved", Some(capacity)) => Some(Opening::Reserved(parse_capacity(capacity)?)),
+        ("bounded", Some(capacity)) => Some(Opening::Bounded(parse_capacity(capacity, u64::MAX)?)),
+        ("reserved", Some(capacity)) => Some(Opening::Reserved(parse_capacity(
+            capacity,
+            MOST_RESERVED,
+        )?)),
+        ("unbounded", None) => Some(Opening::Unbounded),
         _ => None,
     }
 }
@@ -42,8 +59,11 @@ pub fn parse_call(line: &str) -> Option<Call<'_>>
             let (priority, word) = parse_pair(pair)?;
             Some(Call::Send { priority, word })
         }
+        ("sendv", pairs) => Some(Call::Sendv { pairs }),
         ("recv", None) => Some(Call::Recv),
         ("close", None) => Some(Call::Close),
+        ("len", None) => Some(Call::Len),
+        ("capacity", None) => Some(Call::Capacity),
         _ => None,
     }
 }
@@ -73,16 +93,31 @@ fn parse_pair(fields: &str) -> Option<(i64, &str)>
     }
 }
 
-// From 1 to 2^63 - 1, as it is printed.
-fn parse_capacity(field: &str) -> Option<u64>
-    ensures sound { IfSome result (λ n. (field.now ≡ decimal n) × (0 < n) × (n < 2 ^ 63)) }
-    ensures complete { IfNone result ((n : ℕ) → 0 < n → n < 2 ^ 63 → field.now ≢ decimal n) }
+/// `PRIORITY WORD`, taken off the front of the fields, and what follows the space behind it.
+pub fn take_pair(fields: &str) -> Option<((i64, &str), Option<&str>)>
+    ensures sound { IfSome result (λ taken. IsWord taken.0.1.now × (fields.now ≡ pair_text taken.0.0 taken.0.1.now ++ further_text (option_copied taken.1))) }
+    ensures complete { IfNone result ((z : ℤ) (word : List ℕ) (further : Option (List ℕ)) → FitsSigned w64 z → IsWord word → fields.now ≢ pair_text z word ++ further_text further) }
+{
+    let (priority, rest) = fields.split_once(' ')?;
+    let (word, further) = name_and_fields(rest);
+    let priority = parse_priority(priority)?;
+    if is_word(word) {
+        Some(((priority, word), further))
+    } else {
+        None
+    }
+}
+
+// From 1 to the greatest that is allowed, as it is printed.
+fn parse_capacity(field: &str, most: u64) -> Option<u64>
+    ensures sound { IfSome result (λ n. (field.now ≡ decimal n) × (0 < n) × (n ≤ most)) }
+    ensures complete { IfNone result ((n : ℕ) → 0 < n → n ≤ most → field.now ≢ decimal n) }
 {
     if !starts_with_nonzero_digit(field) {
         return None;
     }
     match field.parse() {
-        Ok(capacity) if capacity < 1 << 63 => Some(capacity),
+        Ok(capacity) if capacity <= most => Some(capacity),
         _ => None,
     }
 }

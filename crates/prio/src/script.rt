@@ -1,7 +1,7 @@
 // The lines of a script, and the answers to them.
 ghost use Rattle.std.specs.Prelude.{◌≡◌, ◌+◌, ◌-◌, ◌^◌, min};
 
-use crate::grammar::{Call, Opening, parse_call, parse_opening};
+use crate::grammar::{Call, Opening, parse_call, parse_opening, take_pair};
 use crate::run::{Fault, Stop};
 use priority_channel_core::awaitable_atomics::Wakes;
 use priority_channel_core::channel::PriorityQueueChannel;
@@ -78,7 +78,9 @@ impl<R: Read + Drop, W: Write + Drop, A: Allocator + Copy> Script<R, W, A> {
     fn open(&mut self) -> Result<Channel<A>, Fault> {
         let line = str::from_utf8(&self.line)?;
         let channel = match parse_opening(line).ok_or(Fault::NotACall)? {
+            Opening::Bounded(capacity) => Channel::bounded(self.alloc, capacity),
             Opening::Reserved(capacity) => Channel::bounded_reserved(self.alloc, capacity)?,
+            Opening::Unbounded => Channel::unbounded(self.alloc),
         };
         self.answers.write_all(b"ok\n")?;
         Ok(channel)
@@ -99,6 +101,19 @@ impl<R: Read + Drop, W: Write + Drop, A: Allocator + Copy> Script<R, W, A> {
                 };
                 answers.write_all(answer)?;
             }
+            Call::Sendv { pairs } => {
+                let pairs = read_pairs(self.alloc, pairs)?;
+                let (answer, rest) = match answer_of(channel.try_sendv(
+                    pairs.into_iter().peekable(),
+                )) {
+                    Ok(()) => return Ok(answers.write_all(b"ok\n")?),
+                    Err(TrySendError::Full(rest)) => ("full", rest),
+                    Err(TrySendError::Closed(rest)) => ("closed", rest),
+                    Err(TrySendError::Memory(rest)) => ("memory", rest),
+                };
+                let refused = rest.count();
+                writeln!(answers, "{answer} {refused}")?;
+            }
             Call::Recv => match answer_of(channel.try_recv()) {
                 Ok((word, priority)) => writeln!(answers, "{word} {priority}")?,
                 Err(TryRecvError::Empty) => answers.write_all(b"empty\n")?,
@@ -108,6 +123,14 @@ impl<R: Read + Drop, W: Write + Drop, A: Allocator + Copy> Script<R, W, A> {
                 let was_open = answer_of(channel.close());
                 writeln!(answers, "{was_open}")?;
             }
+            Call::Len => {
+                let len = channel.len();
+                writeln!(answers, "{len}")?;
+            }
+            Call::Capacity => match channel.capacity() {
+                Some(capacity) => writeln!(answers, "{capacity}")?,
+                None => answers.write_all(b"none\n")?,
+            },
         }
         Ok(())
     }
@@ -146,6 +169,22 @@ impl<R: Read + Drop, W: Write + Drop, A: Allocator + Copy> Script<R, W, A> {
         }
         Err(Fault::Failed)
     }
+}
+
+// All pairs of a bulk send, or a fault and nothing is sent.
+fn read_pairs<A: Allocator + Copy>(
+    alloc: A,
+    fields: Option<&str>,
+) -> Result<Vec<(String<A>, i64), A>, Fault> {
+    let mut pairs = Vec::new(alloc);
+    let mut further = fields;
+    while let Some(fields) = further {
+        let ((priority, word), rest) = take_pair(fields).ok_or(Fault::NotACall)?;
+        let word = String::from_str(alloc, word)?;
+        pairs.push((word, priority)).or(Err(Fault::NoMemory))?;
+        further = rest;
+    }
+    Ok(pairs)
 }
 
 // Nobody waits on this channel, so nobody is to be woken.
