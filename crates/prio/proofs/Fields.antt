@@ -3,7 +3,7 @@ use Rattle.std.proofs.Common.{◌≡◌, ◌≢◌, ℕ, suc, ◌<◌, List, [],
 use Rattle.std.specs.Option.{MatchOption, option_copied}
 use Rattle.std.proofs.lemmas.Bool.{cases_eq, ne_eqb, eq-eqb}
 use Rattle.std.proofs.lemmas.Str.Pattern.{IsSplitOnceResult, split_parts}
-use Rattle.std.proofs.Common.{All, ℤ, ◌+◌, append_assoc, length-append}
+use Rattle.std.proofs.Common.{All, ℤ, append_assoc}
 use Rattle.std.specs.Char.{IsAsciiGraphic}
 use Rattle.std.specs.Fmt.{signed_decimal}
 use Rattle.prio.specs.Fields.{fields_of, further_text, name_of, pair_text}
@@ -87,9 +87,3 @@ taken fields priority rest word further z splits printed named behind =
 -- what the two parts say of the line, with or without a space behind the first
 pub joins_any : (line name : List ℕ) (fields : Option (Bor (List ℕ))) → name ≡ name_of line → option_copied fields ≡ fields_of line → line ≡ name ++ further_text (option_copied fields)
 joins_any line name fields named parts = apart line ∙ ap (λ t. t ++ further_text (fields_of line)) (sym named) ∙ ap (λ t. name ++ further_text t) (sym parts)
-
--- it shortens them
-pub shorter : (fields : List ℕ) (z : ℤ) (word : List ℕ) (further : Option (List ℕ)) → fields ≡ pair_text z word ++ further_text further → length (further_text further) < suc (length fields)
-shorter fields z word further same =
-    let whole : length fields ≡ length (pair_text z word) + length (further_text further) = ap length same ∙ length-append (pair_text z word) (further_text further) in
-    omega (arith, whole)
