@@ -49,10 +49,6 @@ module _ {X : Type 0} (key : X → ℕ) where
   put_in-push y x [] h = grind (arith, nat_tests)
   put_in-push y x (z ∷ s) h = let e = put_in-push y x s h in grind (arith, nat_tests, e)
 
-  pub by_key-last : (x : X) → by_key key (x ∷ []) ≡ x ∷ []
-  unfolding by_key put_in
-  by_key-last x = refl
-
   pub by_key-push : (xs : List X) (x : X) → AllByRecursion (λ y. key y < key x) xs → by_key key (xs ++ x ∷ []) ≡ by_key key xs ++ x ∷ []
   unfolding by_key put_in
   by_key-push [] x h = refl

@@ -1,5 +1,5 @@
 -- The loop of a bulk send, one pair more at a time.
-use Rattle.std.proofs.Common.{◌≡◌, ℕ, ◌+◌, ◌<◌, ◌≤◌, List, [], ◌∷◌, ◌++◌, length, refl, sym, ap, ◌∙◌, arith, append_assoc, append-nil, length-append, Option, Some, Bool, true, false, IsTrue, ◌↔◌}
+use Rattle.std.proofs.Common.{◌≡◌, ℕ, ◌+◌, ◌<◌, ◌≤◌, List, [], ◌∷◌, ◌++◌, length, refl, sym, ap, ◌∙◌, arith, append_assoc, length-append, Option, Some, Bool, true, false, IsTrue, ◌↔◌}
 use Rattle.std.specs.Iterator.Adapters.{peekable_steps}
 use Rattle.std.specs.declared.iter.Ahead.{Ahead}
 use Rattle.priority_channel_core.specs.Bag.{Contents}
@@ -32,17 +32,6 @@ module _ {S X : Type 0} {steps : S → Option X → S → Type 0} where
       record { at = λ list has. no_items list (λ some. let is : answer ≡ true = (tells list has).1 some in absurd (cc)) }
 
 module _ {S T P : Type 0} {steps : S → Option (T × P) → S → Type 0} where
-  pub moved_none : (bag : Contents T P) (msgs : Ahead S (T × P)) → MovesFront steps bag msgs 0 bag msgs
-  moved_none bag msgs =
-      record { front = []; pending = sym (append-nil bag.pending); long = refl; takes = record { at = λ list has. (list, refl, has) } }
-
-  -- a peek, and more place in the bag, move nothing
-  pub moved_peeked : {old mid : Contents T P} {msgs left : Ahead S (T × P)} {n : ℕ} (new : Contents T P) (peeked : Ahead S (T × P))
-      → MovesFront steps old msgs n mid left → ((list : List (T × P)) → HasList steps left list → HasList steps peeked list)
-      → new.pending ≡ mid.pending → MovesFront steps old msgs n new peeked
-  moved_peeked new peeked moved same e =
-      record { front = moved.front; pending = e ∙ moved.pending; long = moved.long; takes = takes_peeked peeked moved.takes same }
-
   -- after a peek the next pair moves
   pub moved_more : {old mid : Contents T P} {msgs left : Ahead S (T × P)} {n : ℕ} (new : Contents T P) (peeked more : Ahead S (T × P))
       (pair : T × P) → MovesFront steps old msgs n mid left
