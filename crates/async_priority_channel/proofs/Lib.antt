@@ -5,6 +5,7 @@ pub mod AlikeSteps
 pub mod Callings
 pub mod Effects
 pub mod Events
+pub mod HandedBack
 pub mod Hands
 pub mod Lookups
 pub mod Places

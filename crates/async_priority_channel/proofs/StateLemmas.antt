@@ -1,6 +1,6 @@
 -- What is kept of a future that was polled.
 use Rattle.std.proofs.Common.{◌≡◌, ℕ, List, drop, refl, inl, inr}
-use Rattle.std.specs.Prelude.{Option, Some, IfSome, Result, Ok, Err}
+use Rattle.std.specs.Prelude.{Option, Some, IfSome, IfErr, Result, Ok, Err}
 use Rattle.futures.specs.declared.task.Poll.{Poll}
 use Rattle.std.specs.declared.cmp.Ordering.{Ordering}
 use Rattle.priority_channel_core.specs.declared.calls.Call.{Call}
@@ -12,6 +12,10 @@ use Rattle.priority_channel_core.specs.declared.calls.CorePoll.TheVariants.{Read
 use Rattle.priority_channel_core.specs.declared.errors.SendFault.{SendFault}
 use Rattle.priority_channel_core.specs.declared.errors.SendFault.TheVariants as send_fault
 use Rattle.priority_channel_core.specs.State.{State, Handed, room}
+use Rattle.priority_channel_core.specs.declared.errors.TrySendError.{TrySendError}
+use Rattle.priority_channel_core.specs.declared.errors.TrySendError.TheVariants as send_error
+use Rattle.priority_channel_core.specs.Errors.{refused}
+use Rattle.priority_channel_core.specs.Sends.{Sends}
 use Rattle.priority_channel_core.specs.Polls.{PollsSend}
 use Rattle.priority_channel_core.specs.Bulk.{kept_by, Performs}
 use Rattle.async_priority_channel.specs.Future.{Task, poll_of, polled}
@@ -87,5 +91,41 @@ module _ {T P W M : Type 0} (holds : M → List (T × P) → Type 0) (cmp : P �
         let k = h.at (call.PollSendv list given waker) (list, refl, has) in
         let same = k.1.2 in
         let t = tail_at (Pending same.0 ticket) k.1.0 same.1 list same.0 refl (rw k.1.1 at k.2.moves) in
+        (t.0, rw (← t.1) same.2);
+  }
+
+module _ {T P W M : Type 0} (holds : M → List (T × P) → Type 0) (cmp : P → P → Ordering) (is_clone : W → W → Type 0)
+    (old new : State T P W) (handed : Handed W) (msgs : M) where
+  -- what comes back from a bulk send is a tail
+  rest_at : (reply told : Result (Unit {0}) (TrySendError (List (T × P)))) → told ≡ reply → (list : List (T × P))
+      → Sends old list told handed new → IfErr reply (λ error. (n : ℕ) × (refused error ≡ drop n list))
+  rest_at (Ok sent) told is list h = tt
+  rest_at (Err (send_error.Closed rest)) told is list h = let k = rw is at h in (0, k.1)
+  rest_at (Err (send_error.Full rest)) told is list h = let k = rw is at h in (room old, k.1)
+  rest_at (Err (send_error.Memory rest)) told is list h = let k = rw is at h in (k.0, k.3)
+
+  pub refused_tail : (reply : Result (Unit {0}) (TrySendError M))
+      → Performs holds cmp is_clone old (call.TrySendv msgs) (answer.TrySendv reply) handed new
+      → IfErr reply (λ error. HoldsTail holds msgs (refused error))
+  refused_tail (Ok sent) h = tt
+  refused_tail (Err (send_error.Closed m)) h = record {
+    at = λ list has.
+        let k = h.at (call.TrySendv list) (list, refl, has) in
+        let same = k.1.2 in
+        let t = rest_at (Err (send_error.Closed same.0)) k.1.0 same.1 list (rw k.1.1 at k.2.moves) in
+        (t.0, rw (← t.1) same.2);
+  }
+  refused_tail (Err (send_error.Full m)) h = record {
+    at = λ list has.
+        let k = h.at (call.TrySendv list) (list, refl, has) in
+        let same = k.1.2 in
+        let t = rest_at (Err (send_error.Full same.0)) k.1.0 same.1 list (rw k.1.1 at k.2.moves) in
+        (t.0, rw (← t.1) same.2);
+  }
+  refused_tail (Err (send_error.Memory m)) h = record {
+    at = λ list has.
+        let k = h.at (call.TrySendv list) (list, refl, has) in
+        let same = k.1.2 in
+        let t = rest_at (Err (send_error.Memory same.0)) k.1.0 same.1 list (rw k.1.1 at k.2.moves) in
         (t.0, rw (← t.1) same.2);
   }

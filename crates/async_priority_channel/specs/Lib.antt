@@ -4,3 +4,4 @@ pub mod Future
 pub mod World
 pub mod WaitingLaw
 pub mod States
+pub mod Handles

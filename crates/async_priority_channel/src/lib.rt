@@ -1,5 +1,18 @@
 //! A priority channel for many parties.
 #![tactic(auto)]
 
+mod kept_waker;
 pub mod laws;
+mod making;
+mod receiver;
+mod sender;
+mod shared;
 pub mod waiting;
+
+pub use making::{Ends, bounded, bounded_reserved, unbounded};
+pub use priority_channel_core::errors::{
+    RecvError, RecvFault, SendError, SendFault, TryRecvError, TrySendError,
+};
+pub use receiver::Receiver;
+pub use sender::Sender;
+pub use waiting::{Recv, Send, Sendv};

@@ -11,7 +11,7 @@ ghost use Rattle.priority_channel_core.specs.Polls.{PollsFront};
 ghost use Rattle.priority_channel_core.specs.Step.{Step};
 ghost use Rattle.priority_channel_core.specs.Bulk.{Performs};
 ghost use Rattle.priority_channel_core.specs.Channel.{ComparesAtMost, search_bound};
-ghost use Rattle.async_priority_channel.specs.Future.Task.{Sendv};
+ghost use Rattle.async_priority_channel.specs.Future.Task.{Sendv as sendv_of};
 ghost use Rattle.async_priority_channel.specs.World.{GivesUpTicket};
 ghost use Rattle.async_priority_channel.specs.States.{unpolled, done, told_by, left_by, unsent, HoldsTail, send_of, recv_of, PollsKept};
 
@@ -24,8 +24,13 @@ use std::alloc::Allocator;
 use std::iter::Peekable;
 use std::marker::Model;
 
-#[cfg(test)]
-mod tests;
+mod recv;
+mod send;
+mod sendv;
+
+pub use recv::Recv;
+pub use send::Send;
+pub use sendv::Sendv;
 
 // What is still to be done, until it is done, and the ticket of the last poll.
 #[derive(Drop)]
@@ -232,6 +237,22 @@ impl<M> SendvState<M> {
     }
 }
 
+impl<M: Drop> SendvState<M> {
+    /// Ends the bulk send, which waits no more, and answers the pairs that were not sent; None where it was done. What
+    /// was sent stays sent.
+    pub fn give_up_on<T, P: Ord, W: Clone, A: Allocator + Copy>(
+        &mut self,
+        core: &mut PriorityQueueChannel<T, P, W, A>,
+    ) -> Option<M>
+        ensures kept { result ≡ self.old.kept }
+        ensures done { self.new ≡ done }
+        ensures left { GivesUpTicket P.cmp W.is_clone core.old.state self.old.ticket core.new.state }
+        ensures cost { ComparesAtMost 0 (search_bound core.old.state) core.old core.new }
+    {
+        self.rest.give_up_on(core)
+    }
+}
+
 impl<T: Drop, P: Ord + Drop, I: Iterator<Item = (T, P)>> SendvState<Peekable<I>> {
     /// Sends what there is room for, and waits for room with the rest and the waker. A state that is done answers
     /// `Pending`, and changes nothing.
@@ -241,7 +262,7 @@ impl<T: Drop, P: Ord + Drop, I: Iterator<Item = (T, P)>> SendvState<Peekable<I>>
         waker: &W,
     ) -> (Poll<Result<(), SendFault<Peekable<I>>>>, Wakes<W, A>)
         requires { ForSome self.old.kept (peekable_can I.can_next) }
-        ensures step { IfSome self.old.kept (λ msgs. PollsKept (Performs (HasList I.next_gives) P.cmp W.is_clone) Sendv (λ reply. Answer.PollSendv reply)
+        ensures step { IfSome self.old.kept (λ msgs. PollsKept (Performs (HasList I.next_gives) P.cmp W.is_clone) sendv_of (λ reply. Answer.PollSendv reply)
             msgs self.old.ticket waker.now core.old.state result.0 result.1 core.new.state self.new) }
         ensures done { self.old ≡ done → (result.0 ≡ Poll.Pending) × (result.1 ≡ nobody) × (self.new ≡ self.old) × (core.new ≡ core.old) }
         ensures unsent { IfSome self.old.kept (λ msgs. IfSome (unsent result.0) (HoldsTail (HasList I.next_gives) msgs)) }
@@ -259,20 +280,6 @@ impl<T: Drop, P: Ord + Drop, I: Iterator<Item = (T, P)>> SendvState<Peekable<I>>
         };
         let (answer, wakes) = core.poll_sendv(msgs, ticket, waker);
         (self.rest.keep(answer), wakes)
-    }
-
-    /// Ends the bulk send, which waits no more, and answers the pairs that were not sent; None where it was done. What
-    /// was sent stays sent.
-    pub fn give_up_on<W: Clone, A: Allocator + Copy>(
-        &mut self,
-        core: &mut PriorityQueueChannel<T, P, W, A>,
-    ) -> Option<Peekable<I>>
-        ensures kept { result ≡ self.old.kept }
-        ensures done { self.new ≡ done }
-        ensures left { GivesUpTicket P.cmp W.is_clone core.old.state self.old.ticket core.new.state }
-        ensures cost { ComparesAtMost 0 (search_bound core.old.state) core.old core.new }
-    {
-        self.rest.give_up_on(core)
     }
 }
 

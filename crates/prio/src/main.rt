@@ -11,5 +11,11 @@ use run::prio_run;
 use std::process::ExitCode;
 
 fn main(rt: HostRuntime) -> ExitCode {
-    ExitCode::from(prio_run(rt.alloc(), rt.stdin(), &mut rt.stdout(), &mut rt.stderr()))
+    ExitCode::from(prio_run(
+        &rt,
+        rt.alloc(),
+        rt.stdin(),
+        &mut rt.stdout(),
+        &mut rt.stderr(),
+    ))
 }

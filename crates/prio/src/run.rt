@@ -5,6 +5,7 @@ use crate::script::Script;
 use std::alloc::{AllocError, Allocator};
 use std::io::{Read, Write};
 use std::str::Utf8Error;
+use std::sync::Wait;
 use std::{fmt, io};
 
 /// What ends a script before its input does. The number is the exit status.
@@ -59,8 +60,9 @@ impl fmt::Display for Stop {
 }
 
 /// Runs a script. Writes the answers, and on an early end also why it ended. Gives the exit status.
-pub fn prio_run<A, R, W, E>(alloc: A, input: R, answers: &mut W, faults: &mut E) -> u8
+pub fn prio_run<H, A, R, W, E>(rt: &H, alloc: A, input: R, answers: &mut W, faults: &mut E) -> u8
 where
+    H: Wait + Clone,
     A: Allocator + Copy,
     R: Read + Drop,
     W: Write,
@@ -68,7 +70,7 @@ where
     ensures status { Contains (0 ∷ 2 ∷ 3 ∷ 4 ∷ []) result }
     ensures quiet { result ≡ 0 → faults.new ≡ faults.old }
 {
-    let Err(stop) = run_script(alloc, input, answers) else {
+    let Err(stop) = run_script(rt, alloc, input, answers) else {
         return 0;
     };
     // A text that cannot be written changes no status.
@@ -76,13 +78,14 @@ where
     stop.fault as u8
 }
 
-fn run_script<A, R, W>(alloc: A, input: R, answers: &mut W) -> Result<(), Stop>
+fn run_script<H, A, R, W>(rt: &H, alloc: A, input: R, answers: &mut W) -> Result<(), Stop>
 where
+    H: Wait + Clone,
     A: Allocator + Copy,
     R: Read + Drop,
     W: Write,
 {
-    match Script::new(alloc, input, answers) {
+    match Script::new(rt, alloc, input, answers) {
         Ok(script) => script.run(),
         // Its buffers are made to read line 1.
         Err(AllocError) => Err(Stop {

@@ -3,19 +3,22 @@ ghost use Rattle.std.specs.Prelude.{◌≡◌, ◌+◌, ◌-◌, ◌^◌, min};
 
 use crate::grammar::{Call, Opening, parse_call, parse_opening, take_pair};
 use crate::run::{Fault, Stop};
-use priority_channel_core::awaitable_atomics::Wakes;
-use priority_channel_core::channel::PriorityQueueChannel;
-use priority_channel_core::errors::{TryRecvError, TrySendError};
+use async_priority_channel::{
+    Ends, TryRecvError, TrySendError, bounded, bounded_reserved, unbounded,
+};
 use std::alloc::{AllocError, Allocator};
 use std::io::{BufRead, BufReader, BufWriter, ErrorKind, Read, Write};
+use std::sync::Wait;
 
 // For the input, and for the answers.
 const BUFFER_SIZE: usize = 1 << 16;
 
-type Channel<A> = PriorityQueueChannel<String<A>, i64, (), A>;
+// The one sender and the one receiver of a script's channel.
+type Channel<H, A> = Ends<String<A>, i64, H, A>;
 
 /// A script that is read line by line. Before it waits for input it writes out the answers so far.
-pub struct Script<R: Read, W: Write + Drop, A: Allocator + Copy> {
+pub struct Script<'a, H: Wait + Clone, R: Read, W: Write + Drop, A: Allocator + Copy> {
+    rt: &'a H,
     alloc: A,
     input: BufReader<R, A>,
     answers: BufWriter<W, A>,
@@ -23,12 +26,19 @@ pub struct Script<R: Read, W: Write + Drop, A: Allocator + Copy> {
     number: u64,
 }
 
-impl<R: Read + Drop, W: Write + Drop, A: Allocator + Copy> Script<R, W, A> {
-    pub fn new(alloc: A, input: R, answers: W) -> Result<Self, AllocError> {
+impl<'a, H: Wait + Clone, R: Read + Drop, W: Write + Drop, A: Allocator + Copy> Script<
+    'a,
+    H,
+    R,
+    W,
+    A,
+> {
+    pub fn new(rt: &'a H, alloc: A, input: R, answers: W) -> Result<Self, AllocError> {
         // Nothing but memory can be wanting.
         let input = BufReader::with_capacity(alloc, BUFFER_SIZE, input).or(Err(AllocError))?;
         let answers = BufWriter::with_capacity(alloc, BUFFER_SIZE, answers).or(Err(AllocError))?;
         Ok(Script {
+            rt,
             alloc,
             input,
             answers,
@@ -45,6 +55,7 @@ impl<R: Read + Drop, W: Write + Drop, A: Allocator + Copy> Script<R, W, A> {
             end => self.answers.flush().map_err(Fault::from).and(end),
         };
         let Script {
+            rt: _,
             alloc: _,
             input: _,
             answers,
@@ -63,37 +74,38 @@ impl<R: Read + Drop, W: Write + Drop, A: Allocator + Copy> Script<R, W, A> {
         if !self.read_line()? {
             return Err(Fault::NotACall);
         }
-        let mut channel = self.open()?;
+        let channel = self.open()?;
         // No input is so long that this or the loop of `read_line` runs out.
         for _ in 0..u64::MAX {
             if !self.read_line()? {
                 return Ok(());
             }
-            self.call(&mut channel)?;
+            self.call(&channel)?;
         }
         Err(Fault::Failed)
     }
 
     // Makes the channel that the first line asks for.
-    fn open(&mut self) -> Result<Channel<A>, Fault> {
+    fn open(&mut self) -> Result<Channel<H, A>, Fault> {
         let line = str::from_utf8(&self.line)?;
         let channel = match parse_opening(line).ok_or(Fault::NotACall)? {
-            Opening::Bounded(capacity) => Channel::bounded(self.alloc, capacity),
-            Opening::Reserved(capacity) => Channel::bounded_reserved(self.alloc, capacity)?,
-            Opening::Unbounded => Channel::unbounded(self.alloc),
+            Opening::Bounded(capacity) => bounded(self.rt, self.alloc, capacity)?,
+            Opening::Reserved(capacity) => bounded_reserved(self.rt, self.alloc, capacity)?,
+            Opening::Unbounded => unbounded(self.rt, self.alloc)?,
         };
         self.answers.write_all(b"ok\n")?;
         Ok(channel)
     }
 
     // Makes the call that another line asks for.
-    fn call(&mut self, channel: &mut Channel<A>) -> Result<(), Fault> {
+    fn call(&mut self, channel: &Channel<H, A>) -> Result<(), Fault> {
+        let (tx, rx) = channel;
         let line = str::from_utf8(&self.line)?;
         let answers = &mut self.answers;
         match parse_call(line).ok_or(Fault::NotACall)? {
             Call::Send { priority, word } => {
                 let word = String::from_str(self.alloc, word)?;
-                let answer: &[u8] = match answer_of(channel.try_send(word, priority)) {
+                let answer: &[u8] = match tx.try_send(word, priority) {
                     Ok(()) => b"ok\n",
                     Err(TrySendError::Full(_)) => b"full\n",
                     Err(TrySendError::Closed(_)) => b"closed\n",
@@ -103,9 +115,7 @@ impl<R: Read + Drop, W: Write + Drop, A: Allocator + Copy> Script<R, W, A> {
             }
             Call::Sendv { pairs } => {
                 let pairs = read_pairs(self.alloc, pairs)?;
-                let (answer, rest) = match answer_of(channel.try_sendv(
-                    pairs.into_iter().peekable(),
-                )) {
+                let (answer, rest) = match tx.try_sendv(pairs.into_iter().peekable()) {
                     Ok(()) => return Ok(answers.write_all(b"ok\n")?),
                     Err(TrySendError::Full(rest)) => ("full", rest),
                     Err(TrySendError::Closed(rest)) => ("closed", rest),
@@ -114,20 +124,20 @@ impl<R: Read + Drop, W: Write + Drop, A: Allocator + Copy> Script<R, W, A> {
                 let refused = rest.count();
                 writeln!(answers, "{answer} {refused}")?;
             }
-            Call::Recv => match answer_of(channel.try_recv()) {
+            Call::Recv => match rx.try_recv() {
                 Ok((word, priority)) => writeln!(answers, "{word} {priority}")?,
                 Err(TryRecvError::Empty) => answers.write_all(b"empty\n")?,
                 Err(TryRecvError::Closed) => answers.write_all(b"closed\n")?,
             },
             Call::Close => {
-                let was_open = answer_of(channel.close());
+                let was_open = tx.close();
                 writeln!(answers, "{was_open}")?;
             }
             Call::Len => {
-                let len = channel.len();
+                let len = tx.len();
                 writeln!(answers, "{len}")?;
             }
-            Call::Capacity => match channel.capacity() {
+            Call::Capacity => match tx.capacity() {
                 Some(capacity) => writeln!(answers, "{capacity}")?,
                 None => answers.write_all(b"none\n")?,
             },
@@ -185,10 +195,4 @@ fn read_pairs<A: Allocator + Copy>(
         further = rest;
     }
     Ok(pairs)
-}
-
-// Nobody waits on this channel, so nobody is to be woken.
-fn answer_of<T, A: Allocator + Copy>((answer, wakes): (T, Wakes<(), A>)) -> T {
-    let _ = wakes.into_lists();
-    answer
 }

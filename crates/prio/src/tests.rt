@@ -7,6 +7,7 @@ mod terminal;
 use crate::run::prio_run;
 use std::alloc::{AllocError, Global};
 use std::process::Abort;
+use std::sync::Wait;
 
 const EXAMPLE: &str = "reserved 1\nsend 5 x\nsend 9 y\nrecv\nrecv\n";
 
@@ -27,7 +28,7 @@ fn as_text(bytes: &[u8]) -> &str {
 }
 
 fn assert_run(
-    rt: &impl Abort,
+    rt: &(impl Abort + Wait + Clone),
     alloc: Global,
     script: &[u8],
     status: u8,
@@ -36,7 +37,7 @@ fn assert_run(
 ) {
     let mut answered = Vec::new(alloc);
     let mut told = Vec::new(alloc);
-    let ended = prio_run(alloc, script, &mut answered, &mut told);
+    let ended = prio_run(rt, alloc, script, &mut answered, &mut told);
     assert_eq!(rt; as_text(&answered), answers, "{}", as_text(script));
     assert_eq!(rt; as_text(&told), faults, "{}", as_text(script));
     assert_eq!(rt; ended, status, "{}", as_text(script));

@@ -1,5 +1,5 @@
 -- Runs of the code's calls, one call more at a time.
-use Rattle.std.proofs.Common.{◌≡◌, List, [], ◌∷◌, ◌++◌, map, refl, sym, ap, ◌∙◌, append_assoc}
+use Rattle.std.proofs.Common.{◌≡◌, ℕ, ◌+◌, List, [], ◌∷◌, ◌++◌, map, drop, refl, sym, ap, ◌∙◌, append_assoc, drop-drop}
 use Rattle.std.specs.Prelude.{Bool, true, is_ok, OnOk, Ok, Err}
 use Rattle.std.specs.declared.result.Result.{Result}
 use Rattle.std.specs.List.{AllZip}
@@ -56,3 +56,7 @@ module _ {T P W M : Type 0} (holds : M → List (T × P) → Type 0) (cmp : P �
 pub at_ok : {X E : Type 0} {P : Type 0} (r : Result X E) (b : Bool) → b ≡ is_ok r → b ≡ true → OnOk r P → P
 at_ok (Ok x) b e h p = p
 at_ok (Err x) b e h p = cc
+
+-- what is behind the first item of a rest
+pub drop-past : {A : Type 0} (n : ℕ) (items : List A) (first : A) (rest : List A) → first ∷ rest ≡ drop n items → rest ≡ drop (n + 1) items
+drop-past n items first rest is = ap (drop 1) is ∙ drop-drop 1 n items

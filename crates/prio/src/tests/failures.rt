@@ -4,6 +4,7 @@ use std::alloc::{AllocError, Global};
 use std::io;
 use std::io::{ErrorKind, Read, Write};
 use std::process::Abort;
+use std::sync::Wait;
 
 // Gives three bytes at a time, so that no two lines end in one read. One read fails, and those after it do not.
 #[derive(Drop)]
@@ -55,7 +56,7 @@ fn stops_at_a_failed_read(rt: HostRuntime) -> Result<(), AllocError> {
         let mut answers = Vec::new(rt.alloc());
         let mut faults = Vec::new(rt.alloc());
         let input = ShortReader::new(n, ErrorKind::Other);
-        let status = prio_run(rt.alloc(), input, &mut answers, &mut faults);
+        let status = prio_run(&rt, rt.alloc(), input, &mut answers, &mut faults);
         let (wanted, told) = if n < READS {
             (4, "input or output failed\n")
         } else {
@@ -76,7 +77,7 @@ fn tries_an_interrupted_read_again(rt: HostRuntime) -> Result<(), AllocError> {
         let mut answers = Vec::new(rt.alloc());
         let mut faults = Vec::new(rt.alloc());
         let mut input = ShortReader::new(n, ErrorKind::Interrupted);
-        let status = prio_run(rt.alloc(), &mut input, &mut answers, &mut faults);
+        let status = prio_run(&rt, rt.alloc(), &mut input, &mut answers, &mut faults);
         assert!(rt;
             input.reads_before_failure > READS,
             "read {n} was not interrupted"
@@ -136,14 +137,14 @@ impl Write for FailingWriter {
 }
 
 fn assert_stops_at_failure(
-    rt: &impl Abort,
+    rt: &(impl Abort + Wait + Clone),
     alloc: Global,
     mut answers: FailingWriter,
     answered: usize,
 ) -> Result<(), AllocError> {
     let mut faults = Vec::new(alloc);
     let input = ShortReader::new(usize::MAX, ErrorKind::Other);
-    let status = prio_run(alloc, input, &mut answers, &mut faults);
+    let status = prio_run(rt, alloc, input, &mut answers, &mut faults);
     assert_eq!(rt; status, 4);
     assert_eq!(rt; as_text(&faults), "input or output failed\n");
     assert_eq!(rt;
@@ -185,7 +186,13 @@ fn stops_at_a_failed_write_of_a_long_answer(rt: HostRuntime) -> Result<(), Alloc
     for n in 0..100 {
         let mut answers = FailingWriter::new(rt.alloc(), n, usize::MAX);
         let mut faults = Vec::new(rt.alloc());
-        let status = prio_run(rt.alloc(), script.as_bytes(), &mut answers, &mut faults);
+        let status = prio_run(
+            &rt,
+            rt.alloc(),
+            script.as_bytes(),
+            &mut answers,
+            &mut faults,
+        );
         assert!(rt;
             all.as_bytes().starts_with(&answers.written),
             "at write {n}"
@@ -210,13 +217,19 @@ fn keeps_the_status_that_it_cannot_explain(rt: HostRuntime) {
     for (script, wanted) in [(no_call, 2), (no_memory, 3)] {
         let mut answers = Vec::new(rt.alloc());
         let mut faults = FailingWriter::new(rt.alloc(), 0, 0);
-        let status = prio_run(rt.alloc(), script, &mut answers, &mut faults);
+        let status = prio_run(&rt, rt.alloc(), script, &mut answers, &mut faults);
         assert!(rt; faults.has_failed);
         assert_eq!(rt; status, wanted);
     }
     let mut answers = FailingWriter::new(rt.alloc(), 0, 0);
     let mut faults = FailingWriter::new(rt.alloc(), 0, 0);
-    let status = prio_run(rt.alloc(), EXAMPLE.as_bytes(), &mut answers, &mut faults);
+    let status = prio_run(
+        &rt,
+        rt.alloc(),
+        EXAMPLE.as_bytes(),
+        &mut answers,
+        &mut faults,
+    );
     assert!(rt; faults.has_failed);
     assert_eq!(rt; status, 4);
 }

@@ -3,6 +3,7 @@ use crate::run::prio_run;
 use refusing::Refusing;
 use std::alloc::{AllocError, Global};
 use std::process::Abort;
+use std::sync::Wait;
 
 #[test]
 fn stops_where_memory_is_refused(rt: HostRuntime) -> Result<(), AllocError> {
@@ -13,7 +14,7 @@ fn stops_where_memory_is_refused(rt: HostRuntime) -> Result<(), AllocError> {
         let mut answers = Vec::new(rt.alloc());
         let mut faults = Vec::new(rt.alloc());
         alloc.refuse_nth(n);
-        let status = prio_run(&alloc, EXAMPLE.as_bytes(), &mut answers, &mut faults);
+        let status = prio_run(&rt, &alloc, EXAMPLE.as_bytes(), &mut answers, &mut faults);
         has_met_none = alloc.refuse_none();
         let answered = answers.iter().filter(|b| **b == b'\n').count();
         assert_eq!(rt;
@@ -42,7 +43,7 @@ fn stops_where_memory_is_refused(rt: HostRuntime) -> Result<(), AllocError> {
 // Refuses each request in turn. Until then the answers are those of ample memory. The refused request ends the script,
 // or its call answers so, and the script goes on: `refused` has the answers of such runs.
 fn assert_answers_refusals(
-    rt: &impl Abort,
+    rt: &(impl Abort + Wait + Clone),
     alloc: Global,
     script: &str,
     answers: &str,
@@ -56,7 +57,7 @@ fn assert_answers_refusals(
         let mut answered = Vec::new(alloc);
         let mut faults = Vec::new(alloc);
         refusing.refuse_nth(n);
-        let status = prio_run(&refusing, script.as_bytes(), &mut answered, &mut faults);
+        let status = prio_run(rt, &refusing, script.as_bytes(), &mut answered, &mut faults);
         has_met_none = refusing.refuse_none();
         if has_met_none {
             assert_eq!(rt; as_text(&answered), answers);

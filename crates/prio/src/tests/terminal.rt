@@ -51,7 +51,7 @@ fn answers_before_it_waits_for_the_next_line(rt: HostRuntime) {
         screen: &shown,
     };
     let mut faults = Vec::new(rt.alloc());
-    let status = prio_run(rt.alloc(), input, &mut Screen(&shown), &mut faults);
+    let status = prio_run(&rt, rt.alloc(), input, &mut Screen(&shown), &mut faults);
     assert_eq!(rt; status, 0);
     assert_eq!(rt;
         as_text(&shown.into_inner()),

@@ -1,5 +1,6 @@
 //! Many calls, one after another.
-ghost use Rattle.std.specs.Prelude.{◌≡◌, All};
+ghost use Rattle.std.specs.Prelude.{◌≡◌, All, length, drop};
+ghost use Rattle.priority_channel_core.specs.Good.{IsGood};
 ghost use Rattle.std.specs.Iterator.Adapters.{peekable_can};
 ghost use Rattle.priority_channel_core.specs.Lists.{HasList};
 ghost use Rattle.priority_channel_core.specs.Bulk.{MayCall, Performs, RunsFront};
@@ -64,7 +65,9 @@ impl<T: Drop, P: Ord + Drop, W: Clone, A: Allocator + Copy> PriorityQueueChannel
         requires callable { All (MayCall (peekable_can I.can_next)) calls.items }
         ensures run { RunsFront (HasList I.next_gives) P.cmp W.is_clone self.old.state calls.items result.done.items result.left.items self.new.state }
 
-        // What is left can be run from here.
+        // Whether or not each iterator has one list: the calls that were not made are left, and can be run from here.
+        ensures left { result.left.items ≡ drop (length result.done.items) calls.items }
+        ensures good { IsGood self.new.state }
         ensures allowed { AllowsRun self.new.state result.left.items }
         ensures callable { All (MayCall (peekable_can I.can_next)) result.left.items }
     {
@@ -77,6 +80,8 @@ impl<T: Drop, P: Ord + Drop, W: Clone, A: Allocator + Copy> PriorityQueueChannel
             done.push_reserved(self.make(call));
         }
         calls.reverse();
+        // For the proof, which needs what holds of the parts.
+        let _ = &self.length;
         Ran { done, left: calls }
     }
 

@@ -1,10 +1,10 @@
-use Rattle.std.proofs.Common.{arith}
+use Rattle.std.proofs.Common.{arith, length, length-append}
 use Rattle.std.specs.Iterator.Adapters.{peekable_can}
 use Rattle.std.proofs.lemmas.List.{reverse-append, reverse-reverse}
 use Rattle.std.proofs.lemmas.List.Elements.{All-head, All-tail}
 use Rattle.priority_channel_core.specs.Bulk.{MayCall}
 use Rattle.priority_channel_core.proofs.HandleLemmas.{AllowsRun-first, AllowsRun-more}
-use Rattle.priority_channel_core.proofs.RunLemmas.{RunsFront-none, RunsFront-more, at_ok}
+use Rattle.priority_channel_core.proofs.RunLemmas.{RunsFront-none, RunsFront-more, at_ok, drop-past}
 use Rattle.priority_channel_core.proofs.channel.PriorityQueueChannel.run.Goals as goal
 use Rattle.priority_channel_core.proofs.channel.PriorityQueueChannel.run.Goals.{then-loop-done-test+else-is_ok, else-loop-done-test}
 
@@ -12,6 +12,7 @@ pub loop-done-init : goal.loop-done-init
 loop-done-init g c = record {
   allowed = rw (c.reverse.ensures.items, reverse-reverse) c.requires.allowed;
   callable = rw (c.reverse.ensures.items, reverse-reverse) c.requires.callable;
+  left = rw (c.new-done.ensures.items, c.reverse.ensures.items) (reverse-reverse _);
   runs = rw (c.new-done.ensures.items, c.reverse.ensures.items, reverse-reverse) (RunsFront-none _ _ _ _ _);
 }
 
@@ -29,6 +30,8 @@ pub loop-done-preserved : goal.loop-done-preserved
 loop-done-preserved g c = record {
   allowed = AllowsRun-more _ _ _ _ c.make.ensures.handles (rw (c.in-Some.ensures.items, reverse-append) at c.loop-done.invariant.allowed);
   callable = All-tail (MayCall (peekable_can g.I.Iterator.can_next)) _ _ (rw (c.in-Some.ensures.items, reverse-append) at c.loop-done.invariant.callable);
+  left = rw (c.push_reserved.ensures.items, c.reserve.ensures.items, length-append)
+      (drop-past (length c.loop-done.done.items) c.args.calls.items _ _ (rw (c.in-Some.ensures.items, reverse-append) at c.loop-done.invariant.left));
   runs = rw (c.push_reserved.ensures.items, c.reserve.ensures.items)
       (RunsFront-more _ _ _ _ _ _ _ _ _ _ c.make.result (rw (c.in-Some.ensures.items, reverse-append) at c.loop-done.invariant.runs) c.make.ensures.step);
 }
@@ -39,6 +42,14 @@ returns-clause-run g c =
     (elim c.loop-done-test.branch [
       | then-loop-done-test+else-is_ok w ↦ rw (w.done-is, w.reserve.ensures.items) c.loop-done.invariant.runs
       | else-loop-done-test w ↦ rw w.done-is c.loop-done.invariant.runs
+    ])
+
+pub returns-clause-left : goal.returns-clause-left
+returns-clause-left g c =
+    rw c.reverse-2.ensures.items
+    (elim c.loop-done-test.branch [
+      | then-loop-done-test+else-is_ok w ↦ rw (w.done-is, w.reserve.ensures.items) c.loop-done.invariant.left
+      | else-loop-done-test w ↦ rw w.done-is c.loop-done.invariant.left
     ])
 
 pub returns-clause-allowed : goal.returns-clause-allowed

@@ -1,5 +1,5 @@
 //! States polled in turn on one core. Here a waker is a number.
-use crate::waiting::{RecvState, SendState, SendvState};
+use async_priority_channel::waiting::{RecvState, SendState, SendvState};
 use futures::task::Poll;
 use priority_channel_core::awaitable_atomics::Wakes;
 use priority_channel_core::channel::PriorityQueueChannel;

@@ -1,0 +1,29 @@
+-- What handles and futures show of their channel. What is behind its lock, no value shows.
+use Rattle.std.specs.Prelude.{◌≡◌, ℕ, List, IfErr, IfSome, Some, Result}
+use Rattle.priority_channel_core.specs.declared.errors.SendFault.{SendFault}
+use Rattle.priority_channel_core.specs.Errors.{unsent}
+use Rattle.async_priority_channel.specs.States.{Holding, HoldsTail}
+
+-- what never changes of a channel: its capacity, and the sources at which tasks wait for room and for a message
+pub record Channel : Type 0 where
+  pub capacity : ℕ
+  pub room : ℕ
+  pub message : ℕ
+
+-- handles of one channel
+abbrev pub SameChannel : Channel → Channel → Type 0
+SameChannel one other = other ≡ one
+
+-- a future over a channel, and what it keeps between its polls
+pub record Underway (K : Type 0) : Type 0 where
+  pub channel : Channel
+  pub state : Holding K
+
+-- a fault of a send gives back what it kept
+abbrev pub HandsBack : {K : Type 0} → Underway K → Result (Unit {0}) (SendFault K) → Type 0
+HandsBack future answer = IfErr answer (λ fault. future.state.kept ≡ Some (unsent fault))
+
+-- a fault of a bulk send gives back a tail of what it kept, which can be sent again
+abbrev pub HandsBackTail : {X M : Type 0} → (M → List X → Type 0) → (M → Type 0) → Underway M → Result (Unit {0}) (SendFault M) → Type 0
+HandsBackTail holds can future answer =
+    IfErr answer (λ fault. can (unsent fault) × IfSome future.state.kept (λ msgs. HoldsTail holds msgs (unsent fault)))

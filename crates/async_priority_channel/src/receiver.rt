@@ -1,0 +1,149 @@
+//! The handle that receives.
+ghost use Rattle.std.specs.Prelude.{◌≡◌, ◌-◌, ◌<◌, ◌^◌, None, Some};
+ghost use Rattle.async_priority_channel.specs.States.{unpolled};
+
+use crate::shared::Handle;
+use crate::waiting::Recv;
+use priority_channel_core::errors::TryRecvError;
+use std::alloc::{AllocError, Allocator, Global};
+use std::fmt;
+use std::marker::Model;
+use std::sync::Wait;
+
+/// Receives the messages of a channel, the greatest priority first, and the one accepted first among equals.
+///
+/// Each call takes the channel's lock once, for one step. A handle can be moved to other threads, lent to them, and
+/// cloned: each message goes to one receiver. The channel closes when its last receiver is dropped.
+pub struct Receiver<T, P: Ord, R: Wait + Clone, A: Allocator + Copy = Global> {
+    pub(crate) handle: Handle<T, P, R, A>,
+}
+
+impl<T, P: Ord, R: Wait + Clone, A: Allocator + Copy> Model for Receiver<T, P, R, A> {
+    ghost use Rattle.async_priority_channel.specs.Handles.{Channel};
+
+    ghost Value = { Channel };
+
+    ghost view = { λ r. r.handle };
+}
+
+impl<T: Drop, P: Ord + Drop, R: Wait + Clone, A: Allocator + Copy> Receiver<T, P, R, A> {
+    pub(crate) fn over(handle: Handle<T, P, R, A>) -> Self
+        ensures { result ≡ handle }
+    {
+        Receiver { handle }
+    }
+
+    /// Receives a message at once, with its priority. The error is `Empty` where none is pending, and `Closed` where
+    /// none can come any more; what is pending in a closed channel is still received.
+    ///
+    /// ```
+    /// while let Ok((job, priority)) = rx.try_recv() {
+    ///     work(job, priority);
+    /// }
+    /// ```
+    pub fn try_recv(&self) -> Result<(T, P), TryRecvError> {
+        let (received, wakes) = self.handle.lock().try_recv();
+        self.handle.wake_all(wakes);
+        received
+    }
+
+    /// Receives a message as soon as there is one: a future, which does nothing until it is polled. Dropped before it
+    /// has answered, it takes nothing.
+    ///
+    /// ```
+    /// let (job, priority) = block_on(&rt, rx.recv())??;
+    /// ```
+    pub fn recv(&self) -> Recv<'_, T, P, R, A>
+        ensures channel { result.channel ≡ self.now }
+        ensures fresh { result.state ≡ unpolled tt }
+    {
+        Recv::new(self)
+    }
+
+    /// Closes the channel for good, and tells whether it was open. What is pending can still be received. All who wait
+    /// are woken.
+    ///
+    /// ```
+    /// assert!(rx.close());
+    /// assert!(!rx.close());
+    /// ```
+    pub fn close(&self) -> bool {
+        self.handle.close()
+    }
+
+    /// Whether the channel is closed, by a call of `close` or by the drop of the last sender or receiver.
+    pub fn is_closed(&self) -> bool {
+        self.handle.is_closed()
+    }
+
+    /// Whether no message is pending.
+    pub fn is_empty(&self) -> bool {
+        self.handle.is_empty()
+    }
+
+    /// Whether there is no room.
+    pub fn is_full(&self) -> bool {
+        self.handle.is_full()
+    }
+
+    /// How many messages are pending.
+    pub fn len(&self) -> u64 {
+        self.handle.len()
+    }
+
+    /// How many messages may be pending at a time; None where the capacity is `u64::MAX`. It takes no lock.
+    pub fn capacity(&self) -> Option<u64>
+        ensures limited { self.now.capacity < 2 ^ 64 - 1 → result ≡ Some self.now.capacity }
+        ensures unlimited { self.now.capacity ≡ 2 ^ 64 - 1 → result ≡ None }
+    {
+        self.handle.capacity()
+    }
+
+    /// How many senders the channel has.
+    pub fn sender_count(&self) -> usize {
+        self.handle.sender_count()
+    }
+
+    /// How many receivers the channel has.
+    pub fn receiver_count(&self) -> usize {
+        self.handle.receiver_count()
+    }
+}
+
+/// A further receiver of the channel. Refused where there are more than `usize::MAX / 2`, or for want of memory; the
+/// count is then as it was.
+impl<T: Drop, P: Ord + Drop, R: Wait + Clone, A: Allocator + Copy> Clone for Receiver<T, P, R, A> {
+    ghost use Rattle.async_priority_channel.specs.Handles.{SameChannel};
+
+    ghost is_clone = { SameChannel };
+
+    fn clone(&self) -> Result<Self, AllocError> {
+        let handle = self.handle.share()?;
+        // Last, so that a refusal above leaves the count.
+        if !self.handle.lock().clone_receiver() {
+            return Err(AllocError);
+        }
+        Ok(Receiver { handle })
+    }
+}
+
+impl<T: Drop, P: Ord + Drop, R: Wait + Clone, A: Allocator + Copy> Drop for Receiver<T, P, R, A> {
+    fn drop(self) {
+        let Receiver { handle } = self;
+        let mut core = handle.lock();
+        // Nothing says of what a lock guards that this handle is counted there.
+        let wakes = if core.receiver_count() > 0 {
+            core.drop_receiver()
+        } else {
+            core.nobody()
+        };
+        drop(core);
+        handle.wake_all(wakes);
+    }
+}
+
+impl<T, P: Ord, R: Wait + Clone, A: Allocator + Copy> fmt::Debug for Receiver<T, P, R, A> {
+    fn fmt<W: fmt::Write>(&self, f: &mut fmt::Formatter<W>) -> fmt::Result {
+        f.write_str("Receiver { .. }")
+    }
+}

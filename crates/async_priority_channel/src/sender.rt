@@ -1,0 +1,196 @@
+//! The handle that sends.
+ghost use Rattle.std.specs.Prelude.{◌≡◌, ◌-◌, ◌<◌, ◌^◌, IfErr, None, Some};
+ghost use Rattle.std.specs.Iterator.Adapters.{peekable_can};
+ghost use Rattle.priority_channel_core.specs.Lists.{HasList};
+ghost use Rattle.priority_channel_core.specs.Errors.{refused};
+ghost use Rattle.async_priority_channel.specs.States.{HoldsTail, unpolled};
+
+use crate::shared::Handle;
+use crate::waiting::{Send, Sendv};
+use priority_channel_core::errors::TrySendError;
+use std::alloc::{AllocError, Allocator, Global};
+use std::fmt;
+use std::iter::Peekable;
+use std::marker::Model;
+use std::sync::Wait;
+
+/// Sends messages into a channel, each with a priority.
+///
+/// Each call takes the channel's lock once, for one step. A handle can be moved to other threads, lent to them, and
+/// cloned; the channel closes when its last sender is dropped.
+pub struct Sender<T, P: Ord, R: Wait + Clone, A: Allocator + Copy = Global> {
+    pub(crate) handle: Handle<T, P, R, A>,
+}
+
+impl<T, P: Ord, R: Wait + Clone, A: Allocator + Copy> Model for Sender<T, P, R, A> {
+    ghost use Rattle.async_priority_channel.specs.Handles.{Channel};
+
+    ghost Value = { Channel };
+
+    ghost view = { λ s. s.handle };
+}
+
+impl<T: Drop, P: Ord + Drop, R: Wait + Clone, A: Allocator + Copy> Sender<T, P, R, A> {
+    pub(crate) fn over(handle: Handle<T, P, R, A>) -> Self
+        ensures { result ≡ handle }
+    {
+        Sender { handle }
+    }
+
+    /// Sends a message at once, or gives it back: `Closed` where the channel is closed, `Full` where it has no room,
+    /// and `Memory` where none could be made.
+    ///
+    /// ```
+    /// if let Err(TrySendError::Full((job, priority))) = tx.try_send(job, 7) {
+    ///     block_on(&rt, tx.send(job, priority))??;
+    /// }
+    /// ```
+    pub fn try_send(&self, msg: T, priority: P) -> Result<(), TrySendError<(T, P)>>
+        ensures { IfErr result (λ error. refused error ≡ (msg, priority)) }
+    {
+        let (sent, wakes) = self.handle.lock().try_send(msg, priority);
+        self.handle.wake_all(wakes);
+        sent
+    }
+
+    /// Sends as many messages as there is room for, in one step, and gives back the rest: `Closed` where the channel is
+    /// closed, `Full` where there was no more room, and `Memory` where none could be made. What was sent stays sent, and
+    /// the rest can be sent again.
+    ///
+    /// The iterator is called under the channel's lock, so it must not use the channel.
+    ///
+    /// ```
+    /// let jobs = vec![in rt.alloc(); ("compile", 2), ("link", 1)]?;
+    /// tx.try_sendv(jobs.into_iter().peekable())?;
+    /// ```
+    pub fn try_sendv<I: Iterator<Item = (T, P)>>(
+        &self,
+        msgs: Peekable<I>,
+    ) -> Result<(), TrySendError<Peekable<I>>>
+        requires { peekable_can I.can_next msgs }
+        ensures tail { IfErr result (λ error. HoldsTail (HasList I.next_gives) msgs (refused error)) }
+        ensures callable { IfErr result (λ error. peekable_can I.can_next (refused error)) }
+    {
+        let (sent, wakes) = self.handle.lock().try_sendv(msgs);
+        self.handle.wake_all(wakes);
+        sent
+    }
+
+    /// Sends a message as soon as there is room: a future, which does nothing until it is polled. Dropped before it has
+    /// answered, it sends nothing.
+    ///
+    /// ```
+    /// block_on(&rt, tx.send("Foo", 0))??;
+    /// ```
+    pub fn send(&self, msg: T, priority: P) -> Send<'_, T, P, R, A>
+        ensures channel { result.channel ≡ self.now }
+        ensures holds { result.state ≡ unpolled (msg, priority) }
+    {
+        Send::new(self, msg, priority)
+    }
+
+    /// Sends all messages, as there is room: a future, which sends a front at each poll and waits with the rest. What it
+    /// sent stays sent, also where it is dropped or ends in an error.
+    ///
+    /// ```
+    /// let jobs = vec![in rt.alloc(); ("compile", 2), ("link", 1)]?;
+    /// block_on(&rt, tx.sendv(jobs.into_iter().peekable()))??;
+    /// ```
+    pub fn sendv<I: Iterator<Item = (T, P)>>(
+        &self,
+        msgs: Peekable<I>,
+    ) -> Sendv<'_, T, P, Peekable<I>, R, A>
+        requires { peekable_can I.can_next msgs }
+        ensures channel { result.channel ≡ self.now }
+        ensures holds { result.state ≡ unpolled msgs }
+    {
+        Sendv::new(self, msgs)
+    }
+
+    /// Closes the channel for good, and tells whether it was open. What is pending can still be received. All who wait
+    /// are woken.
+    ///
+    /// ```
+    /// assert!(tx.close());
+    /// assert_eq!(tx.try_send("Foo", 0), Err(TrySendError::Closed(("Foo", 0))));
+    /// ```
+    pub fn close(&self) -> bool {
+        self.handle.close()
+    }
+
+    /// Whether the channel is closed, by a call of `close` or by the drop of the last sender or receiver.
+    pub fn is_closed(&self) -> bool {
+        self.handle.is_closed()
+    }
+
+    /// Whether no message is pending.
+    pub fn is_empty(&self) -> bool {
+        self.handle.is_empty()
+    }
+
+    /// Whether there is no room.
+    pub fn is_full(&self) -> bool {
+        self.handle.is_full()
+    }
+
+    /// How many messages are pending.
+    pub fn len(&self) -> u64 {
+        self.handle.len()
+    }
+
+    /// How many messages may be pending at a time; None where the capacity is `u64::MAX`. It takes no lock.
+    pub fn capacity(&self) -> Option<u64>
+        ensures limited { self.now.capacity < 2 ^ 64 - 1 → result ≡ Some self.now.capacity }
+        ensures unlimited { self.now.capacity ≡ 2 ^ 64 - 1 → result ≡ None }
+    {
+        self.handle.capacity()
+    }
+
+    /// How many senders the channel has.
+    pub fn sender_count(&self) -> usize {
+        self.handle.sender_count()
+    }
+
+    /// How many receivers the channel has.
+    pub fn receiver_count(&self) -> usize {
+        self.handle.receiver_count()
+    }
+}
+
+/// A further sender of the channel. Refused where there are more than `usize::MAX / 2`, or for want of memory; the
+/// count is then as it was.
+impl<T: Drop, P: Ord + Drop, R: Wait + Clone, A: Allocator + Copy> Clone for Sender<T, P, R, A> {
+    ghost use Rattle.async_priority_channel.specs.Handles.{SameChannel};
+
+    ghost is_clone = { SameChannel };
+
+    fn clone(&self) -> Result<Self, AllocError> {
+        let handle = self.handle.share()?;
+        // Last, so that a refusal above leaves the count.
+        if !self.handle.lock().clone_sender() {
+            return Err(AllocError);
+        }
+        Ok(Sender { handle })
+    }
+}
+
+impl<T: Drop, P: Ord + Drop, R: Wait + Clone, A: Allocator + Copy> Drop for Sender<T, P, R, A> {
+    fn drop(self) {
+        let Sender { handle } = self;
+        let mut core = handle.lock();
+        // Nothing says of what a lock guards that this handle is counted there.
+        let wakes = if core.sender_count() > 0 {
+            core.drop_sender()
+        } else {
+            core.nobody()
+        };
+        drop(core);
+        handle.wake_all(wakes);
+    }
+}
+
+impl<T, P: Ord, R: Wait + Clone, A: Allocator + Copy> fmt::Debug for Sender<T, P, R, A> {
+    fn fmt<W: fmt::Write>(&self, f: &mut fmt::Formatter<W>) -> fmt::Result {
+        f.write_str("Sender { .. }")
+    }
+}

@@ -1,0 +1,92 @@
+//! The future that receives one message.
+ghost use Rattle.std.specs.Prelude.{◌≡◌, ⊤, Result};
+ghost use Rattle.futures.specs.Task.{Covers, Keeps};
+ghost use Rattle.futures.specs.Poll.{IfReady, OnPending};
+ghost use Rattle.priority_channel_core.specs.declared.errors.RecvFault.{RecvFault};
+ghost use Rattle.async_priority_channel.specs.States.{done, unpolled};
+
+use crate::kept_waker::KeptWaker;
+use crate::receiver::Receiver;
+use crate::waiting::RecvState;
+use futures::Future;
+use futures::task::{Context, Poll};
+use priority_channel_core::errors::RecvFault;
+use std::alloc::{Allocator, Global};
+use std::marker::Model;
+use std::sync::Wait;
+
+/// Receives one message once there is one. `Receiver::recv` makes it.
+///
+/// Its fault is `Closed`, where none can come any more, or `Memory`, where memory to wait was refused. Polled again
+/// after its answer it is pending, and does nothing.
+pub struct Recv<'a, T, P: Ord, R: Wait + Clone, A: Allocator + Copy = Global> {
+    receiver: &'a Receiver<T, P, R, A>,
+    state: RecvState,
+    place: Option<KeptWaker<A>>,
+}
+
+impl<'a, T, P: Ord, R: Wait + Clone, A: Allocator + Copy> Model for Recv<'a, T, P, R, A> {
+    ghost use Rattle.async_priority_channel.specs.Handles.{Underway};
+
+    ghost Value = { Underway (Unit {0}) };
+
+    ghost view = { λ f. record { channel = f.receiver.now; state = f.state } };
+}
+
+impl<'a, T: Drop, P: Ord + Drop, R: Wait + Clone, A: Allocator + Copy> Recv<'a, T, P, R, A> {
+    pub(crate) fn new(receiver: &'a Receiver<T, P, R, A>) -> Self
+        ensures channel { result.channel ≡ receiver.now }
+        ensures fresh { result.state ≡ unpolled tt }
+    {
+        Recv {
+            receiver,
+            state: RecvState::new(),
+            place: None,
+        }
+    }
+}
+
+impl<T: Drop, P: Ord + Drop, R: Wait + Clone, A: Allocator + Copy> Future for Recv<'_, T, P, R, A> {
+    type Output = Result<(T, P), RecvFault>;
+
+    ghost needs = { λ f source. source ≡ f.channel.message };
+
+    fn poll(&mut self, cx: &mut Context<'_>) -> Poll<Self::Output>
+        ensures value { IfReady result (λ _. ⊤) }
+        ensures again { OnPending result ⊤ }
+        ensures same { OnPending result ((x : Result (T × P) RecvFault) → ⊤ → ⊤) }
+        ensures registered { OnPending result (Covers cx.new (λ source. source ≡ self.new.channel.message)) }
+        ensures kept { Keeps cx.old cx.new }
+        ensures done { self.old.state ≡ done → (result ≡ Poll.Pending) × (self.new ≡ self.old) }
+    {
+        if self.state.is_done() {
+            return cx.yield_now();
+        }
+        let receiver = self.receiver;
+        let handle = &receiver.handle;
+        let Some(waker) = handle.register(cx, handle.message(), &mut self.place) else {
+            self.state.give_up_on(&mut handle.lock());
+            return Poll::Ready(Err(RecvFault::Memory));
+        };
+        let mut core = handle.lock();
+        let (polled, wakes) = self.state.poll_on(&mut core, waker);
+        drop(core);
+        handle.wake_all(wakes);
+        polled
+    }
+}
+
+impl<T: Drop, P: Ord + Drop, R: Wait + Clone, A: Allocator + Copy> Drop for Recv<'_, T, P, R, A> {
+    fn drop(self) {
+        let Recv {
+            receiver,
+            mut state,
+            place,
+        } = self;
+        let mut core = receiver.handle.lock();
+        state.give_up_on(&mut core);
+        drop(core);
+        // A waker wakes as it is dropped.
+        drop(place);
+    }
+}

@@ -1,0 +1,98 @@
+//! The future that sends one message.
+ghost use Rattle.std.specs.Prelude.{◌≡◌, ⊤};
+ghost use Rattle.futures.specs.Task.{Covers, Keeps};
+ghost use Rattle.futures.specs.Poll.{IfReady, OnPending};
+ghost use Rattle.async_priority_channel.specs.States.{done, unpolled};
+ghost use Rattle.async_priority_channel.specs.Handles.{HandsBack};
+
+use crate::kept_waker::KeptWaker;
+use crate::sender::Sender;
+use crate::waiting::SendState;
+use futures::Future;
+use futures::task::{Context, Poll};
+use priority_channel_core::errors::SendFault;
+use std::alloc::{Allocator, Global};
+use std::marker::Model;
+use std::sync::Wait;
+
+/// Sends one message once there is room. `Sender::send` makes it.
+///
+/// Its fault is `Closed`, or `Memory` where memory was refused, and gives the message back. Polled again after its
+/// answer it is pending, and does nothing.
+pub struct Send<'a, T, P: Ord, R: Wait + Clone, A: Allocator + Copy = Global> {
+    sender: &'a Sender<T, P, R, A>,
+    state: SendState<T, P>,
+    place: Option<KeptWaker<A>>,
+}
+
+impl<'a, T, P: Ord, R: Wait + Clone, A: Allocator + Copy> Model for Send<'a, T, P, R, A> {
+    ghost use Rattle.async_priority_channel.specs.Handles.{Underway};
+
+    ghost Value = { Underway (T × P) };
+
+    ghost view = { λ f. record { channel = f.sender.now; state = f.state } };
+}
+
+impl<'a, T: Drop, P: Ord + Drop, R: Wait + Clone, A: Allocator + Copy> Send<'a, T, P, R, A> {
+    pub(crate) fn new(sender: &'a Sender<T, P, R, A>, msg: T, priority: P) -> Self
+        ensures channel { result.channel ≡ sender.now }
+        ensures holds { result.state ≡ unpolled (msg, priority) }
+    {
+        Send {
+            sender,
+            state: SendState::new(msg, priority),
+            place: None,
+        }
+    }
+}
+
+impl<T: Drop, P: Ord + Drop, R: Wait + Clone, A: Allocator + Copy> Future for Send<'_, T, P, R, A> {
+    type Output = Result<(), SendFault<(T, P)>>;
+
+    ghost needs = { λ f source. source ≡ f.channel.room };
+
+    ghost gives = { HandsBack };
+
+    fn poll(&mut self, cx: &mut Context<'_>) -> Poll<Self::Output>
+        ensures value { IfReady result (HandsBack self.old) }
+        ensures again { OnPending result ⊤ }
+        ensures same { OnPending result ((x : _) → HandsBack self.new x → HandsBack self.old x) }
+        ensures registered { OnPending result (Covers cx.new (λ source. source ≡ self.new.channel.room)) }
+        ensures kept { Keeps cx.old cx.new }
+        ensures done { self.old.state ≡ done → (result ≡ Poll.Pending) × (self.new ≡ self.old) }
+    {
+        if self.state.is_done() {
+            return cx.yield_now();
+        }
+        let sender = self.sender;
+        let handle = &sender.handle;
+        let Some(waker) = handle.register(cx, handle.room(), &mut self.place) else {
+            let unsent = self.state.give_up_on(&mut handle.lock());
+            let Some(pair) = unsent else {
+                return cx.yield_now();
+            };
+            return Poll::Ready(Err(SendFault::Memory(pair)));
+        };
+        let mut core = handle.lock();
+        let (polled, wakes) = self.state.poll_on(&mut core, waker);
+        drop(core);
+        handle.wake_all(wakes);
+        polled
+    }
+}
+
+impl<T: Drop, P: Ord + Drop, R: Wait + Clone, A: Allocator + Copy> Drop for Send<'_, T, P, R, A> {
+    fn drop(self) {
+        let Send {
+            sender,
+            mut state,
+            place,
+        } = self;
+        let mut core = sender.handle.lock();
+        let unsent = state.give_up_on(&mut core);
+        drop(core);
+        // A message may hold a handle of this channel, and a waker wakes as it is dropped.
+        drop(unsent);
+        drop(place);
+    }
+}

@@ -1,0 +1,119 @@
+//! The future that sends many messages.
+ghost use Rattle.std.specs.Prelude.{◌≡◌};
+ghost use Rattle.std.specs.Option.{ForSome};
+ghost use Rattle.std.specs.Iterator.Adapters.{peekable_can};
+ghost use Rattle.futures.specs.Task.{Covers, Keeps};
+ghost use Rattle.futures.specs.Poll.{IfReady, OnPending};
+ghost use Rattle.priority_channel_core.specs.Lists.{HasList};
+ghost use Rattle.async_priority_channel.specs.States.{done, unpolled};
+ghost use Rattle.async_priority_channel.specs.Handles.{HandsBackTail};
+
+use crate::kept_waker::KeptWaker;
+use crate::sender::Sender;
+use crate::waiting::SendvState;
+use futures::Future;
+use futures::task::{Context, Poll};
+use priority_channel_core::errors::SendFault;
+use std::alloc::{Allocator, Global};
+use std::iter::Peekable;
+use std::marker::Model;
+use std::sync::Wait;
+
+/// Sends many messages, as there is room. `Sender::sendv` makes it, and `M` is what holds them: a `Peekable`.
+///
+/// Its fault is `Closed`, or `Memory` where memory was refused, and gives back what was not sent. Polled again after its
+/// answer it is pending, and does nothing.
+pub struct Sendv<'a, T, P: Ord, M, R: Wait + Clone, A: Allocator + Copy = Global> {
+    sender: &'a Sender<T, P, R, A>,
+    state: SendvState<M>,
+    place: Option<KeptWaker<A>>,
+}
+
+impl<'a, T, P: Ord, M, R: Wait + Clone, A: Allocator + Copy> Model for Sendv<'a, T, P, M, R, A> {
+    ghost use Rattle.async_priority_channel.specs.Handles.{Underway};
+
+    ghost Value = { Underway M };
+
+    ghost view = { λ f. record { channel = f.sender.now; state = f.state } };
+}
+
+impl<'a, T: Drop, P: Ord + Drop, M: Drop, R: Wait + Clone, A: Allocator + Copy> Sendv<
+    'a,
+    T,
+    P,
+    M,
+    R,
+    A,
+> {
+    pub(crate) fn new(sender: &'a Sender<T, P, R, A>, msgs: M) -> Self
+        ensures channel { result.channel ≡ sender.now }
+        ensures holds { result.state ≡ unpolled msgs }
+    {
+        Sendv {
+            sender,
+            state: SendvState::new(msgs),
+            place: None,
+        }
+    }
+}
+
+impl<
+    T: Drop,
+    P: Ord + Drop,
+    I: Iterator<Item = (T, P)>,
+    R: Wait + Clone,
+    A: Allocator + Copy,
+> Future for Sendv<'_, T, P, Peekable<I>, R, A> {
+    type Output = Result<(), SendFault<Peekable<I>>>;
+
+    ghost can_poll = { λ f. ForSome f.state.kept (peekable_can I.can_next) };
+
+    ghost needs = { λ f source. source ≡ f.channel.room };
+
+    ghost gives = { HandsBackTail (HasList I.next_gives) (peekable_can I.can_next) };
+
+    fn poll(&mut self, cx: &mut Context<'_>) -> Poll<Self::Output>
+        requires { ForSome self.old.state.kept (peekable_can I.can_next) }
+        ensures value { IfReady result (HandsBackTail (HasList I.next_gives) (peekable_can I.can_next) self.old) }
+        ensures again { OnPending result (ForSome self.new.state.kept (peekable_can I.can_next)) }
+        ensures same { OnPending result ((x : _) → HandsBackTail (HasList I.next_gives) (peekable_can I.can_next) self.new x → HandsBackTail (HasList I.next_gives) (peekable_can I.can_next) self.old x) }
+        ensures registered { OnPending result (Covers cx.new (λ source. source ≡ self.new.channel.room)) }
+        ensures kept { Keeps cx.old cx.new }
+        ensures done { self.old.state ≡ done → (result ≡ Poll.Pending) × (self.new ≡ self.old) }
+    {
+        if self.state.is_done() {
+            return cx.yield_now();
+        }
+        let sender = self.sender;
+        let handle = &sender.handle;
+        let Some(waker) = handle.register(cx, handle.room(), &mut self.place) else {
+            let unsent = self.state.give_up_on(&mut handle.lock());
+            let Some(rest) = unsent else {
+                return cx.yield_now();
+            };
+            return Poll::Ready(Err(SendFault::Memory(rest)));
+        };
+        let mut core = handle.lock();
+        let (polled, wakes) = self.state.poll_on(&mut core, waker);
+        drop(core);
+        handle.wake_all(wakes);
+        polled
+    }
+}
+
+impl<T: Drop, P: Ord + Drop, M: Drop, R: Wait + Clone, A: Allocator + Copy> Drop
+    for Sendv<'_, T, P, M, R, A> {
+    fn drop(self) {
+        let Sendv {
+            sender,
+            mut state,
+            place,
+        } = self;
+        let mut core = sender.handle.lock();
+        let unsent = state.give_up_on(&mut core);
+        drop(core);
+        // A message may hold a handle of this channel, and a waker wakes as it is dropped.
+        drop(unsent);
+        drop(place);
+    }
+}

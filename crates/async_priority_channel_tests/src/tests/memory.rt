@@ -1,0 +1,67 @@
+//! Where memory is refused, what was to be sent comes back.
+use async_priority_channel::{RecvFault, SendFault, bounded, unbounded};
+use futures::executor::block_on;
+use refusing::Refusing;
+use std::test::Fail;
+
+#[test]
+fn a_making_may_be_refused(rt: HostRuntime) {
+    let alloc = Refusing::new(rt.alloc());
+    alloc.refuse_all();
+    assert!(rt; bounded::<u64, u64, _, _>(&rt, &alloc, 1).is_err());
+    assert!(rt; unbounded::<u64, u64, _, _>(&rt, &alloc).is_err());
+}
+
+#[test]
+fn a_refused_send_comes_back(rt: HostRuntime) -> Result<(), Fail> {
+    let alloc = Refusing::new(rt.alloc());
+    let (tx, rx) = bounded(&rt, &alloc, 2)?;
+    for n in 1..10u64 {
+        alloc.refuse_nth(n);
+        let sent = block_on(&rt, tx.send("x", n))?;
+        if alloc.refuse_none() {
+            assert_eq!(rt; sent, Ok(()));
+            // The place for the waker, and the place for the message.
+            assert_eq!(rt; n, 3);
+            return Ok(());
+        }
+        assert_eq!(rt; sent, Err(SendFault::Memory(("x", n))));
+        assert!(rt; rx.is_empty());
+    }
+    Err(Fail::from("each of nine sends was refused"))
+}
+
+#[test]
+fn a_refused_bulk_send_comes_back(rt: HostRuntime) -> Result<(), Fail> {
+    let alloc = Refusing::new(rt.alloc());
+    let (tx, rx) = bounded(&rt, &alloc, 2)?;
+    alloc.refuse_all();
+    let sent = block_on(
+        &rt,
+        tx.sendv([("x", 1u64), ("y", 2)].into_iter().peekable()),
+    )?;
+    alloc.refuse_none();
+    let Err(SendFault::Memory(rest)) = sent else {
+        return Err(Fail::from("it was not refused"));
+    };
+    assert!(rt; rx.is_empty());
+    assert!(rt; tx.try_sendv(rest).is_ok());
+    assert_eq!(rt; rx.try_recv(), Ok(("y", 2)));
+    assert_eq!(rt; rx.try_recv(), Ok(("x", 1)));
+    Ok(())
+}
+
+#[test]
+fn a_receive_may_be_refused(rt: HostRuntime) -> Result<(), Fail> {
+    let alloc = Refusing::new(rt.alloc());
+    let (tx, rx) = bounded::<u64, u64, _, _>(&rt, &alloc, 1)?;
+    alloc.refuse_all();
+    assert_eq!(rt; block_on(&rt, rx.recv())?, Err(RecvFault::Memory));
+    // The place for the waker is had, and that in the waiting list is not.
+    alloc.refuse_nth(2);
+    assert_eq!(rt; block_on(&rt, rx.recv())?, Err(RecvFault::Memory));
+    alloc.refuse_none();
+    assert!(rt; tx.try_send(1, 1).is_ok());
+    assert_eq!(rt; block_on(&rt, rx.recv())?, Ok((1, 1)));
+    Ok(())
+}

@@ -1,0 +1,169 @@
+//! Handles on many threads.
+use async_priority_channel::{Ends, Receiver, RecvError, RecvFault, Sender, bounded, unbounded};
+use futures::executor::block_on;
+use std::alloc::{AllocError, AllocGlobal, Global};
+use std::random::RandomSource;
+use std::sync::Wait;
+use std::test::Fail;
+use std::thread::{self, Threads};
+
+// Sends the numbers from `first` on, each with itself as priority. Tells how many were sent.
+fn send_from<R>(rt: &R, tx: &Sender<u64, u64, R>, first: u64, count: u64) -> u64
+where
+    R: Wait + Copy + RandomSource + AllocGlobal,
+{
+    let mut sent = 0u64;
+    for i in 0..count {
+        let number = first.wrapping_add(i);
+        if let Ok(Ok(())) = block_on(rt, tx.send(number, number)) {
+            sent = sent.wrapping_add(1);
+        }
+    }
+    sent
+}
+
+// Sends that many numbers by one bulk send, and tells whether all were sent.
+fn send_many<R>(rt: &R, tx: &Sender<u64, u64, R>, count: u64) -> bool
+where
+    R: Wait + Copy + RandomSource + AllocGlobal,
+{
+    let numbers = (0..count).map(|i| (i, i)).peekable();
+    matches!(block_on(rt, tx.sendv(numbers)), Ok(Ok(())))
+}
+
+// Receives until the channel is closed and empty. Gives how many messages came, and their sum.
+fn receive_all<R>(rt: &R, rx: &Receiver<u64, u64, R>) -> (u64, u64)
+where
+    R: Wait + Copy + RandomSource + AllocGlobal,
+{
+    let mut received = 0u64;
+    let mut sum = 0u64;
+    for _ in 0..100_000u32 {
+        let Ok(Ok((number, _))) = block_on(rt, rx.recv()) else {
+            break;
+        };
+        received = received.wrapping_add(1);
+        sum = sum.wrapping_add(number);
+    }
+    // Nobody may be left who waits for room.
+    rx.close();
+    (received, sum)
+}
+
+// That many threads send 0, 1, 2 and so on, and others receive. Tells how many were sent, how many came, and their sum.
+fn relay<R>(
+    rt: R,
+    ends: Ends<u64, u64, R, Global>,
+    senders: u64,
+    each: u64,
+    receivers: u64,
+) -> Result<(u64, u64, u64), AllocError>
+where
+    R: Threads + Wait + Copy + RandomSource + AllocGlobal + Send + 'static,
+{
+    let (tx, rx) = ends;
+    let mut receiving = Vec::new(rt.alloc());
+    for _ in 0..receivers {
+        let rx = rx.clone()?;
+        receiving.push(thread::spawn(&rt, move || receive_all(&rt, &rx))?)?;
+    }
+    let mut sending = Vec::new(rt.alloc());
+    for i in 0..senders {
+        let tx = tx.clone()?;
+        let first = i.wrapping_mul(each);
+        sending.push(thread::spawn(&rt, move || send_from(&rt, &tx, first, each))?)?;
+    }
+    // The channel closes when the last sending thread ends.
+    drop(tx);
+    let mut sent = 0u64;
+    for thread in sending {
+        sent = sent.wrapping_add(thread.join(&rt));
+    }
+    let mut received = 0u64;
+    let mut sum = 0u64;
+    for thread in receiving {
+        let (count, part) = thread.join(&rt);
+        received = received.wrapping_add(count);
+        sum = sum.wrapping_add(part);
+    }
+    Ok((sent, received, sum))
+}
+
+#[test]
+fn one_to_one_unbounded(rt: HostRuntime) -> Result<(), Fail> {
+    let relayed = relay(rt, unbounded(&rt, rt.alloc())?, 1, 1000, 1)?;
+    assert_eq!(rt; relayed, (1000, 1000, 499_500));
+    Ok(())
+}
+
+#[test]
+fn one_to_one_bounded(rt: HostRuntime) -> Result<(), Fail> {
+    let relayed = relay(rt, bounded(&rt, rt.alloc(), 10)?, 1, 1000, 1)?;
+    assert_eq!(rt; relayed, (1000, 1000, 499_500));
+    Ok(())
+}
+
+#[test]
+fn ten_to_one_unbounded(rt: HostRuntime) -> Result<(), Fail> {
+    let relayed = relay(rt, unbounded(&rt, rt.alloc())?, 10, 500, 1)?;
+    assert_eq!(rt; relayed, (5000, 5000, 12_497_500));
+    Ok(())
+}
+
+#[test]
+fn ten_to_one_bounded(rt: HostRuntime) -> Result<(), Fail> {
+    let relayed = relay(rt, bounded(&rt, rt.alloc(), 10)?, 10, 500, 1)?;
+    assert_eq!(rt; relayed, (5000, 5000, 12_497_500));
+    Ok(())
+}
+
+#[test]
+fn ten_to_ten_unbounded(rt: HostRuntime) -> Result<(), Fail> {
+    let relayed = relay(rt, unbounded(&rt, rt.alloc())?, 10, 500, 10)?;
+    assert_eq!(rt; relayed, (5000, 5000, 12_497_500));
+    Ok(())
+}
+
+#[test]
+fn ten_to_ten_bounded(rt: HostRuntime) -> Result<(), Fail> {
+    let relayed = relay(rt, bounded(&rt, rt.alloc(), 10)?, 10, 500, 10)?;
+    assert_eq!(rt; relayed, (5000, 5000, 12_497_500));
+    Ok(())
+}
+
+#[test]
+fn a_close_ends_ten_receives(rt: HostRuntime) -> Result<(), Fail> {
+    let (tx, rx) = bounded::<u64, u64, _, _>(&rt, rt.alloc(), 10)?;
+    let mut receiving = Vec::new(rt.alloc());
+    for _ in 0..10 {
+        let rx = rx.clone()?;
+        receiving.push(thread::spawn(&rt, move || block_on(&rt, rx.recv()))?)?;
+    }
+    let closing = thread::spawn(&rt, move || tx.close())?;
+    assert!(rt; closing.join(&rt));
+    for thread in receiving {
+        assert_eq!(rt; thread.join(&rt)?, Err(RecvFault::Closed(RecvError)));
+    }
+    Ok(())
+}
+
+#[test]
+fn a_send_waits_for_room(rt: HostRuntime) -> Result<(), Fail> {
+    let (tx, rx) = bounded(&rt, rt.alloc(), 1)?;
+    assert_eq!(rt; tx.try_send(1u64, 1u64), Ok(()));
+    let sending = thread::spawn(&rt, move || block_on(&rt, tx.send(2, 2)))?;
+    assert_eq!(rt; block_on(&rt, rx.recv())?, Ok((1, 1)));
+    assert_eq!(rt; block_on(&rt, rx.recv())?, Ok((2, 2)));
+    assert_eq!(rt; sending.join(&rt)?, Ok(()));
+    Ok(())
+}
+
+#[test]
+fn a_bulk_send_goes_on_as_room_comes(rt: HostRuntime) -> Result<(), Fail> {
+    let (tx, rx) = bounded(&rt, rt.alloc(), 2)?;
+    let sending = thread::spawn(&rt, move || send_many(&rt, &tx, 100))?;
+    let (received, sum) = receive_all(&rt, &rx);
+    assert!(rt; sending.join(&rt));
+    assert_eq!(rt; (received, sum), (100, 4950));
+    Ok(())
+}

@@ -1,0 +1,158 @@
+//! Sends and receives by futures, on one thread.
+use async_priority_channel::{
+    RecvError, RecvFault, Send, SendError, SendFault, Sender, TryRecvError, bounded, unbounded,
+};
+use futures::Future;
+use futures::executor::block_on;
+use futures::future::poll_immediate;
+use futures::task::{Context, Poll};
+use std::alloc::{AllocGlobal, Allocator};
+use std::io;
+use std::random::RandomSource;
+use std::sync::Wait;
+use std::test::Fail;
+
+// The end of a bulk send, with how many messages came back.
+fn sendv<T: Drop, R: Wait + Clone + RandomSource + AllocGlobal>(
+    rt: &R,
+    tx: &Sender<T, u64, R>,
+    msgs: Vec<(T, u64)>,
+) -> io::Result<Result<(), SendFault<usize>>> {
+    match block_on(rt, tx.sendv(msgs.into_iter().peekable()))? {
+        Ok(()) => Ok(Ok(())),
+        Err(SendFault::Closed(SendError(rest))) => Ok(Err(SendFault::Closed(SendError(
+            rest.count(),
+        )))),
+        Err(SendFault::Memory(rest)) => Ok(Err(SendFault::Memory(rest.count()))),
+    }
+}
+
+#[test]
+fn the_greatest_priority_comes_first(rt: HostRuntime) -> Result<(), Fail> {
+    let (tx, rx) = unbounded(&rt, rt.alloc())?;
+    assert_eq!(rt; block_on(&rt, tx.send("Foo", 0u64))?, Ok(()));
+    assert_eq!(rt; block_on(&rt, tx.send("Bar", 2))?, Ok(()));
+    assert_eq!(rt; block_on(&rt, tx.send("Baz", 1))?, Ok(()));
+    assert_eq!(rt; block_on(&rt, rx.recv())?, Ok(("Bar", 2)));
+    Ok(())
+}
+
+#[test]
+fn holds_one(rt: HostRuntime) -> Result<(), Fail> {
+    let (tx, rx) = bounded(&rt, rt.alloc(), 1)?;
+    assert_eq!(rt; block_on(&rt, tx.send("Foo", 0u64))?, Ok(()));
+    assert_eq!(rt; block_on(&rt, rx.recv())?, Ok(("Foo", 0)));
+    Ok(())
+}
+
+#[test]
+fn a_closed_channel_gives_what_is_pending(rt: HostRuntime) -> Result<(), Fail> {
+    let (tx, rx) = bounded(&rt, rt.alloc(), 3)?;
+    assert_eq!(rt; block_on(&rt, tx.send(1u64, 1u64))?, Ok(()));
+    assert_eq!(rt; block_on(&rt, tx.send(3, 3))?, Ok(()));
+    assert_eq!(rt; block_on(&rt, tx.send(2, 2))?, Ok(()));
+    assert!(rt; tx.close());
+    assert_eq!(rt;
+        block_on(&rt, tx.send(4, 4))?,
+        Err(SendFault::Closed(SendError((4, 4))))
+    );
+    assert_eq!(rt; block_on(&rt, rx.recv())?, Ok((3, 3)));
+    assert_eq!(rt; block_on(&rt, rx.recv())?, Ok((2, 2)));
+    assert_eq!(rt; block_on(&rt, rx.recv())?, Ok((1, 1)));
+    assert_eq!(rt;
+        block_on(&rt, rx.recv())?,
+        Err(RecvFault::Closed(RecvError))
+    );
+    Ok(())
+}
+
+#[test]
+fn sends_many(rt: HostRuntime) -> Result<(), Fail> {
+    let (tx, rx) = bounded(&rt, rt.alloc(), 10)?;
+    assert_eq!(rt;
+        sendv(&rt, &tx, vec![in rt.alloc(); ("a", 0), ("b", 1)]?)?,
+        Ok(())
+    );
+    assert_eq!(rt; block_on(&rt, rx.recv())?, Ok(("b", 1)));
+    assert_eq!(rt; block_on(&rt, rx.recv())?, Ok(("a", 0)));
+    assert!(rt; rx.close());
+    assert_eq!(rt;
+        sendv(&rt, &tx, vec![in rt.alloc(); ("a", 0), ("b", 1)]?)?,
+        Err(SendFault::Closed(SendError(2)))
+    );
+    assert_eq!(rt;
+        sendv(&rt, &tx, Vec::new(rt.alloc()))?,
+        Err(SendFault::Closed(SendError(0)))
+    );
+    Ok(())
+}
+
+#[test]
+fn the_last_sender_closes(rt: HostRuntime) -> Result<(), Fail> {
+    let (tx, rx) = bounded(&rt, rt.alloc(), 2)?;
+    assert_eq!(rt; block_on(&rt, tx.send(1u64, 1u64))?, Ok(()));
+    drop(tx);
+    assert_eq!(rt; block_on(&rt, rx.recv())?, Ok((1, 1)));
+    assert_eq!(rt;
+        block_on(&rt, rx.recv())?,
+        Err(RecvFault::Closed(RecvError))
+    );
+    Ok(())
+}
+
+#[test]
+fn a_dropped_send_sends_nothing(rt: HostRuntime) -> Result<(), Fail> {
+    let (tx, rx) = bounded(&rt, rt.alloc(), 1)?;
+    assert_eq!(rt; tx.try_send("x", 1u64), Ok(()));
+    assert_eq!(rt; block_on(&rt, poll_immediate(tx.send("y", 2)))?, None);
+    assert_eq!(rt; rx.try_recv(), Ok(("x", 1)));
+    assert_eq!(rt; rx.try_recv(), Err(TryRecvError::Empty));
+    Ok(())
+}
+
+#[test]
+fn what_a_dropped_bulk_send_sent_stays(rt: HostRuntime) -> Result<(), Fail> {
+    let (tx, rx) = bounded(&rt, rt.alloc(), 1)?;
+    let sending = tx.sendv([("a", 1u64), ("b", 2)].into_iter().peekable());
+    assert!(rt; block_on(&rt, poll_immediate(sending))?.is_none());
+    assert_eq!(rt; rx.len(), 1);
+    assert_eq!(rt; rx.try_recv(), Ok(("a", 1)));
+    assert_eq!(rt; rx.try_recv(), Err(TryRecvError::Empty));
+    Ok(())
+}
+
+#[test]
+fn a_dropped_receive_takes_nothing(rt: HostRuntime) -> Result<(), Fail> {
+    let (tx, rx) = bounded(&rt, rt.alloc(), 1)?;
+    assert_eq!(rt; block_on(&rt, poll_immediate(rx.recv()))?, None);
+    assert_eq!(rt; tx.try_send("x", 1u64), Ok(()));
+    assert_eq!(rt; rx.len(), 1);
+    Ok(())
+}
+
+// Sends, and is polled once more after its answer. Tells whether that poll was pending.
+#[derive(Drop)]
+struct PolledAgain<'a, R: Wait + Clone, A: Allocator + Copy> {
+    sending: Send<'a, u64, u64, R, A>,
+}
+
+impl<R: Wait + Clone, A: Allocator + Copy> Future for PolledAgain<'_, R, A> {
+    type Output = bool;
+
+    fn poll(&mut self, cx: &mut Context<'_>) -> Poll<bool> {
+        match self.sending.poll(cx) {
+            Poll::Ready(Ok(())) => Poll::Ready(matches!(self.sending.poll(cx), Poll::Pending)),
+            Poll::Ready(Err(_)) => Poll::Ready(false),
+            Poll::Pending => Poll::Pending,
+        }
+    }
+}
+
+#[test]
+fn a_future_that_is_done_rests(rt: HostRuntime) -> Result<(), Fail> {
+    let (tx, rx) = bounded(&rt, rt.alloc(), 4)?;
+    let sending = tx.send(1, 1);
+    assert!(rt; block_on(&rt, PolledAgain { sending })?);
+    assert_eq!(rt; rx.len(), 1);
+    Ok(())
+}

@@ -1,0 +1,50 @@
+//! A job queue with two workers. Whichever of them does a job, the results come out in the order of the jobs.
+#![tactic(auto)]
+
+use async_priority_channel::{Receiver, RecvFault, Sender, bounded, unbounded};
+use futures::executor::block_on;
+use std::alloc::AllocGlobal;
+use std::cmp::Reverse;
+use std::random::RandomSource;
+use std::sync::Wait;
+use std::thread;
+
+// Squares numbers, until no more can come.
+fn work<R>(
+    rt: &R,
+    jobs: &Receiver<u64, u8, R>,
+    done: &Sender<u64, Reverse<u64>, R>,
+) -> anyhow::Result<()>
+where
+    R: Wait + Copy + RandomSource + AllocGlobal,
+{
+    for _ in rt.forever() {
+        match block_on(rt, jobs.recv())? {
+            Ok((job, _)) => block_on(rt, done.send(job.wrapping_mul(job), Reverse(job)))??,
+            Err(RecvFault::Closed(_)) => break,
+            Err(fault) => return Err(fault.into()),
+        }
+    }
+    Ok(())
+}
+
+fn main(rt: HostRuntime) -> anyhow::Result<()> {
+    let (tx, rx) = bounded(&rt, rt.alloc(), 4)?;
+    let (done_tx, done) = unbounded(&rt, rt.alloc())?;
+    let (other_rx, other_tx) = (rx.clone()?, done_tx.clone()?);
+    let worker = thread::spawn(&rt, move || work(&rt, &rx, &done_tx))?;
+    let other = thread::spawn(&rt, move || work(&rt, &other_rx, &other_tx))?;
+    for job in 1..=10u64 {
+        let urgency = if job == 7 { 1 } else { 0 };
+        block_on(&rt, tx.send(job, urgency))??;
+    }
+    drop(tx);
+    worker.join(&rt)?;
+    other.join(&rt)?;
+    for _ in 0..done.len() {
+        if let Ok((square, Reverse(job))) = done.try_recv() {
+            println!(rt; "job {job}: {square}")?;
+        }
+    }
+    Ok(())
+}
