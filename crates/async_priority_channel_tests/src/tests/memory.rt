@@ -1,6 +1,7 @@
 //! Where memory is refused, what was to be sent comes back.
 use async_priority_channel::{RecvFault, SendFault, bounded, unbounded};
 use futures::executor::block_on;
+use futures::future::poll_immediate;
 use refusing::Refusing;
 use std::test::Fail;
 
@@ -63,5 +64,21 @@ fn a_receive_may_be_refused(rt: HostRuntime) -> Result<(), Fail> {
     alloc.refuse_none();
     assert!(rt; tx.try_send(1, 1).is_ok());
     assert_eq!(rt; block_on(&rt, rx.recv())?, Ok((1, 1)));
+    Ok(())
+}
+
+#[test]
+fn a_dropped_future_waits_no_more(rt: HostRuntime) -> Result<(), Fail> {
+    let alloc = Refusing::new(rt.alloc());
+    let (tx, rx) = bounded(&rt, &alloc, 1)?;
+    assert_eq!(rt; block_on(&rt, poll_immediate(rx.recv()))?, None);
+    assert_eq!(rt; tx.try_send("x", 1u64), Ok(()));
+    assert_eq!(rt; block_on(&rt, poll_immediate(tx.send("y", 2)))?, None);
+    for _ in 0..20 {
+        // The place in the waiting list is free again, so only that for the waker is asked for.
+        alloc.refuse_nth(2);
+        assert_eq!(rt; block_on(&rt, poll_immediate(tx.send("y", 2)))?, None);
+        assert!(rt; alloc.refuse_none());
+    }
     Ok(())
 }
