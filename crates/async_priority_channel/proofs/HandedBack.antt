@@ -1,5 +1,5 @@
 -- What a bulk send gives back is a tail of what it was given, over all of its polls.
-use Rattle.std.proofs.Common.{◌≡◌, ℕ, ◌+◌, List, drop, refl, drop-drop}
+use Rattle.std.proofs.Common.{◌≡◌, ◌+◌, List, drop, refl, drop-drop}
 use Rattle.std.specs.Prelude.{Option, None, Some, IfSome, Result, Ok, Err}
 use Rattle.std.specs.Option.{ForSome, option_map}
 use Rattle.futures.specs.declared.task.Poll.{Poll}
@@ -13,7 +13,7 @@ use Rattle.priority_channel_core.specs.declared.calls.CorePoll.TheVariants.{Read
 use Rattle.priority_channel_core.specs.declared.errors.SendFault.{SendFault}
 use Rattle.priority_channel_core.specs.declared.errors.SendFault.TheVariants as send_fault
 use Rattle.priority_channel_core.specs.State.{State, Handed}
-use Rattle.async_priority_channel.specs.Future.{Task, polled}
+use Rattle.async_priority_channel.specs.Future.{polled}
 use Rattle.async_priority_channel.specs.Future.Task.{Sendv}
 use Rattle.async_priority_channel.specs.States.{Holding, told_by, unsent, HoldsTail, IsKeptOf, PollsKept}
 use Rattle.async_priority_channel.specs.Handles.{Underway, HandsBackTail}

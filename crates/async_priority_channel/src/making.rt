@@ -1,5 +1,6 @@
 //! The makings of a channel, which give its first sender and its first receiver.
 ghost use Rattle.std.specs.Prelude.{◌≡◌, ◌-◌, ◌<◌, ◌^◌, IfOk};
+ghost use Rattle.priority_channel_core.specs.State.{opening};
 
 use crate::receiver::Receiver;
 use crate::sender::Sender;
@@ -80,6 +81,7 @@ fn ends<T: Drop, P: Ord + Drop, R: Wait + Clone, A: Allocator + Copy>(
     cap: u64,
     core: Core<T, P, A>,
 ) -> Result<Ends<T, P, R, A>, AllocError>
+    requires { core.state ≡ opening cap core.state.is_reserved }
     ensures capacity { IfOk result (λ ends. ends.0.capacity ≡ cap) }
     ensures same { IfOk result (λ ends. ends.1 ≡ ends.0) }
 {

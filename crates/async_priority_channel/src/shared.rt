@@ -1,6 +1,7 @@
 //! What the handles of a channel share, and the calls that both kinds of handle make.
 ghost use Rattle.std.specs.Prelude.{◌≡◌, ◌-◌, ◌<◌, ◌^◌, IfOk, IsSome, None, Some};
 ghost use Rattle.futures.specs.Task.{Hears, IsArmed, Keeps};
+ghost use Rattle.priority_channel_core.specs.State.{opening};
 
 use crate::kept_waker::{KeptWaker, wake_all};
 use futures::task::{Context, Source};
@@ -47,13 +48,14 @@ impl<T, P: Ord, R, A: Allocator + Copy> Model for Handle<T, P, R, A> {
 }
 
 impl<T: Drop, P: Ord + Drop, R: Wait + Clone, A: Allocator + Copy> Handle<T, P, R, A> {
-    /// The sender's and the receiver's parts in a new channel of this core and its capacity.
+    /// The sender's and the receiver's parts in a new channel over this core.
     pub fn pair(
         rt: &R,
         alloc: A,
         capacity: u64,
         core: Core<T, P, A>,
     ) -> Result<(Self, Self), AllocError>
+        requires { core.state ≡ opening capacity core.state.is_reserved }
         ensures capacity { IfOk result (λ pair. pair.0.capacity ≡ capacity) }
         ensures same { IfOk result (λ pair. pair.1 ≡ pair.0) }
     {
