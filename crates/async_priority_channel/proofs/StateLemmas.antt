@@ -1,6 +1,6 @@
 -- What is kept of a future that was polled.
-use Rattle.std.proofs.Common.{◌≡◌, ℕ, List, drop, refl, inl, inr}
-use Rattle.std.specs.Prelude.{Option, Some, IfSome, IfErr, Result, Ok, Err}
+use Rattle.std.proofs.Common.{◌≡◌, ℕ, List, drop, refl, subst, inl, inr}
+use Rattle.std.specs.Prelude.{Option, None, Some, IfSome, IfErr, Result, Ok, Err}
 use Rattle.futures.specs.declared.task.Poll.{Poll}
 use Rattle.std.specs.declared.cmp.Ordering.{Ordering}
 use Rattle.priority_channel_core.specs.declared.calls.Call.{Call}
@@ -17,7 +17,7 @@ use Rattle.priority_channel_core.specs.declared.errors.TrySendError.TheVariants 
 use Rattle.priority_channel_core.specs.Errors.{refused}
 use Rattle.priority_channel_core.specs.Sends.{Sends}
 use Rattle.priority_channel_core.specs.Polls.{PollsSend}
-use Rattle.priority_channel_core.specs.Bulk.{kept_by, Performs}
+use Rattle.priority_channel_core.specs.Bulk.{kept_by, Performs, SamePoll, SameReply}
 use Rattle.async_priority_channel.specs.Future.{Task, poll_of, polled}
 use Rattle.async_priority_channel.specs.Future.Task.{Sendv}
 use Rattle.async_priority_channel.specs.States.{Holding, told_by, left_by, unsent, HoldsTail, send_of, IsKeptOf, PollsKept}
@@ -56,76 +56,72 @@ pub left_kept : {M : Type 0} (Q : M → Type 0) (reply : CorePoll (Result (Unit 
 left_kept Q (Ready outcome) h = tt
 left_kept Q (Pending held ticket) h = h
 
-module _ {T P W M : Type 0} (holds : M → List (T × P) → Type 0) (cmp : P → P → Ordering) (is_clone : W → W → Type 0)
-    (old new : State T P W) (handed : Handed W) (msgs : M) (given : Option ℕ) (waker : W) where
-  -- what comes back from a poll of a bulk send is a tail
-  tail_at : (poll told : CorePoll (Result (Unit {0}) (SendFault (List (T × P)))) (List (T × P))) → told ≡ poll → (list rest : List (T × P))
-      → kept_by poll ≡ Some rest → PollsSend is_clone old list given waker told handed new → (n : ℕ) × (rest ≡ drop n list)
-  tail_at (Ready (Ok sent)) told is list rest back h = absurd (cc)
-  tail_at (Ready (Err (send_fault.Closed e))) told is list rest back h = let k = rw is at h in let s = k.1 in (0, cc)
-  tail_at (Ready (Err (send_fault.Memory held))) told is list rest back h =
-      let k = rw is at h in
-      elim k.1 [ inl s ↦ let e = s.3 in (s.0, cc) | inr s ↦ let e = s.1 in (room old, cc) ]
-  tail_at (Pending held ticket) told is list rest back h = let k = rw is at h in let e = k.1.1 in (room old, cc)
-
-  pub polled_tail : (reply : CorePoll (Result (Unit {0}) (SendFault M)) M)
-      → Performs holds cmp is_clone old (call.PollSendv msgs given waker) (answer.PollSendv reply) handed new
-      → IfSome (kept_by reply) (HoldsTail holds msgs)
-  polled_tail (Ready (Ok sent)) h = tt
-  polled_tail (Ready (Err (send_fault.Closed e))) h = record {
-    at = λ list has.
-        let k = h.at (call.PollSendv list given waker) (list, refl, has) in
-        let same = k.1.2 in
-        let t = tail_at (Ready (Err (send_fault.Closed (record { 0 = same.0 })))) k.1.0 same.1 list same.0 refl (rw k.1.1 at k.2.moves) in
-        (t.0, rw (← t.1) same.2);
-  }
-  polled_tail (Ready (Err (send_fault.Memory held))) h = record {
-    at = λ list has.
-        let k = h.at (call.PollSendv list given waker) (list, refl, has) in
-        let same = k.1.2 in
-        let t = tail_at (Ready (Err (send_fault.Memory same.0))) k.1.0 same.1 list same.0 refl (rw k.1.1 at k.2.moves) in
-        (t.0, rw (← t.1) same.2);
-  }
-  polled_tail (Pending held ticket) h = record {
-    at = λ list has.
-        let k = h.at (call.PollSendv list given waker) (list, refl, has) in
-        let same = k.1.2 in
-        let t = tail_at (Pending same.0 ticket) k.1.0 same.1 list same.0 refl (rw k.1.1 at k.2.moves) in
-        (t.0, rw (← t.1) same.2);
-  }
+-- a fact of whatever there is
+if_some : {M : Type 0} (Q : M → Type 0) (held : Option M) → ((m : M) → held ≡ Some m → Q m) → IfSome held Q
+if_some Q None h = tt
+if_some Q (Some m) h = h m refl
 
 module _ {T P W M : Type 0} (holds : M → List (T × P) → Type 0) (cmp : P → P → Ordering) (is_clone : W → W → Type 0)
     (old new : State T P W) (handed : Handed W) (msgs : M) where
-  -- what comes back from a bulk send is a tail
-  rest_at : (reply told : Result (Unit {0}) (TrySendError (List (T × P)))) → told ≡ reply → (list : List (T × P))
-      → Sends old list told handed new → IfErr reply (λ error. (n : ℕ) × (refused error ≡ drop n list))
-  rest_at (Ok sent) told is list h = tt
-  rest_at (Err (send_error.Closed rest)) told is list h = let k = rw is at h in (0, k.1)
-  rest_at (Err (send_error.Full rest)) told is list h = let k = rw is at h in (room old, k.1)
-  rest_at (Err (send_error.Memory rest)) told is list h = let k = rw is at h in (k.0, k.3)
+  -- what comes back from a bulk send holds what comes back in the machine
+  same_refused : (error : TrySendError M) (told : Result (Unit {0}) (TrySendError (List (T × P)))) → SameReply holds (Err error) told
+      → (back : TrySendError (List (T × P))) × (told ≡ Err back) × holds (refused error) (refused back)
+  same_refused (send_error.Closed m) told h = (send_error.Closed h.0, h.1, h.2)
+  same_refused (send_error.Full m) told h = (send_error.Full h.0, h.1, h.2)
+  same_refused (send_error.Memory m) told h = (send_error.Memory h.0, h.1, h.2)
+
+  -- and that is a tail
+  rest_at : (back : TrySendError (List (T × P))) (list : List (T × P)) → Sends old list (Err back) handed new
+      → (n : ℕ) × (refused back ≡ drop n list)
+  rest_at (send_error.Closed rest) list h = (0, h.1)
+  rest_at (send_error.Full rest) list h = (room old, h.1)
+  rest_at (send_error.Memory rest) list h = (h.0, h.3)
+
+  refused_is_tail : (error : TrySendError M)
+      → Performs holds cmp is_clone old (call.TrySendv msgs) (answer.TrySendv (Err error)) handed new
+      → HoldsTail holds msgs (refused error)
+  refused_is_tail error h = record {
+    at = λ list has.
+        let k = h.at (call.TrySendv list) (list, refl, has) in
+        let same = same_refused error k.1.0 k.1.2 in
+        let tail = rest_at same.0 list (rw same.1 at (rw k.1.1 at k.2.moves)) in
+        (tail.0, rw (← tail.1) same.2);
+  }
 
   pub refused_tail : (reply : Result (Unit {0}) (TrySendError M))
       → Performs holds cmp is_clone old (call.TrySendv msgs) (answer.TrySendv reply) handed new
       → IfErr reply (λ error. HoldsTail holds msgs (refused error))
   refused_tail (Ok sent) h = tt
-  refused_tail (Err (send_error.Closed m)) h = record {
-    at = λ list has.
-        let k = h.at (call.TrySendv list) (list, refl, has) in
-        let same = k.1.2 in
-        let t = rest_at (Err (send_error.Closed same.0)) k.1.0 same.1 list (rw k.1.1 at k.2.moves) in
-        (t.0, rw (← t.1) same.2);
-  }
-  refused_tail (Err (send_error.Full m)) h = record {
-    at = λ list has.
-        let k = h.at (call.TrySendv list) (list, refl, has) in
-        let same = k.1.2 in
-        let t = rest_at (Err (send_error.Full same.0)) k.1.0 same.1 list (rw k.1.1 at k.2.moves) in
-        (t.0, rw (← t.1) same.2);
-  }
-  refused_tail (Err (send_error.Memory m)) h = record {
-    at = λ list has.
-        let k = h.at (call.TrySendv list) (list, refl, has) in
-        let same = k.1.2 in
-        let t = rest_at (Err (send_error.Memory same.0)) k.1.0 same.1 list (rw k.1.1 at k.2.moves) in
-        (t.0, rw (← t.1) same.2);
-  }
+  refused_tail (Err error) h = refused_is_tail error h
+
+  module _ (given : Option ℕ) (waker : W) where
+    kept_is : (m held : M) → Some m ≡ Some held → (list : List (T × P)) → holds m list → holds held list
+    kept_is m held is list h = let same : m ≡ held = cc in subst (λ x. holds x list) same h
+
+    -- the same of a poll
+    same_kept : (poll : CorePoll (Result (Unit {0}) (SendFault M)) M) (told : CorePoll (Result (Unit {0}) (SendFault (List (T × P)))) (List (T × P)))
+        → SamePoll holds poll told → (held : M) → kept_by poll ≡ Some held
+        → (rest : List (T × P)) × (kept_by told ≡ Some rest) × holds held rest
+    same_kept (Ready (Ok sent)) told h held is = absurd (cc)
+    same_kept (Ready (Err (send_fault.Closed e))) told h held is = (h.0, cc, kept_is _ held is h.0 h.2)
+    same_kept (Ready (Err (send_fault.Memory m))) told h held is = (h.0, cc, kept_is _ held is h.0 h.2)
+    same_kept (Pending m ticket) told h held is = (h.0, cc, kept_is _ held is h.0 h.2)
+
+    tail_at : (told : CorePoll (Result (Unit {0}) (SendFault (List (T × P)))) (List (T × P))) (list rest : List (T × P))
+        → kept_by told ≡ Some rest → PollsSend is_clone old list given waker told handed new → (n : ℕ) × (rest ≡ drop n list)
+    tail_at (Ready (Ok sent)) list rest back h = absurd (cc)
+    tail_at (Ready (Err (send_fault.Closed e))) list rest back h = let s = h.1 in (0, cc)
+    tail_at (Ready (Err (send_fault.Memory held))) list rest back h =
+        elim h.1 [ inl s ↦ let e = s.3 in (s.0, cc) | inr s ↦ let e = s.1 in (room old, cc) ]
+    tail_at (Pending held ticket) list rest back h = let e = h.1.1 in (room old, cc)
+
+    pub polled_tail : (reply : CorePoll (Result (Unit {0}) (SendFault M)) M)
+        → Performs holds cmp is_clone old (call.PollSendv msgs given waker) (answer.PollSendv reply) handed new
+        → IfSome (kept_by reply) (HoldsTail holds msgs)
+    polled_tail reply h = if_some (HoldsTail holds msgs) (kept_by reply) (λ held is. record {
+      at = λ list has.
+          let k = h.at (call.PollSendv list given waker) (list, refl, has) in
+          let same = same_kept reply k.1.0 k.1.2 held is in
+          let tail = tail_at k.1.0 list same.0 same.1 (rw k.1.1 at k.2.moves) in
+          (tail.0, rw (← tail.1) same.2);
+    })

@@ -1,5 +1,7 @@
 //! Where memory is refused, what was to be sent comes back.
-use async_priority_channel::{RecvFault, SendFault, bounded, unbounded};
+use async_priority_channel::{
+    RecvFault, SendFault, TryRecvError, TrySendError, bounded, bounded_reserved, unbounded,
+};
 use futures::executor::block_on;
 use futures::future::poll_immediate;
 use refusing::Refusing;
@@ -10,7 +12,24 @@ fn a_making_may_be_refused(rt: HostRuntime) {
     let alloc = Refusing::new(rt.alloc());
     alloc.refuse_all();
     assert!(rt; bounded::<u64, u64, _, _>(&rt, &alloc, 1).is_err());
+    assert!(rt; bounded_reserved::<u64, u64, _, _>(&rt, &alloc, 1).is_err());
     assert!(rt; unbounded::<u64, u64, _, _>(&rt, &alloc).is_err());
+}
+
+#[test]
+fn a_reserved_channel_asks_for_no_more(rt: HostRuntime) -> Result<(), Fail> {
+    let alloc = Refusing::new(rt.alloc());
+    let (tx, rx) = bounded_reserved(&rt, &alloc, 2)?;
+    alloc.refuse_all();
+    assert_eq!(rt; tx.try_send("x", 1u64), Ok(()));
+    assert!(rt; tx.try_sendv([("y", 2)].into_iter().peekable()).is_ok());
+    assert_eq!(rt; tx.try_send("z", 3), Err(TrySendError::Full(("z", 3))));
+    assert_eq!(rt; rx.try_recv(), Ok(("y", 2)));
+    assert_eq!(rt; tx.try_send("z", 3), Ok(()));
+    assert_eq!(rt; rx.try_recv(), Ok(("z", 3)));
+    assert_eq!(rt; rx.try_recv(), Ok(("x", 1)));
+    assert_eq!(rt; rx.try_recv(), Err(TryRecvError::Empty));
+    Ok(())
 }
 
 #[test]
