@@ -1,3 +1,5 @@
+pub mod Accounts
+pub mod Adding
 pub mod AlikeCalls
 pub mod AlikeLists
 pub mod AlikePolls
@@ -5,8 +7,10 @@ pub mod AlikeSteps
 pub mod Callings
 pub mod Effects
 pub mod Events
+pub mod Fronts
 pub mod HandedBack
 pub mod Hands
+pub mod Histories
 pub mod Lookups
 pub mod Places
 pub mod PollEnds

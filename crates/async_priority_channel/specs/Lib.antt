@@ -5,3 +5,6 @@ pub mod World
 pub mod WaitingLaw
 pub mod States
 pub mod Handles
+pub mod History
+pub mod Log
+pub mod Passes

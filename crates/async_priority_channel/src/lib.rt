@@ -5,6 +5,7 @@ mod kept_waker;
 pub mod laws;
 mod making;
 mod receiver;
+pub mod recorded;
 mod sender;
 mod shared;
 pub mod waiting;

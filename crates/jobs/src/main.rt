@@ -29,22 +29,20 @@ where
 }
 
 fn main(rt: HostRuntime) -> anyhow::Result<()> {
-    let (tx, rx) = bounded(&rt, rt.alloc(), 4)?;
-    let (done_tx, done) = unbounded(&rt, rt.alloc())?;
-    let (other_rx, other_tx) = (rx.clone()?, done_tx.clone()?);
-    let worker = thread::spawn(&rt, move || work(&rt, &rx, &done_tx))?;
-    let other = thread::spawn(&rt, move || work(&rt, &other_rx, &other_tx))?;
+    let (tx, jobs) = bounded(&rt, rt.alloc(), 4)?;
+    let (done, results) = unbounded(&rt, rt.alloc())?;
+    let (more_jobs, more_done) = (jobs.clone()?, done.clone()?);
+    let one = thread::spawn(&rt, move || work(&rt, &jobs, &done))?;
+    let other = thread::spawn(&rt, move || work(&rt, &more_jobs, &more_done))?;
     for job in 1..=10u64 {
-        let urgency = if job == 7 { 1 } else { 0 };
-        block_on(&rt, tx.send(job, urgency))??;
+        block_on(&rt, tx.send(job, u8::from(job == 7)))??;
     }
     drop(tx);
-    worker.join(&rt)?;
+    one.join(&rt)?;
     other.join(&rt)?;
-    for _ in 0..done.len() {
-        if let Ok((square, Reverse(job))) = done.try_recv() {
-            println!(rt; "job {job}: {square}")?;
-        }
+    for _ in 0..results.len() {
+        let (square, Reverse(job)) = results.try_recv()?;
+        println!(rt; "job {job}: {square}")?;
     }
     Ok(())
 }
