@@ -13,6 +13,9 @@ pub record Names : Type 0 where
   pub ledger : ℕ
   pub passes : ℕ
 
+abbrev pub names : Book → ℕ → ℕ → Names
+names log ledger passes = record { log = log; ledger = ledger; passes = passes }
+
 -- the word of a log, which is the first of its two
 abbrev pub word_of : Book → Named
 word_of b = record { tracked = true; key = 0; book = b }

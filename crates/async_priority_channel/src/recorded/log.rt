@@ -95,11 +95,11 @@ pub struct Fresh<T, P: Ord> {
 
 impl<T, P: Ord> Model for Fresh<T, P> {
     ghost use Rattle.std.specs.Prelude.{◌≡◌, []};
-    ghost use Rattle.async_priority_channel.specs.Log.{Names, word_of};
+    ghost use Rattle.async_priority_channel.specs.Log.{Names, names, word_of};
 
     ghost Value = { Names };
 
-    ghost view = { λ f. record { log = f.seen.book; ledger = f.ledger.name; passes = f.ledger.parts } };
+    ghost view = { λ f. names f.seen.book f.ledger.name f.ledger.parts };
 
     ghost invariant = { λ f. (f.seen.log ≡ []) × (f.word ≡ word_of f.seen.book) };
 }

@@ -2,7 +2,7 @@
 ghost use Rattle.std.specs.Prelude.{◌≡◌, ◌+◌, ◌<◌, ◌≤◌, ◌^◌, [], ◌∷◌, ◌++◌, length, vec_len, All, IfOk, OnErr};
 ghost use mathlib.Core.List.{IsPrefix};
 ghost use Rattle.async_priority_channel.specs.History.{entry, IsStep};
-ghost use Rattle.async_priority_channel.specs.Log.{IsLegal};
+ghost use Rattle.async_priority_channel.specs.Log.{IsLegal, names};
 ghost use Rattle.async_priority_channel.specs.Passes.{calls_made, AreNew, AreApart, Accounts, IsTold};
 
 use crate::recorded::book::{Book, Call, Entry, NoPlace, Reply};
@@ -118,7 +118,7 @@ impl<T: Copy, P: Copy + Ord, J: Recording, A: Allocator + Copy> Recorded<T, P, J
     ) -> Result<(Self, Vec<Pass<T, P, J>, A>), AllocError>
         requires positive { 0 < cap }
         requires fits { cap < 2 ^ 63 }
-        requires names { fresh ≡ record { log = J.log; ledger = J.name; passes = J.parts } }
+        requires names { fresh ≡ names J.log J.name J.parts }
         requires passes { fresh.passes ≡ passes }
         ensures count { IfOk result (λ made. vec_len made.1 ≡ passes) }
         ensures new { IfOk result (λ made. AreNew made.1.items) }

@@ -1,0 +1,5 @@
+//! Tests of channels whose calls are recorded: what no contract says.
+#![tactic(auto)]
+
+#[cfg(test)]
+mod tests;

@@ -1,0 +1,74 @@
+//! Books, which one caller has.
+use super::SEVEN;
+use async_priority_channel::recorded::{Book, Call, Entry, NoPlace, Reply};
+use async_priority_channel::{TryRecvError, TrySendError};
+use refusing::Refusing;
+use std::alloc::AllocError;
+
+#[test]
+fn enters_what_was_answered(rt: HostRuntime) -> Result<(), AllocError> {
+    let mut book = Book::new(rt.alloc(), 2, 8)?;
+    for (call, reply) in SEVEN {
+        assert_eq!(rt; book.record(7, call), Ok(reply));
+    }
+    assert_eq!(rt; book.history().len(), 7);
+    for i in 0..7usize {
+        let (call, reply) = SEVEN[i];
+        assert_eq!(rt; book.history().get(i), Some(&Entry { who: 7, call, reply }));
+    }
+    Ok(())
+}
+
+#[test]
+fn looks_at_the_channel(rt: HostRuntime) -> Result<(), AllocError> {
+    let mut book: Book<u64, u64> = Book::new(rt.alloc(), 1, 8)?;
+    assert_eq!(rt; book.record(0, Call::IsEmpty), Ok(Reply::Bool(true)));
+    assert_eq!(rt; book.record(0, Call::IsFull), Ok(Reply::Bool(false)));
+    assert_eq!(rt;
+        book.record(0, Call::TryRecv),
+        Ok(Reply::Received(Err(TryRecvError::Empty)))
+    );
+    assert_eq!(rt; book.record(0, Call::TrySend(1, 1)), Ok(Reply::Sent(Ok(()))));
+    assert_eq!(rt; book.record(0, Call::IsEmpty), Ok(Reply::Bool(false)));
+    assert_eq!(rt; book.record(0, Call::IsFull), Ok(Reply::Bool(true)));
+    assert_eq!(rt; book.record(0, Call::IsClosed), Ok(Reply::Bool(false)));
+    assert_eq!(rt; book.record(0, Call::Close), Ok(Reply::Bool(true)));
+    assert_eq!(rt; book.record(0, Call::IsClosed), Ok(Reply::Bool(true)));
+    assert_eq!(rt; book.record(0, Call::Close), Ok(Reply::Bool(false)));
+    assert_eq!(rt; book.record(0, Call::TryRecv), Ok(Reply::Received(Ok((1, 1)))));
+    assert_eq!(rt;
+        book.record(0, Call::TryRecv),
+        Ok(Reply::Received(Err(TryRecvError::Closed)))
+    );
+    Ok(())
+}
+
+#[test]
+fn its_place_is_made_at_once(rt: HostRuntime) -> Result<(), AllocError> {
+    let alloc = Refusing::new(rt.alloc());
+    let mut book = Book::new(&alloc, 1, 3)?;
+    alloc.refuse_all();
+    assert_eq!(rt; book.record(0, Call::TrySend(1u64, 1u64)), Ok(Reply::Sent(Ok(()))));
+    assert_eq!(rt;
+        book.record(0, Call::TrySend(2, 2)),
+        Ok(Reply::Sent(Err(TrySendError::Full((2, 2)))))
+    );
+    assert_eq!(rt; book.record(0, Call::TryRecv), Ok(Reply::Received(Ok((1, 1)))));
+    assert_eq!(rt; book.record(0, Call::TrySend(3, 3)), Err(NoPlace));
+    assert_eq!(rt; book.history().len(), 3);
+    alloc.refuse_none();
+    assert_eq!(rt; book.record(0, Call::Len), Ok(Reply::Len(0)));
+    Ok(())
+}
+
+#[test]
+fn its_making_may_be_refused(rt: HostRuntime) {
+    let alloc = Refusing::new(rt.alloc());
+    for n in 1..3u64 {
+        alloc.refuse_nth(n);
+        let refused = Book::<u64, u64, _>::new(&alloc, 2, 8).is_err();
+        alloc.refuse_none();
+        assert!(rt; refused, "request {n}");
+    }
+    assert!(rt; Book::<u64, u64, _>::new(&alloc, 2, 8).is_ok());
+}
