@@ -99,6 +99,22 @@ fn append<T: Copy, P: Copy + Ord, J: Recording, R: Wait>(
 ///
 /// Each call is one step, in one hold of the recorder's lock. A pass learns the history up to its own call, so what its
 /// holder has seen begins what it sees later, what it sees when it meets another, and what is told at the end.
+///
+/// ```
+/// fn audited<J: Recording, R: Wait>(rt: &R, alloc: Global, fresh: Fresh<u64, u8>) -> Result<History<u64, u8>, AllocError>
+///     requires names { fresh ≡ names J.log J.name J.parts }
+///     requires passes { fresh.passes ≡ 2 }
+/// {
+///     let (recorder, mut passes) = Recorded::<u64, u8, J>::new(alloc, fresh, 4, 100, 2)?;
+///     for pass in passes.iter_mut() {
+///         let _ = recorder.call(rt, pass, Call::TrySend(pass.number(), 0));
+///     }
+///     Ok(recorder.end(rt, passes))
+/// }
+///
+/// let history = audited::<Brand, _>(&rt, rt.alloc(), Fresh::new(2))?;
+/// assert_eq!(history.entries().len(), 2);
+/// ```
 #[derive(Drop)]
 pub struct Recorded<T, P: Ord, J: Recording, A: Allocator = Global> {
     log: Log<T, P, J>,

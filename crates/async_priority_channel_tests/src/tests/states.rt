@@ -4,7 +4,8 @@ use futures::task::Poll;
 use priority_channel_core::awaitable_atomics::Wakes;
 use priority_channel_core::channel::PriorityQueueChannel;
 use priority_channel_core::errors::{RecvFault, SendError, SendFault, TryRecvError};
-use std::alloc::AllocError;
+use refusing::Refusing;
+use std::alloc::{AllocError, Allocator};
 use std::iter::Peekable;
 use std::vec::IntoIter;
 
@@ -187,4 +188,34 @@ fn a_receive_is_given_up(rt: HostRuntime) {
     assert!(rt; matches!(poll, Poll::Ready(Ok((2, 2)))));
     assert!(rt; second.is_done());
     assert_eq!(rt; core.len(), 1);
+}
+
+// The first poll of a bulk send of five pairs where there is room for two: how many were sent, and how many came back
+// if memory was refused.
+fn poll_five<A: Allocator + Copy>(alloc: A) -> (u64, Option<usize>) {
+    let mut core: PriorityQueueChannel<u64, u64, u64, A> = PriorityQueueChannel::bounded(alloc, 2);
+    let mut state = SendvState::new([(1u64, 1u64); 5].into_iter().peekable());
+    let (poll, wakes) = state.poll_on(&mut core, &7);
+    let _ = wakes.into_lists();
+    match poll {
+        Poll::Ready(Err(SendFault::Memory(rest))) => (core.len(), Some(rest.count())),
+        _ => (core.len(), None),
+    }
+}
+
+#[test]
+fn a_refused_bulk_send_loses_nothing(rt: HostRuntime) {
+    let alloc = Refusing::new(rt.alloc());
+    for n in 1..10u64 {
+        alloc.refuse_nth(n);
+        let (sent, came_back) = poll_five(&alloc);
+        if alloc.refuse_none() {
+            assert_eq!(rt; (sent, came_back), (2, None));
+            // For the messages, and for the place in the waiting list.
+            assert!(rt; n > 2);
+            return;
+        }
+        assert_eq!(rt; came_back.map(|rest| sent + rest as u64), Some(5), "request {n}");
+    }
+    assert!(rt; false, "each of nine sends was refused");
 }

@@ -50,14 +50,15 @@ where
     (received, sum)
 }
 
-// That many threads send 0, 1, 2 and so on, and others receive. Tells how many were sent, how many came, and their sum.
+// That many threads send 0, 1, 2 and so on, and others receive. Tells whether the channel closed as the last sender
+// was dropped, how many were sent, how many came, and their sum.
 fn relay<R>(
     rt: R,
     ends: Ends<u64, u64, R, Global>,
     senders: u64,
     each: u64,
     receivers: u64,
-) -> Result<(u64, u64, u64), AllocError>
+) -> Result<(bool, u64, u64, u64), AllocError>
 where
     R: Threads + Wait + Copy + RandomSource + AllocGlobal + Send + 'static,
 {
@@ -73,12 +74,14 @@ where
         let first = i.wrapping_mul(each);
         sending.push(thread::spawn(&rt, move || send_from(&rt, &tx, first, each))?)?;
     }
-    // The channel closes when the last sending thread ends.
     drop(tx);
     let mut sent = 0u64;
     for thread in sending {
         sent = sent.wrapping_add(thread.join(&rt));
     }
+    let was_closed = rx.is_closed();
+    // Nobody may wait for more.
+    rx.close();
     let mut received = 0u64;
     let mut sum = 0u64;
     for thread in receiving {
@@ -86,48 +89,48 @@ where
         received = received.wrapping_add(count);
         sum = sum.wrapping_add(part);
     }
-    Ok((sent, received, sum))
+    Ok((was_closed, sent, received, sum))
 }
 
 #[test]
 fn one_to_one_unbounded(rt: HostRuntime) -> Result<(), Fail> {
     let relayed = relay(rt, unbounded(&rt, rt.alloc())?, 1, 1000, 1)?;
-    assert_eq!(rt; relayed, (1000, 1000, 499_500));
+    assert_eq!(rt; relayed, (true, 1000, 1000, 499_500));
     Ok(())
 }
 
 #[test]
 fn one_to_one_bounded(rt: HostRuntime) -> Result<(), Fail> {
     let relayed = relay(rt, bounded(&rt, rt.alloc(), 10)?, 1, 1000, 1)?;
-    assert_eq!(rt; relayed, (1000, 1000, 499_500));
+    assert_eq!(rt; relayed, (true, 1000, 1000, 499_500));
     Ok(())
 }
 
 #[test]
 fn ten_to_one_unbounded(rt: HostRuntime) -> Result<(), Fail> {
     let relayed = relay(rt, unbounded(&rt, rt.alloc())?, 10, 500, 1)?;
-    assert_eq!(rt; relayed, (5000, 5000, 12_497_500));
+    assert_eq!(rt; relayed, (true, 5000, 5000, 12_497_500));
     Ok(())
 }
 
 #[test]
 fn ten_to_one_bounded(rt: HostRuntime) -> Result<(), Fail> {
     let relayed = relay(rt, bounded(&rt, rt.alloc(), 10)?, 10, 500, 1)?;
-    assert_eq!(rt; relayed, (5000, 5000, 12_497_500));
+    assert_eq!(rt; relayed, (true, 5000, 5000, 12_497_500));
     Ok(())
 }
 
 #[test]
 fn ten_to_ten_unbounded(rt: HostRuntime) -> Result<(), Fail> {
     let relayed = relay(rt, unbounded(&rt, rt.alloc())?, 10, 500, 10)?;
-    assert_eq!(rt; relayed, (5000, 5000, 12_497_500));
+    assert_eq!(rt; relayed, (true, 5000, 5000, 12_497_500));
     Ok(())
 }
 
 #[test]
 fn ten_to_ten_bounded(rt: HostRuntime) -> Result<(), Fail> {
     let relayed = relay(rt, bounded(&rt, rt.alloc(), 10)?, 10, 500, 10)?;
-    assert_eq!(rt; relayed, (5000, 5000, 12_497_500));
+    assert_eq!(rt; relayed, (true, 5000, 5000, 12_497_500));
     Ok(())
 }
 
@@ -165,5 +168,75 @@ fn a_bulk_send_goes_on_as_room_comes(rt: HostRuntime) -> Result<(), Fail> {
     let (received, sum) = receive_all(&rt, &rx);
     assert!(rt; sending.join(&rt));
     assert_eq!(rt; (received, sum), (100, 4950));
+    Ok(())
+}
+
+#[test]
+fn one_close_is_the_first(rt: HostRuntime) -> Result<(), Fail> {
+    let (tx, rx) = bounded::<u64, u64, _, _>(&rt, rt.alloc(), 1)?;
+    let mut closing = Vec::new(rt.alloc());
+    for _ in 0..16 {
+        let tx = tx.clone()?;
+        closing.push(thread::spawn(&rt, move || tx.close())?)?;
+    }
+    let mut first = 0u64;
+    for thread in closing {
+        first = first.wrapping_add(thread.join(&rt) as u64);
+    }
+    assert_eq!(rt; first, 1);
+    assert!(rt; rx.is_closed());
+    Ok(())
+}
+
+// Receives by tries, between which other threads may go on. None after a million of them.
+fn receive_by_tries<R: Threads + Wait + Clone>(rt: &R, rx: &Receiver<u64, u64, R>) -> Option<u64> {
+    for _ in 0..1_000_000u32 {
+        if let Ok((number, _)) = rx.try_recv() {
+            return Some(number);
+        }
+        thread::yield_now();
+    }
+    None
+}
+
+// Sends the numbers from 1 to 10, each once the one before has come back.
+fn ping<R: Threads + Wait + Clone>(
+    rt: &R,
+    tx: &Sender<u64, u64, R>,
+    rx: &Receiver<u64, u64, R>,
+) -> bool {
+    for i in 1..=10u64 {
+        if tx.try_send(i, i).is_err() || receive_by_tries(rt, rx) != Some(i) {
+            return false;
+        }
+    }
+    true
+}
+
+// Sends ten numbers back.
+fn pong<R: Threads + Wait + Clone>(
+    rt: &R,
+    tx: &Sender<u64, u64, R>,
+    rx: &Receiver<u64, u64, R>,
+) -> bool {
+    for _ in 0..10 {
+        let Some(number) = receive_by_tries(rt, rx) else {
+            return false;
+        };
+        if tx.try_send(number, number).is_err() {
+            return false;
+        }
+    }
+    true
+}
+
+// One side after the other could not go on.
+#[test]
+fn two_threads_go_on_side_by_side(rt: HostRuntime) -> Result<(), Fail> {
+    let (there_tx, there_rx) = bounded(&rt, rt.alloc(), 1)?;
+    let (back_tx, back_rx) = bounded(&rt, rt.alloc(), 1)?;
+    let returning = thread::spawn(&rt, move || pong(&rt, &back_tx, &there_rx))?;
+    assert!(rt; ping(&rt, &there_tx, &back_rx));
+    assert!(rt; returning.join(&rt));
     Ok(())
 }

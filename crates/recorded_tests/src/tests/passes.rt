@@ -3,37 +3,39 @@ ghost use Rattle.std.specs.Prelude.{◌≡◌};
 ghost use Rattle.async_priority_channel.specs.Log.{names};
 
 use super::{SEVEN, Told};
-use async_priority_channel::TrySendError;
 use async_priority_channel::recorded::{
     Call, Entry, Fresh, History, NoPlace, Recorded, Recording, Reply,
 };
 use refusing::Refusing;
-use std::alloc::{AllocError, Global};
+use std::alloc::Global;
 use std::marker::Brand;
 use std::sync::Wait;
 use std::test::Fail;
 
 type RefusedHistory<'a> = History<u64, u64, &'a Refusing<Global>>;
 
-// The seven calls, with one pass. Gives what was told, the pass's count, and the history.
+// The seven calls, with one pass, for which no more memory is asked. Gives what was told, the pass's count, and the
+// history.
 fn seven_calls<'a, J: Recording, R: Wait>(
     rt: &R,
     alloc: &'a Refusing<Global>,
     fresh: Fresh<u64, u64>,
-) -> Result<(Vec<Told, &'a Refusing<Global>>, u64, RefusedHistory<'a>), AllocError>
+) -> Result<([Option<Told>; 7], u64, RefusedHistory<'a>), Fail>
     requires names { fresh ≡ names J.log J.name J.parts }
     requires passes { fresh.passes ≡ 1 }
 {
     let (recorder, mut passes) = Recorded::<u64, u64, J, _>::new(alloc, fresh, 2, 8, 1)?;
-    // There is one.
-    let mut pass = passes.pop().ok_or(AllocError)?;
-    let mut told = Vec::new(alloc);
-    for (call, _) in SEVEN {
-        told.push(recorder.call(rt, &mut pass, call))?;
+    alloc.refuse_all();
+    let mut pass = passes.pop().ok_or("no pass")?;
+    let mut told = [None; 7];
+    for i in 0..7usize {
+        told[i] = Some(recorder.call(rt, &mut pass, SEVEN[i].0));
     }
     let count = pass.count();
     passes.push(pass)?;
-    Ok((told, count, recorder.end(rt, passes)))
+    let history = recorder.end(rt, passes);
+    alloc.refuse_none();
+    Ok((told, count, history))
 }
 
 #[test]
@@ -41,30 +43,33 @@ fn a_pass_records(rt: HostRuntime) -> Result<(), Fail> {
     let alloc = Refusing::new(rt.alloc());
     let (told, count, history) = seven_calls::<Brand, _>(&rt, &alloc, Fresh::new(1))?;
     assert_eq!(rt; count, 7);
-    assert_eq!(rt; told.len(), 7);
     assert_eq!(rt; history.entries().len(), 7);
     for i in 0..7usize {
         let (call, reply) = SEVEN[i];
-        assert_eq!(rt; told.get(i), Some(&Ok(reply)));
+        assert_eq!(rt; told[i], Some(Ok(reply)));
         assert_eq!(rt; history.entries().get(i), Some(&Entry { who: 0, call, reply }));
     }
     Ok(())
 }
 
+fn is_made<J: Recording>(alloc: &Refusing<Global>, fresh: Fresh<u64, u64>) -> bool
+    requires names { fresh ≡ names J.log J.name J.parts }
+    requires passes { fresh.passes ≡ 2 }
+{
+    Recorded::<u64, u64, J, _>::new(alloc, fresh, 2, 8, 2).is_ok()
+}
+
 #[test]
-fn each_request_may_be_refused(rt: HostRuntime) -> Result<(), Fail> {
+fn its_making_may_be_refused(rt: HostRuntime) {
     let alloc = Refusing::new(rt.alloc());
-    for n in 1..20u64 {
+    // For the passes, the channel and its history.
+    for n in 1..4u64 {
         alloc.refuse_nth(n);
-        let ran = seven_calls::<Brand, _>(&rt, &alloc, Fresh::new(1));
-        if alloc.refuse_none() {
-            // For the passes, the channel, its history, what the recorder shares and what was told.
-            assert!(rt; ran.is_ok() && n > 3);
-            return Ok(());
-        }
-        assert!(rt; ran.is_err());
+        let made = is_made::<Brand>(&alloc, Fresh::new(2));
+        alloc.refuse_none();
+        assert!(rt; !made, "request {n}");
     }
-    Err(Fail::from("each of twenty runs was refused"))
+    assert!(rt; is_made::<Brand>(&alloc, Fresh::new(2)));
 }
 
 // Without place for an entry: the first call is refused memory for one, and may be made again.
