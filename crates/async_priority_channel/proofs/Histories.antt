@@ -1,9 +1,9 @@
 -- A history that grows by an entry.
-use Rattle.std.proofs.Common.{◌≡◌, ℕ, true, false, List, [], ◌∷◌, ◌++◌, refl, sym, ap, subst, Ok, Err}
+use Rattle.std.proofs.Common.{◌≡◌, ℕ, true, false, List, [], ◌∷◌, ◌++◌, refl, sym, subst, Ok, Err}
 use Rattle.std.specs.declared.cmp.Ordering.{Ordering}
 use Rattle.priority_channel_core.specs.declared.errors.TrySendError.TheVariants as send_error
 use Rattle.priority_channel_core.specs.declared.errors.TryRecvError.TheVariants as recv_error
-use Rattle.priority_channel_core.specs.State.{State, opening}
+use Rattle.priority_channel_core.specs.State.{opening}
 use Rattle.async_priority_channel.specs.declared.recorded.book.Call.{Call}
 use Rattle.async_priority_channel.specs.declared.recorded.book.Call.TheVariants.{TrySend, TryRecv, Close, IsClosed, IsEmpty, IsFull, Len}
 use Rattle.async_priority_channel.specs.declared.recorded.book.Reply.{Reply}

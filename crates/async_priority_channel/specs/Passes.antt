@@ -1,5 +1,5 @@
 -- What a caller's pass carries, and what a call adds to it.
-use Rattle.std.specs.Prelude.{◌≡◌, ◌≢◌, ◌==◌, ◌≤◌, ℕ, List, [], ◌∷◌, ◌++◌, length, count_by, All, EachIndex, slice_get, Some}
+use Rattle.std.specs.Prelude.{◌≡◌, ◌≢◌, ◌==◌, ◌≤◌, ℕ, List, [], ◌∷◌, ◌++◌, count_by, All, EachIndex, slice_get, Some}
 use Rattle.std.specs.List.{sum_by}
 use Rattle.std.specs.declared.cmp.Ordering.{Ordering}
 use Rattle.async_priority_channel.specs.declared.recorded.book.Entry.{Entry}

@@ -12,9 +12,15 @@ type Told = Result<Reply<u64, u64>, NoPlace>;
 const SEVEN: [(Call<u64, u64>, Reply<u64, u64>); 7] = [
     (Call::TrySend(1, 5), Reply::Sent(Ok(()))),
     (Call::TrySend(2, 9), Reply::Sent(Ok(()))),
-    (Call::TrySend(3, 1), Reply::Sent(Err(TrySendError::Full((3, 1))))),
+    (
+        Call::TrySend(3, 1),
+        Reply::Sent(Err(TrySendError::Full((3, 1)))),
+    ),
     (Call::TryRecv, Reply::Received(Ok((2, 9)))),
     (Call::Close, Reply::Bool(true)),
-    (Call::TrySend(4, 4), Reply::Sent(Err(TrySendError::Closed((4, 4))))),
+    (
+        Call::TrySend(4, 4),
+        Reply::Sent(Err(TrySendError::Closed((4, 4)))),
+    ),
     (Call::Len, Reply::Len(1)),
 ];

@@ -122,7 +122,10 @@ impl<T: Copy, P: Copy + Ord, A: Allocator + Copy> Book<T, P, A> {
         ensures history { result.items ≡ self.history }
         ensures legal { IsHistory P.cmp self.state.capacity self.history self.state }
     {
-        let Book { channel: _, history } = self;
+        let Book {
+            channel: _,
+            history,
+        } = self;
         history
     }
 }

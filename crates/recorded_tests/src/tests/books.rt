@@ -14,7 +14,14 @@ fn enters_what_was_answered(rt: HostRuntime) -> Result<(), AllocError> {
     assert_eq!(rt; book.history().len(), 7);
     for i in 0..7usize {
         let (call, reply) = SEVEN[i];
-        assert_eq!(rt; book.history().get(i), Some(&Entry { who: 7, call, reply }));
+        assert_eq!(rt;
+            book.history().get(i),
+            Some(&Entry {
+                who: 7,
+                call,
+                reply
+            })
+        );
     }
     Ok(())
 }
@@ -28,14 +35,20 @@ fn looks_at_the_channel(rt: HostRuntime) -> Result<(), AllocError> {
         book.record(0, Call::TryRecv),
         Ok(Reply::Received(Err(TryRecvError::Empty)))
     );
-    assert_eq!(rt; book.record(0, Call::TrySend(1, 1)), Ok(Reply::Sent(Ok(()))));
+    assert_eq!(rt;
+        book.record(0, Call::TrySend(1, 1)),
+        Ok(Reply::Sent(Ok(())))
+    );
     assert_eq!(rt; book.record(0, Call::IsEmpty), Ok(Reply::Bool(false)));
     assert_eq!(rt; book.record(0, Call::IsFull), Ok(Reply::Bool(true)));
     assert_eq!(rt; book.record(0, Call::IsClosed), Ok(Reply::Bool(false)));
     assert_eq!(rt; book.record(0, Call::Close), Ok(Reply::Bool(true)));
     assert_eq!(rt; book.record(0, Call::IsClosed), Ok(Reply::Bool(true)));
     assert_eq!(rt; book.record(0, Call::Close), Ok(Reply::Bool(false)));
-    assert_eq!(rt; book.record(0, Call::TryRecv), Ok(Reply::Received(Ok((1, 1)))));
+    assert_eq!(rt;
+        book.record(0, Call::TryRecv),
+        Ok(Reply::Received(Ok((1, 1))))
+    );
     assert_eq!(rt;
         book.record(0, Call::TryRecv),
         Ok(Reply::Received(Err(TryRecvError::Closed)))
@@ -48,12 +61,18 @@ fn its_place_is_made_at_once(rt: HostRuntime) -> Result<(), AllocError> {
     let alloc = Refusing::new(rt.alloc());
     let mut book = Book::new(&alloc, 1, 3)?;
     alloc.refuse_all();
-    assert_eq!(rt; book.record(0, Call::TrySend(1u64, 1u64)), Ok(Reply::Sent(Ok(()))));
+    assert_eq!(rt;
+        book.record(0, Call::TrySend(1u64, 1u64)),
+        Ok(Reply::Sent(Ok(())))
+    );
     assert_eq!(rt;
         book.record(0, Call::TrySend(2, 2)),
         Ok(Reply::Sent(Err(TrySendError::Full((2, 2)))))
     );
-    assert_eq!(rt; book.record(0, Call::TryRecv), Ok(Reply::Received(Ok((1, 1)))));
+    assert_eq!(rt;
+        book.record(0, Call::TryRecv),
+        Ok(Reply::Received(Ok((1, 1))))
+    );
     assert_eq!(rt; book.record(0, Call::TrySend(3, 3)), Err(NoPlace));
     assert_eq!(rt; book.history().len(), 3);
     alloc.refuse_none();

@@ -47,7 +47,14 @@ fn a_pass_records(rt: HostRuntime) -> Result<(), Fail> {
     for i in 0..7usize {
         let (call, reply) = SEVEN[i];
         assert_eq!(rt; told[i], Some(Ok(reply)));
-        assert_eq!(rt; history.entries().get(i), Some(&Entry { who: 0, call, reply }));
+        assert_eq!(rt;
+            history.entries().get(i),
+            Some(&Entry {
+                who: 0,
+                call,
+                reply
+            })
+        );
     }
     Ok(())
 }
@@ -84,9 +91,15 @@ fn without_place<'a, J: Recording, R: Wait>(
     let (recorder, mut passes) = Recorded::<u64, u64, J, _>::new(alloc, fresh, 1, 0, 1)?;
     let mut pass = passes.pop().ok_or("no pass")?;
     alloc.refuse_all();
-    let refused = (recorder.call(rt, &mut pass, Call::TrySend(1, 1)), pass.count());
+    let refused = (
+        recorder.call(rt, &mut pass, Call::TrySend(1, 1)),
+        pass.count(),
+    );
     alloc.refuse_none();
-    let sent = (recorder.call(rt, &mut pass, Call::TrySend(1, 1)), pass.count());
+    let sent = (
+        recorder.call(rt, &mut pass, Call::TrySend(1, 1)),
+        pass.count(),
+    );
     let length = (recorder.call(rt, &mut pass, Call::Len), pass.count());
     passes.push(pass)?;
     Ok(([refused, sent, length], recorder.end(rt, passes)))
@@ -133,6 +146,13 @@ fn two_passes_meet(rt: HostRuntime) -> Result<(), Fail> {
     assert_eq!(rt; told[2], Ok(Reply::Len(0)));
     assert_eq!(rt; counts, [(0, 2), (1, 1)]);
     assert_eq!(rt; history.entries().len(), 3);
-    assert_eq!(rt; history.entries().iter().map(|entry| entry.who).eq([0, 1, 0]), true);
+    assert_eq!(rt;
+        history
+            .entries()
+            .iter()
+            .map(|entry| entry.who)
+            .eq([0, 1, 0]),
+        true
+    );
     Ok(())
 }

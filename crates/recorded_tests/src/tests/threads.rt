@@ -3,7 +3,9 @@ ghost use Rattle.std.specs.Prelude.{◌≡◌};
 ghost use Rattle.async_priority_channel.specs.Log.{names};
 
 use super::Told;
-use async_priority_channel::recorded::{Call, Entry, Fresh, History, Pass, Recorded, Recording, Reply};
+use async_priority_channel::recorded::{
+    Call, Entry, Fresh, History, Pass, Recorded, Recording, Reply,
+};
 use async_priority_channel::{TryRecvError, TrySendError};
 use std::alloc::{AllocError, Global};
 use std::marker::Brand;
@@ -40,9 +42,11 @@ fn closed_by_another<J: Recording + Send + Sync, R: Threads + Wait + Sync>(
     let told = Mutex::new(Vec::new(alloc));
     let shared = &recorder;
     let heard = &told;
-    let mut closing = thread::map_vec(rt, closing, &|pass| {
-        make(rt, shared, heard, pass, Call::Close)
-    })?;
+    let mut closing = thread::map_vec(
+        rt,
+        closing,
+        &|pass| { make(rt, shared, heard, pass, Call::Close) },
+    )?;
     let mut one = closing.pop().ok_or("no pass")?;
     recorder.meet(&mut zero, &mut one);
     let zero = make(rt, &recorder, &told, zero, Call::TrySend(4, 4));
@@ -77,7 +81,11 @@ fn sixteen_close<J: Recording + Send + Sync, R: Threads + Wait + Sync>(
     let told = Mutex::new(Vec::new(alloc));
     let shared = &recorder;
     let heard = &told;
-    let passes = thread::map_vec(rt, passes, &|pass| make(rt, shared, heard, pass, Call::Close))?;
+    let passes = thread::map_vec(
+        rt,
+        passes,
+        &|pass| make(rt, shared, heard, pass, Call::Close),
+    )?;
     let history = recorder.end(rt, passes);
     Ok((told.into_inner(), history))
 }
@@ -173,7 +181,10 @@ fn four_threads_make_one_history(rt: HostRuntime) -> Result<(), Fail> {
     for entries in told {
         assert_eq!(rt; entries.len(), 1000);
         let who = entries.get(0).map(|entry| entry.who);
-        let own = history.entries().iter().filter(|entry| Some(entry.who) == who);
+        let own = history
+            .entries()
+            .iter()
+            .filter(|entry| Some(entry.who) == who);
         assert!(rt; own.eq(entries.iter()));
     }
     let mut pending = Vec::new(rt.alloc());

@@ -1,4 +1,4 @@
-use Rattle.std.proofs.Common.{◌≡◌, ◌≤◌, List, [], ◌∷◌, ◌++◌, length, All, arith, rules, ap, sym, ◌∙◌, subst, length-append, map-id}
+use Rattle.std.proofs.Common.{◌≤◌, List, [], ◌∷◌, All, arith, rules, ap, sym, ◌∙◌, subst, length-append, map-id}
 use Rattle.std.proofs.lemmas.List.Sums.{sum_by_push}
 use Rattle.std.proofs.lemmas.List.Elements.{All-push}
 use Rattle.std.proofs.lemmas.Iterator.Adapters.{YieldsList-from_vec}

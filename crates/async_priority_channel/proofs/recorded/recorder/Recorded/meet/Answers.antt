@@ -1,4 +1,4 @@
-use Rattle.std.proofs.Common.{◌≡◌, List, ap, sym, ◌∙◌, subst}
+use Rattle.std.proofs.Common.{List, ap, sym, ◌∙◌, subst}
 use mathlib.Core.List.{IsPrefix}
 use Rattle.async_priority_channel.specs.declared.recorded.book.Entry.{Entry}
 use Rattle.async_priority_channel.proofs.Fronts.{prefix_trans}
