@@ -1,47 +1,52 @@
 -- A history that grows by an entry.
 use Rattle.std.proofs.Common.{◌≡◌, ℕ, true, false, List, [], ◌∷◌, ◌++◌, refl, sym, subst, Ok, Err}
 use Rattle.std.specs.declared.cmp.Ordering.{Ordering}
+use Rattle.priority_channel_core.specs.declared.calls.Answer.TheVariants as answer
 use Rattle.priority_channel_core.specs.declared.errors.TrySendError.TheVariants as send_error
 use Rattle.priority_channel_core.specs.declared.errors.TryRecvError.TheVariants as recv_error
-use Rattle.priority_channel_core.specs.State.{opening}
+use Rattle.priority_channel_core.specs.State.{Handed, opening}
+use Rattle.priority_channel_core.specs.Step.{Moves, Answers}
+use Rattle.priority_channel_core.specs.Run.{Made}
+use Rattle.priority_channel_core.proofs.RunLemmas.{zip_push, Run-more}
 use Rattle.async_priority_channel.specs.declared.recorded.book.Call.{Call}
 use Rattle.async_priority_channel.specs.declared.recorded.book.Call.TheVariants.{TrySend, TryRecv, Close, IsClosed, IsEmpty, IsFull, Len}
-use Rattle.async_priority_channel.specs.declared.recorded.book.Reply.{Reply}
-use Rattle.async_priority_channel.specs.declared.recorded.book.Reply.TheVariants.{Sent, Received, Bool as Truth, Len as Count}
 use Rattle.async_priority_channel.specs.declared.recorded.book.Entry.{Entry}
-use Rattle.async_priority_channel.specs.History.{Machine, IsStep, IsRun, IsHistory}
+use Rattle.async_priority_channel.specs.History.{Machine, call_of, Records, IsStep, IsHistory}
 use Rattle.async_priority_channel.specs.Log.{IsLegal}
 
 module _ {T P : Type 0} (cmp : P → P → Ordering) where
-  run_more : (old mid new : Machine T P) (history : List (Entry T P)) (last : Entry T P) → IsRun cmp old history mid
-      → IsStep cmp mid last.call last.reply new → IsRun cmp old (history ++ last ∷ []) new
-  run_more old mid new [] last run step = (new, subst (λ (s : Machine T P). IsStep cmp s last.call last.reply new) run step, refl)
-  run_more old mid new (first ∷ more) last run step = (run.0, run.1, run_more run.0 mid new more last run.2 step)
-
-  same_capacity : (old new : Machine T P) (call : Call T P) (reply : Reply T P) → IsStep cmp old call reply new
-      → new.capacity ≡ old.capacity
-  same_capacity old new (TrySend msg priority) (Sent (Ok sent)) step = let m = step.1.moves in cc
-  same_capacity old new (TrySend msg priority) (Sent (Err (send_error.Closed pair))) step = let m = step.1.moves in cc
-  same_capacity old new (TrySend msg priority) (Sent (Err (send_error.Full pair))) step = let m = step.1.moves in cc
-  same_capacity old new (TrySend msg priority) (Sent (Err (send_error.Memory pair))) step = let m = step.1.moves in cc
-  same_capacity old new TryRecv (Received (Ok pair)) step = let m = step.1.moves.2 in cc
-  same_capacity old new TryRecv (Received (Err recv_error.Closed)) step = let m = step.1.moves in cc
-  same_capacity old new TryRecv (Received (Err recv_error.Empty)) step = let m = step.1.moves in cc
-  same_capacity old new Close (Truth true) step = let m = step.1.moves in cc
-  same_capacity old new Close (Truth false) step = let m = step.1.moves in cc
-  same_capacity old new IsClosed (Truth told) step = let m = step.1.moves in cc
-  same_capacity old new IsEmpty (Truth told) step = let m = step.1.moves in cc
-  same_capacity old new IsFull (Truth told) step = let m = step.1.moves in cc
-  same_capacity old new Len (Count told) step = let m = step.1.moves in cc
-  same_capacity old new _ _ step = absurd step
+  same_capacity : (old new : Machine T P) (handed : Handed (Unit {0})) (call : Call T P) (told : Answers T P)
+      → Moves cmp (λ waker kept. kept ≡ waker) old (call_of call) told handed new → new.capacity ≡ old.capacity
+  same_capacity old new handed (TrySend msg priority) (answer.TrySend (Ok sent)) m = cc
+  same_capacity old new handed (TrySend msg priority) (answer.TrySend (Err (send_error.Closed pair))) m = cc
+  same_capacity old new handed (TrySend msg priority) (answer.TrySend (Err (send_error.Full pair))) m = cc
+  same_capacity old new handed (TrySend msg priority) (answer.TrySend (Err (send_error.Memory pair))) m = cc
+  same_capacity old new handed TryRecv (answer.TryRecv (Ok pair)) m = let n = m.2 in cc
+  same_capacity old new handed TryRecv (answer.TryRecv (Err recv_error.Closed)) m = cc
+  same_capacity old new handed TryRecv (answer.TryRecv (Err recv_error.Empty)) m = cc
+  same_capacity old new handed Close (answer.Close true) m = cc
+  same_capacity old new handed Close (answer.Close false) m = cc
+  same_capacity old new handed IsClosed (answer.IsClosed told) m = cc
+  same_capacity old new handed IsEmpty (answer.IsEmpty told) m = cc
+  same_capacity old new handed IsFull (answer.IsFull told) m = cc
+  same_capacity old new handed Len (answer.Len told) m = cc
+  same_capacity old new handed _ _ m = absurd m
 
   pub history_more : (old new : Machine T P) (history : List (Entry T P)) (last : Entry T P)
       → IsHistory cmp old.capacity history old → IsStep cmp old last.call last.reply new
       → IsHistory cmp new.capacity (history ++ last ∷ []) new
   history_more old new history last legal step =
-      subst (λ (k : ℕ). IsHistory cmp k (history ++ last ∷ []) new) (sym (same_capacity old new last.call last.reply step))
-      (run_more (opening old.capacity true) old new history last legal step)
+      let made : Made T P (Unit {0}) = record { call = call_of last.call; answer = step.answer; handed = step.handed } in
+      subst (λ (k : ℕ). IsHistory cmp k (history ++ last ∷ []) new)
+      (sym (same_capacity old new step.handed last.call step.answer step.step.moves)) (record {
+        run = legal.run ++ made ∷ [];
+        records = zip_push Records history legal.run last made legal.records (refl, step.replies);
+        leads = Run-more cmp _ (opening old.capacity true) old new legal.run made legal.leads step.step;
+      })
 
   -- nothing was recorded yet
+  pub history_none : (capacity : ℕ) → IsHistory {T = T} cmp capacity [] (opening capacity true)
+  history_none capacity = record { run = []; records = tt; leads = refl }
+
   pub legal_none : IsLegal {T = T} cmp []
-  legal_none = record { capacity = 1; state = opening 1 true; run = refl }
+  legal_none = record { capacity = 1; state = opening 1 true; run = history_none 1 }

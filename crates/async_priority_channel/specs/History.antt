@@ -1,10 +1,12 @@
 -- Histories of calls: who called, what, and what was answered.
-use Rattle.std.specs.Prelude.{◌≡◌, ℕ, true, List, [], ◌∷◌}
+use Rattle.std.specs.Prelude.{◌≡◌, ℕ, true, List, Option, Some, None}
+use Rattle.std.specs.List.{AllZip}
 use Rattle.std.specs.declared.cmp.Ordering.{Ordering}
 use Rattle.priority_channel_core.specs.declared.calls.Call.TheVariants as call
 use Rattle.priority_channel_core.specs.declared.calls.Answer.TheVariants as answer
 use Rattle.priority_channel_core.specs.State.{State, Handed, opening}
 use Rattle.priority_channel_core.specs.Step.{Step, Calls, Answers}
+use Rattle.priority_channel_core.specs.Run.{Made, Run}
 use Rattle.async_priority_channel.specs.declared.recorded.book.Call.{Call}
 use Rattle.async_priority_channel.specs.declared.recorded.book.Call.TheVariants.{TrySend, TryRecv, Close, IsClosed, IsEmpty, IsFull, Len}
 use Rattle.async_priority_channel.specs.declared.recorded.book.Reply.{Reply}
@@ -25,28 +27,41 @@ module _ {T P : Type 0} where
   abbrev pub entry : ℕ → Call T P → Reply T P → Entry T P
   entry who made reply = record { who = who; call = made; reply = reply }
 
+  -- a recorded call is the machine's call of the same name
+  abbrev pub call_of : Call T P → Calls T P (Unit {0})
+  call_of (TrySend msg priority) = call.TrySend msg priority
+  call_of TryRecv = call.TryRecv
+  call_of Close = call.Close
+  call_of IsClosed = call.IsClosed
+  call_of IsEmpty = call.IsEmpty
+  call_of IsFull = call.IsFull
+  call_of Len = call.Len
+
+  -- what is recorded of the machine's answer
+  abbrev pub reply_of : Answers T P → Option (Reply T P)
+  reply_of (answer.TrySend reply) = Some (Sent reply)
+  reply_of (answer.TryRecv reply) = Some (Received reply)
+  reply_of (answer.Close was_open) = Some (Truth was_open)
+  reply_of (answer.IsClosed told) = Some (Truth told)
+  reply_of (answer.IsEmpty told) = Some (Truth told)
+  reply_of (answer.IsFull told) = Some (Truth told)
+  reply_of (answer.Len told) = Some (Count told)
+  reply_of other = None
+
+  -- the entry is of this call of a run
+  abbrev pub Records : Entry T P → Made T P (Unit {0}) → Type 0
+  Records entry made = (made.call ≡ call_of entry.call) × (reply_of made.answer ≡ Some entry.reply)
+
   module _ (cmp : P → P → Ordering) where
-    -- a step of the machine, whomever it hands out
-    abbrev pub Moves : Machine T P → Calls T P (Unit {0}) → Answers T P → Machine T P → Type 0
-    Moves old made told new = (handed : Handed (Unit {0})) × Step cmp (λ waker kept. kept ≡ waker) old made told handed new
+    -- the call is a step of the machine, of whose answer this is recorded
+    pub record IsStep (old : Machine T P) (made : Call T P) (reply : Reply T P) (new : Machine T P) : Type 0 where
+      pub answer : Answers T P
+      pub handed : Handed (Unit {0})
+      pub replies : reply_of answer ≡ Some reply
+      pub step : Step cmp (λ waker kept. kept ≡ waker) old (call_of made) answer handed new
 
-    -- a recorded call is the machine's call of the same name, and its reply is what that answers
-    abbrev pub IsStep : Machine T P → Call T P → Reply T P → Machine T P → Type 0
-    IsStep old (TrySend msg priority) (Sent reply) new = Moves old (call.TrySend msg priority) (answer.TrySend reply) new
-    IsStep old TryRecv (Received reply) new = Moves old call.TryRecv (answer.TryRecv reply) new
-    IsStep old Close (Truth was_open) new = Moves old call.Close (answer.Close was_open) new
-    IsStep old IsClosed (Truth told) new = Moves old call.IsClosed (answer.IsClosed told) new
-    IsStep old IsEmpty (Truth told) new = Moves old call.IsEmpty (answer.IsEmpty told) new
-    IsStep old IsFull (Truth told) new = Moves old call.IsFull (answer.IsFull told) new
-    IsStep old Len (Count told) new = Moves old call.Len (answer.Len told) new
-    -- no other reply is given
-    IsStep old _ _ new = ⊥
-
-    -- the entries lead from old to new, one step after another
-    abbrev pub IsRun : Machine T P → List (Entry T P) → Machine T P → Type 0
-    IsRun old [] new = new ≡ old
-    IsRun old (first ∷ more) new = (mid : Machine T P) × IsStep old first.call first.reply mid × IsRun mid more new
-
-    -- the history leads from the opening of a reserved channel of this capacity to this state
-    abbrev pub IsHistory : ℕ → List (Entry T P) → Machine T P → Type 0
-    IsHistory capacity history state = IsRun (opening capacity true) history state
+    -- the entries are those of a run of the machine, from the opening of a reserved channel of this capacity to this state
+    pub record IsHistory (capacity : ℕ) (history : List (Entry T P)) (state : Machine T P) : Type 0 where
+      pub run : List (Made T P (Unit {0}))
+      pub records : AllZip Records history run
+      pub leads : Run cmp (λ waker kept. kept ≡ waker) (opening capacity true) run state

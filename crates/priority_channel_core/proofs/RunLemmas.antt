@@ -11,18 +11,19 @@ use Rattle.priority_channel_core.specs.Step.{Step, Calls}
 use Rattle.priority_channel_core.specs.Run.{Outcome, Made, Run}
 use Rattle.priority_channel_core.specs.Bulk.{SameCall, SameMade, Performs, RunsFront}
 
-zip_push : {A B : Type 0} (R : A → B → Type 0) (xs : List A) (ys : List B) (x : A) (y : B) → AllZip R xs ys → R x y → AllZip R (xs ++ x ∷ []) (ys ++ y ∷ [])
+pub zip_push : {A B : Type 0} (R : A → B → Type 0) (xs : List A) (ys : List B) (x : A) (y : B) → AllZip R xs ys → R x y → AllZip R (xs ++ x ∷ []) (ys ++ y ∷ [])
 zip_push R [] [] x y a r = (r, tt)
 zip_push R [] (v ∷ ys) x y a r = absurd a
 zip_push R (u ∷ xs) [] x y a r = absurd a
 zip_push R (u ∷ xs) (v ∷ ys) x y a r = (a.0, zip_push R xs ys x y a.1 r)
 
-module _ {T P W M : Type 0} (holds : M → List (T × P) → Type 0) (cmp : P → P → Ordering) (is_clone : W → W → Type 0) where
+module _ {T P W : Type 0} (cmp : P → P → Ordering) (is_clone : W → W → Type 0) where
   pub Run-more : (old mid new : State T P W) (run : List (Made T P W)) (made : Made T P W)
       → Run cmp is_clone old run mid → Step cmp is_clone mid made.call made.answer made.handed new → Run cmp is_clone old (run ++ made ∷ []) new
   Run-more old mid new [] made r s = (new, rw (← r) s, refl)
   Run-more old mid new (m ∷ run) made r s = (r.0, r.1, Run-more r.0 mid new run made r.2 s)
 
+module _ {T P W M : Type 0} (holds : M → List (T × P) → Type 0) (cmp : P → P → Ordering) (is_clone : W → W → Type 0) where
   -- nothing was made yet
   pub RunsFront-none : (old : State T P W) (calls : List (Call T P W M)) → RunsFront holds cmp is_clone old calls [] calls old
   RunsFront-none old calls = record { at = λ meant same. ([], meant, refl, tt, same, refl) }
@@ -49,7 +50,7 @@ module _ {T P W M : Type 0} (holds : M → List (T × P) → Type 0) (cmp : P �
             e ∙ (sym (append_assoc (map (λ (m : Made T P W). m.call) run) (c ∷ []) cs) ∙ ap (λ (l : List (Calls T P W)). l ++ cs) (sym (map-append (λ (m : Made T P W). m.call) run (made ∷ [])))),
             zip_push (SameMade holds) dones run done made a (s.1, refl),
             b.1,
-            Run-more old mid new run made r s.2,
+            Run-more cmp is_clone old mid new run made r s.2,
           )
 
 -- what holds of an `Ok` holds where `is_ok` answered true

@@ -75,6 +75,7 @@ impl<T, P: Ord, A: Allocator> Model for Book<T, P, A> {
 impl<T: Copy, P: Copy + Ord, A: Allocator + Copy> Book<T, P, A> {
     /// An open and empty channel with place for `cap` pairs for good, and an empty history with place for `entries`
     /// entries. The error is that memory was refused.
+    #[tactic(auto, using(crate::proofs::Histories::history_none))]
     pub fn new(alloc: A, cap: u64, entries: usize) -> Result<Self, AllocError>
         requires positive { 0 < cap }
         requires fits { cap < 2 ^ 63 }

@@ -106,6 +106,7 @@ impl<T, P: Ord> Model for Fresh<T, P> {
 
 impl<T, P: Ord> Fresh<T, P> {
     /// For a recorder with so many passes.
+    #[tactic(auto, using(crate::proofs::Histories::legal_none))]
     pub fn new(passes: usize) -> Self
         ensures { result.passes ≡ passes }
     {
