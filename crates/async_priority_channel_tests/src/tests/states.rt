@@ -215,7 +215,10 @@ fn a_refused_bulk_send_loses_nothing(rt: HostRuntime) {
             assert!(rt; n > 2);
             return;
         }
-        assert_eq!(rt; came_back.map(|rest| sent.wrapping_add(rest as u64)), Some(5));
+        assert_eq!(rt;
+            came_back.map(|rest| sent.wrapping_add(rest as u64)),
+            Some(5)
+        );
     }
     assert!(rt; false, "each of nine sends was refused");
 }
