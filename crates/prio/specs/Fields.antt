@@ -1,4 +1,7 @@
-use Rattle.std.specs.Prelude.{ℕ, ℤ, List, [], ◌∷◌, ◌++◌, ◌<◌, ◌==◌, if◌then◌else◌, length, All, Option, Some, None}
+use Rattle.std.specs.Prelude.{ℕ, ℤ, List, [], ◌∷◌, ◌++◌, ◌<◌, ◌==◌, if◌then◌else◌, length, All, Option, Some, None, FitsSigned}
+use Rattle.std.specs.Int.{w64}
+use Rattle.std.specs.declared.string.String.{String}
+use Rattle.std.specs.String.{string_bytes}
 use Rattle.std.specs.Char.{IsAsciiGraphic}
 use Rattle.std.specs.Fmt.{signed_decimal}
 
@@ -24,3 +27,12 @@ pair_text priority word = signed_decimal priority ++ 32 ∷ word
 abbrev pub further_text : Option (List ℕ) → List ℕ
 further_text None = []
 further_text (Some fields) = 32 ∷ fields
+
+-- a word and its priority, as a script can name them
+abbrev pub IsPair : {A : Type 0} → String A × ℤ → Type 0
+IsPair pair = IsWord (string_bytes pair.0) × FitsSigned w64 pair.1
+
+-- such pairs, each behind a space
+abbrev pub pairs_text : {A : Type 0} → List (String A × ℤ) → List ℕ
+pairs_text [] = []
+pairs_text (pair ∷ more) = 32 ∷ pair_text pair.1 (string_bytes pair.0) ++ pairs_text more

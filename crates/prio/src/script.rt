@@ -1,5 +1,7 @@
 // The lines of a script, and the answers to them.
-ghost use Rattle.std.specs.Prelude.{◌≡◌, ◌+◌, ◌-◌, ◌^◌, min};
+ghost use Rattle.std.specs.Prelude.{◌≡◌, ◌≢◌, ◌+◌, ◌-◌, ◌^◌, ℤ, min, List, String, All, IfOk, IfErr};
+ghost use Rattle.std.specs.Option.{option_copied};
+ghost use Rattle.prio.specs.Fields.{further_text, IsPair, pairs_text};
 
 use crate::grammar::{Call, Opening, parse_call, parse_opening, take_pair};
 use crate::run::{Fault, Stop};
@@ -182,15 +184,21 @@ impl<'a, H: Wait + Clone, R: Read + Drop, W: Write + Drop, A: Allocator + Copy> 
 }
 
 // All pairs of a bulk send, or a fault and nothing is sent.
+#[tactic(auto, using(crate::proofs::Pairs::pairs_more, crate::proofs::Pairs::no_pairs))]
 fn read_pairs<A: Allocator + Copy>(
     alloc: A,
     fields: Option<&str>,
-) -> Result<Vec<(String<A>, i64), A>, Fault> {
+) -> Result<Vec<(String<A>, i64), A>, Fault>
+    ensures sound { IfOk result (λ pairs. All IsPair pairs.items × (further_text (option_copied fields.entry) ≡ pairs_text pairs.items)) }
+    ensures complete { IfErr result (λ fault. fault ≡ Fault.NotACall → (pairs : List (String A × ℤ)) → All IsPair pairs → further_text (option_copied fields.entry) ≢ pairs_text pairs) }
+{
     let mut pairs = Vec::new(alloc);
     let mut further = fields;
     while let Some(fields) = further {
-        let ((priority, word), rest) = take_pair(fields).ok_or(Fault::NotACall)?;
-        let word = String::from_str(alloc, word)?;
+        let Some(((priority, word), rest)) = take_pair(fields) else {
+            return Err(Fault::NotACall);
+        };
+        let word = String::from_str(alloc, word).or(Err(Fault::NoMemory))?;
         pairs.push((word, priority)).or(Err(Fault::NoMemory))?;
         further = rest;
     }
