@@ -1,5 +1,5 @@
 //! One caller's channel with the history of its calls.
-ghost use Rattle.std.specs.Prelude.{◌≡◌, ◌<◌, ◌≤◌, ◌^◌, true, [], ◌∷◌, ◌++◌, length, vec_len, vec_capacity, IfOk, OnErr};
+ghost use Rattle.std.specs.Prelude.{◌≡◌, ◌<◌, ◌≤◌, ◌^◌, true, [], ◌∷◌, ◌++◌, length, vec_len, vec_capacity, IfOk, OnErr, Some, codes};
 ghost use Rattle.priority_channel_core.specs.State.{opening};
 ghost use Rattle.async_priority_channel.specs.History.{entry, IsHistory, IsStep};
 
@@ -7,6 +7,8 @@ use priority_channel_core::awaitable_atomics::Wakes;
 use priority_channel_core::channel::PriorityQueueChannel;
 use priority_channel_core::errors::{TryRecvError, TrySendError};
 use std::alloc::{AllocError, Allocator, Global};
+use std::error::Error;
+use std::fmt;
 use std::marker::Model;
 
 /// A call that is recorded.
@@ -43,8 +45,18 @@ pub struct Entry<T, P> {
 }
 
 /// There was no place for the entry of a call, so the call was not made.
-#[derive(Clone, Copy, Debug, PartialEq, Eq)]
+#[derive(Clone, Copy, Debug, Drop, PartialEq, Eq)]
 pub struct NoPlace;
+
+impl fmt::Display for NoPlace {
+    ghost output = { λ _. Some (codes "no place for an entry") };
+
+    fn fmt<W: fmt::Write>(&self, f: &mut fmt::Formatter<W>) -> fmt::Result {
+        f.write_str("no place for an entry")
+    }
+}
+
+impl Error for NoPlace {}
 
 /// A channel in reserved place, and the history of its calls. Contracts see the channel's state, the history, and for
 /// how many entries there is place.
