@@ -75,7 +75,18 @@ impl<T, P> Plain<Entry<T, P>, Entry<T, P>, u64> for Add {
 }
 
 /// What contracts call one recorder by: the name of its log, beside those of its ledger. A function that uses a recorder
-/// is generic in it, so that a pass of another recorder is of another type; `Brand` stands for it at the outermost call.
+/// is generic in it, so that a pass of another recorder is of another type.
+///
+/// The outermost call passes `Brand`, and its caller's `Invariants.antt` says that the names are those of the `Fresh` that
+/// is passed. Where the function is called `audited` and the `Fresh` is its parameter `fresh`:
+///
+/// ```text
+/// abbrev pub ghosts-audited-J-Recording : goal.ghosts-audited-J-Recording
+/// ghosts-audited-J-Recording g a = record { log = a.fresh.log }
+///
+/// abbrev pub ghosts-audited-J-Ledger : goal.ghosts-audited-J-Ledger
+/// ghosts-audited-J-Ledger g a = record { name = a.fresh.ledger; parts = a.fresh.passes }
+/// ```
 pub trait Recording: Ledger {
     ghost use Rattle.logbook.specs.Pages.{Book};
 
