@@ -2,6 +2,7 @@
 use Rattle.std.proofs.Common.{◌≡◌, ℕ, Bool, true, false, not, List, [], ◌∷◌, ◌++◌, refl, sym, ap, subst, inl, inr}
 use Rattle.std.specs.Prelude.{Option, Some, None, ◌==◌, if◌then◌else◌}
 use Rattle.std.specs.List.{AllZip}
+use Rattle.std.proofs.lemmas.List.Elements.{AllZip-push}
 use Rattle.priority_channel_core.specs.State.{State, Handed, nobody}
 use Rattle.priority_channel_core.specs.Waiting.{is_listed, without, without_given, with_waker, listing, Listing, fresh}
 use Rattle.priority_channel_core.specs.Polls.{unlisted}
@@ -20,12 +21,6 @@ module _ {W : Type 0} (is_clone : W → W → Type 0) where
   same_listed t [] (y ∷ ys) h = absurd h
   same_listed t (x ∷ xs) [] h = absurd h
   same_listed t (x ∷ xs) (y ∷ ys) h = let e = h.0.0 in let r = same_listed t xs ys h.1 in rw (e, r) refl
-
-  pub same_push : (xs ys : List (ℕ × W)) (x y : ℕ × W) → SameList xs ys → SameWaiter is_clone x y → SameList (xs ++ x ∷ []) (ys ++ y ∷ [])
-  same_push [] [] x y h r = (r, tt)
-  same_push [] (v ∷ ys) x y h r = absurd h
-  same_push (u ∷ xs) [] x y h r = absurd h
-  same_push (u ∷ xs) (v ∷ ys) x y h r = (h.0, same_push xs ys x y h.1 r)
 
   pub same_without : (t : ℕ) (xs ys : List (ℕ × W)) → SameList xs ys → SameList (without t xs) (without t ys)
   same_without t [] [] h = tt
@@ -62,7 +57,7 @@ module _ {W : Type 0} (is_clone : W → W → Type 0) where
     pub next : other.next_ticket ≡ one.next_ticket
 
   same_fresh : (n : ℕ) (k l w : W) (xs ys : List (ℕ × W)) → is_clone w k → is_clone w l → SameList xs ys → SamePlace (fresh k xs n) (fresh l ys n)
-  same_fresh n k l w xs ys c d h = record { ticket = refl; waiters = same_push xs ys (n, k) (n, l) h (refl, inr (w, c, d)); next = refl }
+  same_fresh n k l w xs ys c d h = record { ticket = refl; waiters = AllZip-push (SameWaiter is_clone) xs ys (n, k) (n, l) h (refl, inr (w, c, d)); next = refl }
 
   pub same_listing : (given : Option ℕ) (n : ℕ) (k l w : W) (xs ys : List (ℕ × W)) → is_clone w k → is_clone w l → SameList xs ys → SamePlace (listing given k xs n) (listing given l ys n)
   same_listing None n k l w xs ys c d h = same_fresh n k l w xs ys c d h

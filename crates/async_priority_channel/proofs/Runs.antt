@@ -7,6 +7,7 @@ use Rattle.std.specs.List.Sorted.{IsPermutation}
 use Rattle.std.proofs.lemmas.List.Sorted.{IsPermutation-refl, IsPermutation-trans, IsPermutation-append_left, IsPermutation-append_right, IsPermutation-cons, IsPermutation-middle, length_permutation, All-permutation}
 use Rattle.std.proofs.lemmas.List.Elements.{All-from_recursion, recursion_from_All}
 use Rattle.std.proofs.lemmas.List.Kept.{AllPairs-cons}
+use Rattle.std.proofs.Permutation.{every_append}
 use Rattle.std.specs.Ordering.{is_gt}
 use Rattle.std.specs.declared.cmp.Ordering.{Ordering}
 use Rattle.priority_channel_core.specs.declared.calls.Call.TheVariants as call
@@ -17,16 +18,13 @@ use Rattle.priority_channel_core.specs.State.{State, Handed}
 use Rattle.priority_channel_core.specs.Receives.{Receives}
 use Rattle.priority_channel_core.specs.Step.{Moves, Step, Answers}
 use Rattle.priority_channel_core.specs.Run.{Made, Run}
+use Rattle.priority_channel_core.proofs.HeapLemmas.{every_part}
 use Rattle.async_priority_channel.specs.Accepted.{accepted_by, received_by, accepted_in, received_in, NeverRise}
 use Rattle.async_priority_channel.proofs.Effects.{Effect, effect}
 
 empty_parts : {A : Type 0} (xs ys : List A) → xs ++ ys ≡ [] → (xs ≡ []) × (ys ≡ [])
 empty_parts [] ys h = (refl, h)
 empty_parts (x ∷ xs) ys h = absurd (cc)
-
-both_parts : {A : Type 0} (Q : A → Type 0) (xs ys : List A) → AllByRecursion Q (xs ++ ys) → AllByRecursion Q xs × AllByRecursion Q ys
-both_parts Q [] ys h = (tt, h)
-both_parts Q (x ∷ xs) ys h = let r = both_parts Q xs ys h.1 in ((h.0, r.0), r.1)
 
 map_none : {A B : Type 0} (f : A → B) (xs : List A) → map f xs ≡ [] → xs ≡ []
 map_none f [] h = refl
@@ -74,12 +72,8 @@ module _ {T P W : Type 0} (cmp : P → P → Ordering) (is_clone : W → W → T
       let e = step_effect old mid made run.1 in
       let parts = empty_parts (accepted_by made.call made.answer) (accepted_in more) none in
       let same : old.pending ++ accepted_by made.call made.answer ≡ old.pending = rw parts.0 (append-nil old.pending) in
-      let both = both_parts Q (received_by made.answer) mid.pending (recursion_from_All Q _ (All-permutation Q _ _ e.moves (rw same all))) in
-      joined Q _ _ both.0 (received_were_pending Q mid new more run.2 parts.1 (All-from_recursion Q _ both.1))
-    where
-      joined : (Q : T × P → Type 0) (xs ys : List (T × P)) → AllByRecursion Q xs → AllByRecursion Q ys → AllByRecursion Q (xs ++ ys)
-      joined Q [] ys a b = b
-      joined Q (x ∷ xs) ys a b = (a.0, joined Q xs ys a.1 b)
+      let both = every_part Q (received_by made.answer) mid.pending (recursion_from_All Q _ (All-permutation Q _ _ e.moves (rw same all))) in
+      every_append Q _ _ both.0 (received_were_pending Q mid new more run.2 parts.1 (All-from_recursion Q _ both.1))
 
   pub run_never_rises : (old new : State T P W) (run : List (Made T P W)) → Run cmp is_clone old run new
       → accepted_in run ≡ [] → NeverRise cmp (received_in run)

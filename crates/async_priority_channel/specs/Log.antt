@@ -36,7 +36,7 @@ module _ {T P : Type 0} (cmp : P → P → Ordering) where
     pub words : cells ≡ (length log, true) ∷ (0, true) ∷ []
     pub legal : IsLegal log
 
-  -- the entry may come next, if no more than `count` entries were seen
+  -- at least `count` entries were seen; where they are no more, the entry may come next
   abbrev pub MayFollow : List (Entry T P) → ℕ → Entry T P → Type 0
   MayFollow seen count entry = (count ≤ length seen) × (length seen ≡ count → IsLegal (seen ++ entry ∷ []))
 

@@ -57,7 +57,8 @@ impl<T: Drop, P: Ord + Drop, R: Wait + Clone, A: Allocator + Copy> Sender<T, P, 
     /// closed, `Full` where there was no more room, and `Memory` where none could be made. What was sent stays sent, and
     /// the rest can be sent again.
     ///
-    /// The iterator is called under the channel's lock, so it must not use the channel.
+    /// The iterator is called under the channel's lock, and where all was sent it is dropped there. So it must neither
+    /// use the channel nor own a handle of it.
     ///
     /// ```
     /// let jobs = vec![in rt.alloc(); ("compile", 2), ("link", 1)]?;
@@ -90,7 +91,8 @@ impl<T: Drop, P: Ord + Drop, R: Wait + Clone, A: Allocator + Copy> Sender<T, P, 
     }
 
     /// Sends all messages, as there is room: a future, which sends a front at each poll and waits with the rest. What it
-    /// sent stays sent, also where it is dropped or ends in an error.
+    /// sent stays sent, also where it is dropped or ends in an error. As in `try_sendv`, the iterator must neither use
+    /// the channel nor own a handle of it.
     ///
     /// ```
     /// let jobs = vec![in rt.alloc(); ("compile", 2), ("link", 1)]?;

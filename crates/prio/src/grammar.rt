@@ -1,4 +1,4 @@
-// Which lines are calls.
+//! Which lines are calls.
 ghost use Rattle.std.specs.Prelude.{◌≡◌, ◌≢◌, ◌↔◌, ◌<◌, ◌≤◌, ◌++◌, ℕ, ℤ, List, Option, FitsSigned, IfSome, IfNone, IsTrue, slice_index};
 ghost use Rattle.std.specs.Int.{w64, IsInRange};
 ghost use Rattle.std.specs.Option.{option_copied};

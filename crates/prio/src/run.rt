@@ -1,4 +1,4 @@
-// How a script is run, and what is told of one that ends early.
+//! How a script is run, and what is told of one that ends early.
 ghost use Rattle.std.specs.Prelude.{◌≡◌, [], ◌∷◌, Contains};
 
 use crate::script::Script;

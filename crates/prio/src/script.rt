@@ -1,4 +1,4 @@
-// The lines of a script, and the answers to them.
+//! The lines of a script, and the answers to them.
 ghost use Rattle.std.specs.Prelude.{◌≡◌, ◌≢◌, ◌+◌, ◌-◌, ◌^◌, ℤ, min, List, String, All, IfOk, IfErr};
 ghost use Rattle.std.specs.Option.{option_copied};
 ghost use Rattle.prio.specs.Fields.{further_text, IsPair, pairs_text};

@@ -5,7 +5,7 @@ use Rattle.std.proofs.lemmas.Bool.Decides.{nat_tests}
 use Rattle.std.proofs.lemmas.List.{length-map, map-append}
 use Rattle.std.proofs.lemmas.List.Elements.{All-nil, All-push, All-weaker, All-tail, All-map, All-from_recursion, recursion_from_All}
 use Rattle.std.proofs.lemmas.List.Sorted.{All-permutation, length_permutation, IsPermutation-trans, IsPermutation-cons, IsPermutation-swap_remove}
-use Rattle.std.proofs.Permutation.{every_shuffled}
+use Rattle.std.proofs.Permutation.{every_append, every_shuffled}
 use Rattle.std.proofs.Math.Seq.{take-append_seam}
 use Rattle.std.proofs.HeapSift as heap
 use Rattle.std.specs.BinaryHeap.{IsHeap}
@@ -23,9 +23,10 @@ use Rattle.priority_channel_core.proofs.ByKey as keys
 use Rattle.priority_channel_core.proofs.ItemOrder.{item_total}
 
 module _ {X : Type 0} where
-  every_append : (P : X → Type 0) (xs ys : List X) → AllByRecursion P (xs ++ ys) → AllByRecursion P xs × AllByRecursion P ys
-  every_append P [] ys h = (tt, h)
-  every_append P (x ∷ xs) ys h = let r = every_append P xs ys h.1 in ((h.0, r.0), r.1)
+  -- what is so of all of a list is so of both its parts
+  pub every_part : (P : X → Type 0) (xs ys : List X) → AllByRecursion P (xs ++ ys) → AllByRecursion P xs × AllByRecursion P ys
+  every_part P [] ys h = (tt, h)
+  every_part P (x ∷ xs) ys h = let r = every_part P xs ys h.1 in ((h.0, r.0), r.1)
 
   every_both : (P Q : X → Type 0) (xs : List X) → AllByRecursion P xs → AllByRecursion Q xs → AllByRecursion (λ x. P x × Q x) xs
   every_both P Q [] p q = tt
@@ -38,11 +39,7 @@ module _ {X : Type 0} where
   apart_push : (e : X → X → Bool) (xs : List X) (x : X) → IsDistinct e xs → AllByRecursion (λ y. e y x ≡ false) xs → IsDistinct e (xs ++ x ∷ [])
   unfolding IsDistinct
   apart_push e [] x h f = (tt, tt)
-  apart_push e (y ∷ xs) x h f = (every_push (λ z. e y z ≡ false) xs x h.0 f.0, apart_push e xs x h.1 f.1)
-    where
-      every_push : (P : X → Type 0) (xs : List X) (x : X) → AllByRecursion P xs → P x → AllByRecursion P (xs ++ x ∷ [])
-      every_push P [] x h p = (p, tt)
-      every_push P (y ∷ xs) x h p = (h.0, every_push P xs x h.1 p)
+  apart_push e (y ∷ xs) x h f = (every_append (λ z. e y z ≡ false) xs (x ∷ []) h.0 (f.0, tt), apart_push e xs x h.1 f.1)
 
 module _ {T P : Type 0} where
   abbrev number : Item T P → ℕ
@@ -147,7 +144,7 @@ module _ {T P : Type 0} where
           let upper = (every_shuffled (λ y. is_lt (R x y) ≡ false) xs (x ∷ zs) moved (order mends).1).1 in
           let i = keys.splits number x (by_key number zs) in
           let all = subst (AllByRecursion Left) i.rest (keys.every_by_key number Left zs (every_both (λ y. is_lt (R x y) ≡ false) (λ y. same_number x y ≡ false) zs upper apart_after.0)) in
-          let parts = every_append Left i.front i.back all in
+          let parts = every_part Left i.front i.back all in
           let front = every_both Left (λ y. y.number ≤ x.number) i.front parts.0 i.upto in
           record {
             before = map pair_of i.front;
@@ -166,7 +163,3 @@ module _ {T P : Type 0} where
 -- what a vector holds after a slice of the whole of it was written
 pub written_back : {X : Type 0} (xs ys : List X) (n : ℕ) → n ≡ length xs → take n (xs ++ drop (length xs) ys) ≡ xs
 written_back xs ys n e = ap (λ (k : ℕ). take k (xs ++ drop (length xs) ys)) e ∙ take-append_seam xs (drop (length xs) ys)
-
-pub in_order_empty : {T P : Type 0} (xs : List (Item T P)) → length xs ≡ 0 → in_order_of_numbers xs ≡ []
-in_order_empty [] e = in_order_none [] refl
-in_order_empty (x ∷ xs) e = absurd (omega arith)

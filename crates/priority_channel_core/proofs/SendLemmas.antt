@@ -3,30 +3,23 @@ use Rattle.std.proofs.Common.{◌≡◌, ◌+◌, ◌-◌, ◌<◌, ◌≤◌, �
 use Rattle.std.specs.Prelude.{Ok, Err}
 use Rattle.std.proofs.lemmas.Bool.Decides.{eqb_tells}
 use Rattle.std.proofs.lemmas.List.{append-nil}
+use Rattle.std.proofs.Math.Seq.{take-append_seam, drop-append_seam}
 use Rattle.priority_channel_core.specs.declared.errors.TrySendError.TheVariants.{Full, Memory}
 use Rattle.priority_channel_core.specs.State.{State, Handed, nobody, room}
 use Rattle.priority_channel_core.specs.Waiting.{HasOwnTickets}
 use Rattle.priority_channel_core.specs.Good.{IsGood}
 use Rattle.priority_channel_core.specs.Sends.{Accepts, AddsFront, Sends}
 
-take_front : {X : Type 0} (front rest : List X) → take (length front) (front ++ rest) ≡ front
-take_front [] rest = refl
-take_front (x ∷ front) rest = ap (λ xs. x ∷ xs) (take_front front rest)
-
-drop_front : {X : Type 0} (front rest : List X) → drop (length front) (front ++ rest) ≡ rest
-drop_front [] rest = refl
-drop_front (x ∷ front) rest = drop_front front rest
-
 module _ {T P W : Type 0} where
   module _ (old new : State T P W) (handed : Handed W) (pairs front rest : List (T × P)) (opened : old.is_closed ≡ false)
       (adds : AddsFront old front handed new) (parts : pairs ≡ front ++ rest) where
     accepted : Accepts old (length front) pairs handed new
     accepted =
-        let t : take (length front) pairs ≡ front = rw parts (take_front front rest) in
+        let t : take (length front) pairs ≡ front = rw parts (take-append_seam front rest) in
         (opened, adds.handed_is, rw t adds.new_is)
 
     left : rest ≡ drop (length front) pairs
-    left = rw parts (sym (drop_front front rest))
+    left = rw parts (sym (drop-append_seam front rest))
 
     longer : length pairs ≡ length front + length rest
     longer = let l = length-append front rest in let e = ap length parts in omega arith

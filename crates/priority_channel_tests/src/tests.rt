@@ -16,6 +16,11 @@ mod word;
 
 type Core<T, A = Global> = PriorityQueueChannel<T, u64, u64, A>;
 
+/// Spends wakes, whomever they hand out.
+fn spend<A: Allocator>(wakes: Wakes<u64, A>) {
+    let (_room, _message) = wakes.into_lists();
+}
+
 fn hands_out_nobody<A: Allocator>(wakes: Wakes<u64, A>) -> bool {
     let (room, message) = wakes.into_lists();
     room.is_empty() && message.is_empty()
@@ -28,19 +33,19 @@ fn send<T: Drop, A: Allocator + Copy>(
     priority: u64,
 ) -> Result<(), TrySendError<(T, u64)>> {
     let (reply, wakes) = core.try_send(msg, priority);
-    hands_out_nobody(wakes);
+    spend(wakes);
     reply
 }
 
 /// Receives where nobody waits.
 fn receive<T: Drop, A: Allocator + Copy>(core: &mut Core<T, A>) -> Result<(T, u64), TryRecvError> {
     let (reply, wakes) = core.try_recv();
-    hands_out_nobody(wakes);
+    spend(wakes);
     reply
 }
 
 fn close<T: Drop, A: Allocator + Copy>(core: &mut Core<T, A>) -> bool {
     let (was_open, wakes) = core.close();
-    hands_out_nobody(wakes);
+    spend(wakes);
     was_open
 }

@@ -190,7 +190,7 @@ impl<T, P: Ord, J: Recording> Seen<T, P, J> {
         log.word.load::<Look, Nothing>(&mut self.token, &mut offer)
     }
 
-    /// Adds an entry to the log where that is so long, and tells whether it did.
+    /// Adds an entry to the log where its length is `count`, and tells whether it did.
     pub fn append(&mut self, log: &Log<T, P, J>, count: u64, entry: &Entry<T, P>) -> bool
         requires room { count + 1 < 2 ^ 64 }
         requires next { MayFollow P.cmp self.old count entry.now }

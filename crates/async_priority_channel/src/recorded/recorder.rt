@@ -48,6 +48,7 @@ impl<T: Copy, P: Copy + Ord, J: Recording, A: Allocator + Copy> Guarded<T, P, J,
         ensures step { IfOk result (λ reply. IsStep P.cmp self.old.state call reply self.new.state) }
         ensures entered { IfOk result (λ reply. self.new.history ≡ self.old.history ++ entry pass.old.number call reply ∷ []) }
         ensures refused { OnErr result ((pass.new ≡ pass.old) × (self.new ≡ self.old)) }
+        ensures full { OnErr result (self.old.place ≤ length self.old.history) }
     {
         let number = pass.number;
         let reply = self.book.record(number, call)?;
@@ -68,8 +69,8 @@ impl<T: Copy, P: Copy + Ord, J: Recording, A: Allocator + Copy> Guarded<T, P, J,
     }
 }
 
-// Adds an entry behind all that was kept, which what another has seen begins. No other adds one meanwhile, so the first
-// try is the last, but no contract can say so.
+// Adds an entry behind all that was kept, of which what `other` has seen is a front. No one else adds one meanwhile, so
+// the first try succeeds, but no contract can say so.
 fn append<T: Copy, P: Copy + Ord, J: Recording, R: Wait>(
     rt: &R,
     log: &Log<T, P, J>,
@@ -168,7 +169,7 @@ impl<T: Copy, P: Copy + Ord, J: Recording, A: Allocator + Copy> Recorded<T, P, J
     }
 
     /// Makes a call under the pass's number, and enters it with what it answered. Where there is no place for the entry
-    /// the call is not made.
+    /// the call is not made; that never comes before there are as many entries as place was made for.
     pub fn call<R: Wait>(
         &self,
         rt: &R,
@@ -227,7 +228,7 @@ impl<T: Copy, P: Copy + Ord, J: Recording, A: Allocator + Copy> Recorded<T, P, J
     }
 }
 
-// Looks until the log is so long: then nothing longer was seen.
+// Looks until the log's length is `count`, so that nothing longer was seen.
 fn look_until<T, P: Ord, J: Recording, R: Wait>(
     rt: &R,
     log: &Log<T, P, J>,

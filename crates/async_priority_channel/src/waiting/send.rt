@@ -18,7 +18,7 @@ use std::sync::Wait;
 /// Sends one message once there is room. `Sender::send` makes it.
 ///
 /// Its fault is `Closed`, or `Memory` where memory was refused, and gives the message back. Polled again after its
-/// answer it is pending, and does nothing.
+/// answer it is pending, changes nothing, and asks to be polled once more, so it should not be polled on.
 pub struct Send<'a, T, P: Ord, R: Wait + Clone, A: Allocator + Copy = Global> {
     sender: &'a Sender<T, P, R, A>,
     state: SendState<T, P>,

@@ -22,7 +22,7 @@ use std::sync::Wait;
 /// Sends many messages, as there is room. `Sender::sendv` makes it, and `M` is what holds them: a `Peekable`.
 ///
 /// Its fault is `Closed`, or `Memory` where memory was refused, and gives back what was not sent. Polled again after its
-/// answer it is pending, and does nothing.
+/// answer it is pending, changes nothing, and asks to be polled once more, so it should not be polled on.
 pub struct Sendv<'a, T, P: Ord, M, R: Wait + Clone, A: Allocator + Copy = Global> {
     sender: &'a Sender<T, P, R, A>,
     state: SendvState<M>,

@@ -20,7 +20,7 @@ fn a_making_may_be_refused(rt: HostRuntime) {
 fn a_reserved_channel_asks_for_no_more(rt: HostRuntime) -> Result<(), Fail> {
     let alloc = Refusing::new(rt.alloc());
     let (tx, rx) = bounded_reserved(&rt, &alloc, 2)?;
-    alloc.refuse_all();
+    alloc.refuse_nth(1);
     assert_eq!(rt; tx.try_send("x", 1u64), Ok(()));
     assert!(rt; tx.try_sendv([("y", 2)].into_iter().peekable()).is_ok());
     assert_eq!(rt; tx.try_send("z", 3), Err(TrySendError::Full(("z", 3))));
@@ -29,6 +29,13 @@ fn a_reserved_channel_asks_for_no_more(rt: HostRuntime) -> Result<(), Fail> {
     assert_eq!(rt; rx.try_recv(), Ok(("z", 3)));
     assert_eq!(rt; rx.try_recv(), Ok(("x", 1)));
     assert_eq!(rt; rx.try_recv(), Err(TryRecvError::Empty));
+    assert!(rt; tx.is_empty() && !tx.is_full() && !tx.is_closed());
+    assert_eq!(rt; (tx.len(), tx.capacity()), (0, Some(2)));
+    assert_eq!(rt; (tx.sender_count(), tx.receiver_count()), (1, 1));
+    assert!(rt; tx.close());
+    assert_eq!(rt; rx.try_recv(), Err(TryRecvError::Closed));
+    // Nothing was asked for: the request to be refused is still to come.
+    assert!(rt; alloc.refuse_none());
     Ok(())
 }
 

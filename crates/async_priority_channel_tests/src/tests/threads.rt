@@ -6,6 +6,7 @@ use std::random::RandomSource;
 use std::sync::Wait;
 use std::test::Fail;
 use std::thread::{self, Threads};
+use std::time::Duration;
 
 // Sends the numbers from `first` on, each with itself as priority. Tells how many were sent.
 fn send_from<R>(rt: &R, tx: &Sender<u64, u64, R>, first: u64, count: u64) -> u64
@@ -142,6 +143,8 @@ fn a_close_ends_ten_receives(rt: HostRuntime) -> Result<(), Fail> {
         let rx = rx.clone()?;
         receiving.push(thread::spawn(&rt, move || block_on(&rt, rx.recv()))?)?;
     }
+    // They wait by then.
+    thread::sleep(&rt, Duration::from_millis(100));
     let closing = thread::spawn(&rt, move || tx.close())?;
     assert!(rt; closing.join(&rt));
     for thread in receiving {
@@ -155,6 +158,8 @@ fn a_send_waits_for_room(rt: HostRuntime) -> Result<(), Fail> {
     let (tx, rx) = bounded(&rt, rt.alloc(), 1)?;
     assert_eq!(rt; tx.try_send(1u64, 1u64), Ok(()));
     let sending = thread::spawn(&rt, move || block_on(&rt, tx.send(2, 2)))?;
+    // It waits by then.
+    thread::sleep(&rt, Duration::from_millis(100));
     assert_eq!(rt; block_on(&rt, rx.recv())?, Ok((1, 1)));
     assert_eq!(rt; block_on(&rt, rx.recv())?, Ok((2, 2)));
     assert_eq!(rt; sending.join(&rt)?, Ok(()));
@@ -230,7 +235,7 @@ fn pong<R: Threads + Wait + Clone>(
     true
 }
 
-// One side after the other could not go on.
+// Run one after the other, neither could finish.
 #[test]
 fn two_threads_go_on_side_by_side(rt: HostRuntime) -> Result<(), Fail> {
     let (there_tx, there_rx) = bounded(&rt, rt.alloc(), 1)?;

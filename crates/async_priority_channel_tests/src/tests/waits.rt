@@ -38,7 +38,7 @@ fn the_greatest_priority_comes_first(rt: HostRuntime) -> Result<(), Fail> {
 }
 
 #[test]
-fn holds_one(rt: HostRuntime) -> Result<(), Fail> {
+fn a_message_comes_out(rt: HostRuntime) -> Result<(), Fail> {
     let (tx, rx) = bounded(&rt, rt.alloc(), 1)?;
     assert_eq!(rt; block_on(&rt, tx.send("Foo", 0u64))?, Ok(()));
     assert_eq!(rt; block_on(&rt, rx.recv())?, Ok(("Foo", 0)));
@@ -149,7 +149,7 @@ impl<R: Wait + Clone, A: Allocator + Copy> Future for PolledAgain<'_, R, A> {
 }
 
 #[test]
-fn a_future_that_is_done_rests(rt: HostRuntime) -> Result<(), Fail> {
+fn a_future_that_is_done_is_pending(rt: HostRuntime) -> Result<(), Fail> {
     let (tx, rx) = bounded(&rt, rt.alloc(), 4)?;
     let sending = tx.send(1, 1);
     assert!(rt; block_on(&rt, PolledAgain { sending })?);

@@ -183,6 +183,7 @@ fn stops_at_a_failed_write_of_a_long_answer(rt: HostRuntime) -> Result<(), Alloc
     let script = format!(in rt.alloc(); "reserved 1\nsend 5 {word}\nrecv\nrecv\n")?;
     let all = format!(in rt.alloc(); "ok\nok\n{word} 5\nempty\n")?;
     let mut has_stopped_before_word = false;
+    let mut has_met_none = false;
     for n in 0..100 {
         let mut answers = FailingWriter::new(rt.alloc(), n, usize::MAX);
         let mut faults = Vec::new(rt.alloc());
@@ -201,12 +202,13 @@ fn stops_at_a_failed_write_of_a_long_answer(rt: HostRuntime) -> Result<(), Alloc
         if !answers.has_failed {
             assert_eq!(rt; status, 0);
             assert_eq!(rt; answers.written.len(), all.len());
+            has_met_none = true;
             break;
         }
         assert_eq!(rt; status, 4, "at write {n}");
         has_stopped_before_word |= as_text(&answers.written) == "ok\nok\n";
     }
-    assert!(rt; has_stopped_before_word);
+    assert!(rt; has_stopped_before_word && has_met_none);
     Ok(())
 }
 

@@ -22,6 +22,7 @@ impl<'a> PartialEq for Counted<'a> {
     ghost laws = { Prim.search (comparing, rules) };
 
     fn eq(&self, other: &Counted<'a>) -> bool {
+        self.count.set(self.count.get().wrapping_add(1));
         self.value == other.value
     }
 }

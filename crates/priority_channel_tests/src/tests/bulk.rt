@@ -1,6 +1,6 @@
 ghost use Rattle.std.specs.Iterator.Adapters.{peekable_can};
 
-use crate::tests::{Core, close, hands_out_nobody, receive, send};
+use crate::tests::{Core, close, hands_out_nobody, receive, send, spend};
 use priority_channel_core::errors::TrySendError;
 use std::alloc::AllocError;
 use std::cell::Cell;
@@ -9,7 +9,7 @@ use std::iter::{Peekable, once, repeat_n};
 // A reply to a bulk send, with how many pairs came back.
 fn sendv<T: Drop>(core: &mut Core<T>, msgs: Vec<(T, u64)>) -> Result<(), TrySendError<usize>> {
     let (reply, wakes) = core.try_sendv(msgs.into_iter().peekable());
-    hands_out_nobody(wakes);
+    spend(wakes);
     match reply {
         Ok(()) => Ok(()),
         Err(TrySendError::Full(rest)) => Err(TrySendError::Full(rest.count())),

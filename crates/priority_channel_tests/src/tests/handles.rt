@@ -1,16 +1,16 @@
-use crate::tests::{Core, hands_out_nobody, receive, send};
+use crate::tests::{Core, receive, send, spend};
 use priority_channel_core::errors::{TryRecvError, TrySendError};
 use std::alloc::AllocError;
 
 fn drop_sender<T: Drop>(core: &mut Core<T>) {
     if core.sender_count() > 0 {
-        hands_out_nobody(core.drop_sender());
+        spend(core.drop_sender());
     }
 }
 
 fn drop_receiver<T: Drop>(core: &mut Core<T>) {
     if core.receiver_count() > 0 {
-        hands_out_nobody(core.drop_receiver());
+        spend(core.drop_receiver());
     }
 }
 
@@ -42,7 +42,15 @@ fn the_last_sender_closes(rt: HostRuntime) {
 }
 
 #[test]
-fn the_last_receiver_closes(rt: HostRuntime) -> Result<(), AllocError> {
+fn the_last_receiver_closes(rt: HostRuntime) {
+    let mut core: Core<u64> = Core::bounded(rt.alloc(), 1);
+    drop_receiver(&mut core);
+    assert_eq!(rt; core.receiver_count(), 0);
+    assert!(rt; core.is_closed());
+}
+
+#[test]
+fn without_handles_it_is_closed(rt: HostRuntime) -> Result<(), AllocError> {
     let mut core: Core<u64> = Core::bounded_reserved(rt.alloc(), 1)?;
     drop_sender(&mut core);
     assert_eq!(rt; core.sender_count(), 0);

@@ -1,4 +1,4 @@
-use crate::tests::{Core, close, hands_out_nobody, receive, send};
+use crate::tests::{Core, close, hands_out_nobody, receive, send, spend};
 use priority_channel_core::errors::{TryRecvError, TrySendError};
 use refusing::Refusing;
 use std::alloc::{AllocError, Allocator, Global};
@@ -7,14 +7,22 @@ use std::alloc::{AllocError, Allocator, Global};
 fn a_reserved_channel_needs_no_memory(rt: HostRuntime) -> Result<(), AllocError> {
     let alloc = Refusing::new(rt.alloc());
     let mut core: Core<u64, &Refusing<Global>> = Core::bounded_reserved(&alloc, 2)?;
-    alloc.refuse_all();
+    alloc.refuse_nth(1);
     assert_eq!(rt; send(&mut core, 1, 1), Ok(()));
     assert_eq!(rt; send(&mut core, 2, 2), Ok(()));
     assert_eq!(rt; send(&mut core, 3, 3), Err(TrySendError::Full((3, 3))));
     assert_eq!(rt; receive(&mut core), Ok((2, 2)));
     assert_eq!(rt; send(&mut core, 3, 3), Ok(()));
-    assert!(rt; core.clone_sender());
+    assert!(rt; core.is_full() && !core.is_empty() && !core.is_closed());
+    assert_eq!(rt; (core.len(), core.capacity()), (2, Some(2)));
+    assert!(rt; core.clone_sender() && core.clone_receiver());
+    assert_eq!(rt; (core.sender_count(), core.receiver_count()), (2, 2));
     assert!(rt; close(&mut core));
+    assert_eq!(rt; receive(&mut core), Ok((3, 3)));
+    assert_eq!(rt; receive(&mut core), Ok((1, 1)));
+    assert_eq!(rt; receive(&mut core), Err(TryRecvError::Closed));
+    // Nothing was asked for: the request to be refused is still to come.
+    assert!(rt; alloc.refuse_none());
     Ok(())
 }
 
@@ -68,7 +76,7 @@ fn a_refused_growth_hands_the_list_back(rt: HostRuntime) {
 fn send_many<A: Allocator + Copy>(alloc: A) -> (u64, bool) {
     let mut core: Core<u64, A> = Core::unbounded(alloc);
     let (reply, wakes) = core.try_sendv([(1u64, 1u64); 20].into_iter().peekable());
-    hands_out_nobody(wakes);
+    spend(wakes);
     let accepted = core.len();
     let came_back = match reply {
         Ok(()) => 0,

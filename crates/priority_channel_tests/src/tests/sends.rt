@@ -14,7 +14,7 @@ fn the_greatest_priority_comes_first(rt: HostRuntime) {
 }
 
 #[test]
-fn holds_one(rt: HostRuntime) {
+fn a_message_comes_out(rt: HostRuntime) {
     let mut core: Core<&str> = Core::bounded(rt.alloc(), 1);
     assert_eq!(rt; send(&mut core, "Foo", 0), Ok(()));
     assert_eq!(rt; receive(&mut core), Ok(("Foo", 0)));
@@ -116,7 +116,7 @@ fn equal_priorities_come_out_in_the_order_of_acceptance(rt: HostRuntime) {
 
 // A number that was used is not used again once its pair is received.
 #[test]
-fn and_also_after_receives(rt: HostRuntime) {
+fn the_order_of_acceptance_holds_across_receives(rt: HostRuntime) {
     let mut core: Core<&str> = Core::bounded(rt.alloc(), 3);
     assert_eq!(rt; send(&mut core, "a", 0), Ok(()));
     assert_eq!(rt; send(&mut core, "b", 0), Ok(()));

@@ -1,4 +1,4 @@
-use crate::tests::hands_out_nobody;
+use crate::tests::{hands_out_nobody, spend};
 use priority_channel_core::awaitable_atomics::AwaitableAtomicCounterAndBit;
 use priority_channel_core::comparisons::Comparisons;
 
@@ -6,7 +6,7 @@ type Word = AwaitableAtomicCounterAndBit<u64>;
 
 fn set_bit(word: &mut Word) -> bool {
     let (was_closed, wakes) = word.set_bit();
-    hands_out_nobody(wakes);
+    spend(wakes);
     was_closed
 }
 

@@ -146,13 +146,7 @@ fn two_passes_meet(rt: HostRuntime) -> Result<(), Fail> {
     assert_eq!(rt; told[2], Ok(Reply::Len(0)));
     assert_eq!(rt; counts, [(0, 2), (1, 1)]);
     assert_eq!(rt; history.entries().len(), 3);
-    assert_eq!(rt;
-        history
-            .entries()
-            .iter()
-            .map(|entry| entry.who)
-            .eq([0, 1, 0]),
-        true
-    );
+    let mut callers = history.entries().iter().map(|entry| entry.who);
+    assert!(rt; callers.eq([0, 1, 0]));
     Ok(())
 }

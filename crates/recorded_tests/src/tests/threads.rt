@@ -104,7 +104,7 @@ fn one_close_is_the_first(rt: HostRuntime) -> Result<(), Fail> {
 
 const CAPACITY: u64 = 3;
 
-// The calls of one pass: a thousand of four kinds. Tells its entries.
+// The calls of one pass: a thousand, of which half are sends. Tells its entries.
 fn thousand<J: Recording, R: Wait>(
     rt: &R,
     recorder: &Recorded<u64, u64, J>,

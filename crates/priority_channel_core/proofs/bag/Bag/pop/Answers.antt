@@ -1,22 +1,23 @@
 use Rattle.std.proofs.Common.{◌≤◌, length, arith, sym, subst, ◌∙◌, eqb-true}
 use Rattle.std.proofs.lemmas.Bool.{eqb-false}
+use Rattle.std.proofs.lemmas.List.{nil_from_length}
 use Rattle.std.proofs.lemmas.List.Sorted.{length_permutation}
 use Rattle.priority_channel_core.specs.Heap.{IsKept, in_order_of_numbers}
 use Rattle.priority_channel_core.proofs.DigitsLemmas.{digits-mono}
-use Rattle.priority_channel_core.proofs.HeapLemmas.{length-in_order, in_order_empty, kept_popped, takes_greatest, written_back}
+use Rattle.priority_channel_core.proofs.HeapLemmas.{length-in_order, in_order_none, kept_popped, takes_greatest, written_back}
 use Rattle.priority_channel_core.proofs.bag.Bag.pop.Goals as goal
 
 pub returns-then-is_empty-clause-taken : goal.returns-then-is_empty-clause-taken
 returns-then-is_empty-clause-taken g c =
     let long = c.self.inside.items.ok in
     let none = eqb-true _ 0 (sym c.if-is_empty.ensures) in
-    rw (← c.self.view_is) (in_order_empty c.self.inside.items.items (omega arith))
+    rw (← c.self.view_is) (in_order_none _ (nil_from_length c.self.inside.items.items (omega arith)))
 
 pub returns-then-is_empty-clause-none : goal.returns-then-is_empty-clause-none
 returns-then-is_empty-clause-none g c =
     let long = c.self.inside.items.ok in
     let none = eqb-true _ 0 (sym c.if-is_empty.ensures) in
-    rw (← c.self.view_is) (in_order_empty c.self.inside.items.items (omega arith))
+    rw (← c.self.view_is) (in_order_none _ (nil_from_length c.self.inside.items.items (omega arith)))
 
 pub invariant_of-self : goal.invariant_of-self
 invariant_of-self g c =
