@@ -15,7 +15,7 @@ use Rattle.priority_channel_core.specs.declared.errors.SendFault.TheVariants as 
 use Rattle.priority_channel_core.specs.State.{State, Handed}
 use Rattle.async_priority_channel.specs.Future.{polled}
 use Rattle.async_priority_channel.specs.Future.Task.{Sendv}
-use Rattle.async_priority_channel.specs.States.{Holding, told_by, unsent, HoldsTail, IsKeptOf, PollsKept}
+use Rattle.async_priority_channel.specs.States.{Holding, told_by, handed_back, HoldsTail, IsKeptOf, PollsKept}
 use Rattle.async_priority_channel.specs.Handles.{Underway, HandsBackTail}
 
 module _ {X M : Type 0} (holds : M → List X → Type 0) (can : M → Type 0) where
@@ -36,8 +36,8 @@ module _ {X M : Type 0} (holds : M → List X → Type 0) (can : M → Type 0) w
   hands_back_all future rest is h = (h rest is, rw is (tail_of_itself rest))
 
   -- after a poll that was ready
-  pub hands_back_unsent : (future : Underway M) (polled : Poll (Result (Unit {0}) (SendFault M))) → IfSome (unsent polled) can
-      → IfSome future.state.kept (λ msgs. IfSome (unsent polled) (HoldsTail holds msgs))
+  pub hands_back_unsent : (future : Underway M) (polled : Poll (Result (Unit {0}) (SendFault M))) → IfSome (handed_back polled) can
+      → IfSome future.state.kept (λ msgs. IfSome (handed_back polled) (HoldsTail holds msgs))
       → IfReady polled (HandsBackTail holds can future)
   hands_back_unsent future poll.Pending h k = tt
   hands_back_unsent future (poll.Ready (Ok sent)) h k = tt

@@ -20,7 +20,7 @@ use Rattle.priority_channel_core.specs.Polls.{PollsSend}
 use Rattle.priority_channel_core.specs.Bulk.{kept_by, Performs, SamePoll, SameReply}
 use Rattle.async_priority_channel.specs.Future.{Task, poll_of, polled}
 use Rattle.async_priority_channel.specs.Future.Task.{Sendv}
-use Rattle.async_priority_channel.specs.States.{Holding, told_by, left_by, unsent, HoldsTail, send_of, IsKeptOf, PollsKept}
+use Rattle.async_priority_channel.specs.States.{Holding, told_by, left_by, handed_back, HoldsTail, send_of, IsKeptOf, PollsKept}
 
 pub send_left : {T P W : Type 0} (pair : T × P) (waker : W) (reply : CorePoll (Result (Unit {0}) (SendFault (T × P))) (T × P))
     → IsKeptOf send_of (left_by reply) (polled (send_of pair) waker (answer.PollSend reply))
@@ -34,7 +34,7 @@ sendv_left msgs waker (Pending kept ticket) = record { task = refl; ticket = ref
 
 -- what is handed back with a fault was kept by the core's poll
 pub unsent_kept : {M : Type 0} (Q : M → Type 0) (reply : CorePoll (Result (Unit {0}) (SendFault M)) M)
-    → IfSome (kept_by reply) Q → IfSome (unsent (told_by reply)) Q
+    → IfSome (kept_by reply) Q → IfSome (handed_back (told_by reply)) Q
 unsent_kept Q (Ready (Ok sent)) h = h
 unsent_kept Q (Ready (Err (send_fault.Closed e))) h = h
 unsent_kept Q (Ready (Err (send_fault.Memory held))) h = h

@@ -1,5 +1,5 @@
 -- What the code keeps of a future between its polls.
-use Rattle.std.specs.Prelude.{◌≡◌, ℕ, List, drop, Option, Some, None, Result, Ok, Err}
+use Rattle.std.specs.Prelude.{◌≡◌, ℕ, List, drop, Option, Some, None, Result, Err}
 use Rattle.std.specs.Option.{option_map}
 use Rattle.futures.specs.declared.task.Poll.{Poll}
 use Rattle.futures.specs.declared.task.Poll.TheVariants as poll
@@ -8,7 +8,7 @@ use Rattle.priority_channel_core.specs.declared.calls.Answer.{Answer}
 use Rattle.priority_channel_core.specs.declared.calls.CorePoll.{CorePoll}
 use Rattle.priority_channel_core.specs.declared.calls.CorePoll.TheVariants.{Ready, Pending}
 use Rattle.priority_channel_core.specs.declared.errors.SendFault.{SendFault}
-use Rattle.priority_channel_core.specs.declared.errors.SendFault.TheVariants as send_fault
+use Rattle.priority_channel_core.specs.Errors.{unsent}
 use Rattle.priority_channel_core.specs.State.{State, Handed}
 use Rattle.async_priority_channel.specs.Future.{Task, Tasks, Standing, Future, ticket_of, poll_of, polled}
 use Rattle.async_priority_channel.specs.Future.Task.{Send, Recv}
@@ -36,12 +36,10 @@ abbrev pub left_by : {R K : Type 0} → CorePoll R K → Holding K
 left_by (Ready answer) = done
 left_by (Pending kept ticket) = record { kept = Some kept; ticket = Some ticket }
 
--- what was not sent, where a poll of a send ended in a fault
-abbrev pub unsent : {K : Type 0} → Poll (Result (Unit {0}) (SendFault K)) → Option K
-unsent poll.Pending = None
-unsent (poll.Ready (Ok sent)) = None
-unsent (poll.Ready (Err (send_fault.Closed e))) = Some e.0
-unsent (poll.Ready (Err (send_fault.Memory held))) = Some held
+-- what a poll of a send hands back, where it ends in a fault
+abbrev pub handed_back : {K : Type 0} → Poll (Result (Unit {0}) (SendFault K)) → Option K
+handed_back (poll.Ready (Err fault)) = Some (unsent fault)
+handed_back polled = None
 
 -- whatever list the old one holds, the new one holds a tail of it
 pub record HoldsTail {X M : Type 0} (holds : M → List X → Type 0) (old new : M) : Type 0 where

@@ -13,7 +13,7 @@ ghost use Rattle.priority_channel_core.specs.Bulk.{Performs};
 ghost use Rattle.priority_channel_core.specs.Channel.{ComparesAtMost, search_bound};
 ghost use Rattle.async_priority_channel.specs.Future.Task.{Sendv as sendv_of};
 ghost use Rattle.async_priority_channel.specs.World.{GivesUpTicket};
-ghost use Rattle.async_priority_channel.specs.States.{unpolled, done, told_by, left_by, unsent, HoldsTail, send_of, recv_of, PollsKept};
+ghost use Rattle.async_priority_channel.specs.States.{unpolled, done, told_by, left_by, handed_back, HoldsTail, send_of, recv_of, PollsKept};
 
 use futures::task::Poll;
 use priority_channel_core::awaitable_atomics::Wakes;
@@ -67,7 +67,8 @@ impl<K> Kept<K> {
     }
 
     fn is_done(&self) -> bool
-        ensures { IsTrue result ↔ (self.now ≡ done) }
+        ensures done { IsTrue result ↔ (self.now ≡ done) }
+        ensures kept { IsTrue result ↔ (self.now.kept ≡ None) }
     {
         self.kept.is_none()
     }
@@ -157,7 +158,8 @@ impl<T, P> SendState<T, P> {
 
     /// Whether it has answered or was given up.
     pub fn is_done(&self) -> bool
-        ensures { IsTrue result ↔ (self.now ≡ done) }
+        ensures done { IsTrue result ↔ (self.now ≡ done) }
+        ensures kept { IsTrue result ↔ (self.now.kept ≡ None) }
     {
         self.pair.is_done()
     }
@@ -173,7 +175,7 @@ impl<T: Drop, P: Ord + Drop> SendState<T, P> {
         ensures step { IfSome self.old.kept (λ pair. PollsKept (Step P.cmp W.is_clone) send_of (λ reply. Answer.PollSend reply)
             pair self.old.ticket waker.now core.old.state result.0 result.1 core.new.state self.new) }
         ensures done { self.old ≡ done → (result.0 ≡ Poll.Pending) × (result.1 ≡ nobody) × (self.new ≡ self.old) × (core.new ≡ core.old) }
-        ensures unsent { IfSome (unsent result.0) (λ pair. self.old.kept ≡ Some pair) }
+        ensures unsent { IfSome (handed_back result.0) (λ pair. self.old.kept ≡ Some pair) }
         ensures kept { IfSome self.new.kept (λ pair. self.old.kept ≡ Some pair) }
         ensures cost { ComparesAtMost (digits (length core.new.state.pending)) (search_bound core.old.state) core.old core.new }
     {
@@ -231,7 +233,8 @@ impl<M> SendvState<M> {
 
     /// Whether it has answered or was given up.
     pub fn is_done(&self) -> bool
-        ensures { IsTrue result ↔ (self.now ≡ done) }
+        ensures done { IsTrue result ↔ (self.now ≡ done) }
+        ensures kept { IsTrue result ↔ (self.now.kept ≡ None) }
     {
         self.rest.is_done()
     }
@@ -265,11 +268,11 @@ impl<T: Drop, P: Ord + Drop, I: Iterator<Item = (T, P)>> SendvState<Peekable<I>>
         ensures step { IfSome self.old.kept (λ msgs. PollsKept (Performs (HasList I.next_gives) P.cmp W.is_clone) sendv_of (λ reply. Answer.PollSendv reply)
             msgs self.old.ticket waker.now core.old.state result.0 result.1 core.new.state self.new) }
         ensures done { self.old ≡ done → (result.0 ≡ Poll.Pending) × (result.1 ≡ nobody) × (self.new ≡ self.old) × (core.new ≡ core.old) }
-        ensures unsent { IfSome self.old.kept (λ msgs. IfSome (unsent result.0) (HoldsTail (HasList I.next_gives) msgs)) }
+        ensures unsent { IfSome self.old.kept (λ msgs. IfSome (handed_back result.0) (HoldsTail (HasList I.next_gives) msgs)) }
         ensures kept { IfSome self.old.kept (λ msgs. IfSome self.new.kept (HoldsTail (HasList I.next_gives) msgs)) }
 
         // Whether or not the iterator has one list.
-        ensures unsent_callable { IfSome (unsent result.0) (peekable_can I.can_next) }
+        ensures unsent_callable { IfSome (handed_back result.0) (peekable_can I.can_next) }
         ensures kept_callable { ForSome self.new.kept (peekable_can I.can_next) }
         ensures front { IfSome self.old.kept (λ _. (front : List (T × P)) × PollsFront W.is_clone core.old.state self.old.ticket waker.now front result.1 core.new.state
             × ComparesAtMost (length front * digits (length core.new.state.pending)) (search_bound core.old.state) core.old core.new) }
@@ -316,7 +319,8 @@ impl RecvState {
 
     /// Whether it has answered or was given up.
     pub fn is_done(&self) -> bool
-        ensures { IsTrue result ↔ (self.now ≡ done) }
+        ensures done { IsTrue result ↔ (self.now ≡ done) }
+        ensures kept { IsTrue result ↔ (self.now.kept ≡ None) }
     {
         self.receive.is_done()
     }

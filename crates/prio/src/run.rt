@@ -19,18 +19,30 @@ pub enum Fault {
 
 // Calls are text.
 impl From<Utf8Error> for Fault {
+    ghost use Rattle.prio.specs.declared.run.Fault.TheVariants.{NotACall};
+
+    ghost from_gives = { λ _ fault. fault ≡ NotACall };
+
     fn from(_: Utf8Error) -> Fault {
         Fault::NotACall
     }
 }
 
 impl From<AllocError> for Fault {
+    ghost use Rattle.prio.specs.declared.run.Fault.TheVariants.{NoMemory};
+
+    ghost from_gives = { λ _ fault. fault ≡ NoMemory };
+
     fn from(_: AllocError) -> Fault {
         Fault::NoMemory
     }
 }
 
 impl From<io::Error> for Fault {
+    ghost use Rattle.prio.specs.declared.run.Fault.TheVariants.{Failed};
+
+    ghost from_gives = { λ _ fault. fault ≡ Failed };
+
     fn from(_: io::Error) -> Fault {
         Fault::Failed
     }

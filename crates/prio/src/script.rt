@@ -198,7 +198,7 @@ fn read_pairs<A: Allocator + Copy>(
         let Some(((priority, word), rest)) = take_pair(fields) else {
             return Err(Fault::NotACall);
         };
-        let word = String::from_str(alloc, word).or(Err(Fault::NoMemory))?;
+        let word = String::from_str(alloc, word)?;
         pairs.push((word, priority)).or(Err(Fault::NoMemory))?;
         further = rest;
     }

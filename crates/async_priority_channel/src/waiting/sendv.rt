@@ -89,7 +89,7 @@ impl<
         let Some(waker) = handle.register(cx, handle.room(), &mut self.place) else {
             let unsent = self.state.give_up_on(&mut handle.lock());
             let Some(rest) = unsent else {
-                return cx.yield_now();
+                unreachable!()
             };
             return Poll::Ready(Err(SendFault::Memory(rest)));
         };

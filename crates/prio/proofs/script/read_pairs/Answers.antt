@@ -17,8 +17,8 @@ pub loop-further-preserved : goal.loop-further-preserved
 loop-further-preserved g c =
     let before = c.loop-further.invariant in
     let taken = c.in-Some-take_pair.ensures.sound in
-    let text : string_bytes c.in_ok-word.word ≡ c.in-Some-take_pair.word.now = search (rules, c.from_str.ensures.ok, c.or.ensures, c.in_ok-word.ensures) in
-    let items : c.push.new.self.items ≡ c.loop-further.pairs.items ++ (c.in_ok-word.word, c.in-Some-take_pair.priority) ∷ [] = search (rules, c.push.ensures.items, c.or-in-Some.ensures, c.in_ok-or.ensures) in
+    let text : string_bytes c.in_ok-word.word ≡ c.in-Some-take_pair.word.now = search (rules, c.from_str.ensures.ok, c.in_ok-word.ensures) in
+    let items : c.push.new.self.items ≡ c.loop-further.pairs.items ++ (c.in_ok-word.word, c.in-Some-take_pair.priority) ∷ [] = search (rules, c.push.ensures.items, c.or.ensures, c.in_ok-or.ensures) in
     let fits : FitsSigned w64 c.in-Some-take_pair.priority = search rules in
     record {
       pairs = rw items (All-push IsPair _ _ before.pairs (rw text taken.0, fits));
