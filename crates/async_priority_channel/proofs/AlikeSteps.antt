@@ -68,7 +68,7 @@ module _ {T P W : Type 0} (is_clone : W → W → Type 0) {cmp : P → P → Ord
     step_same call.Len (answer.Len x) (answer.Len y) a b count memory =
         let t = looks_same is_clone s r k k' h h' same (length s.pending) (length r.pending) x y (ap length same.pending) a b in (ap (λ z. answer.Len z) t.0, t.1)
     step_same call.Capacity (answer.Capacity x) (answer.Capacity y) a b count memory =
-        let t = looks_same is_clone s r k k' h h' same (capacity_told s) (capacity_told r) x y (rw same.capacity refl) a b in (ap (λ z. answer.Capacity z) t.0, t.1)
+        let t = looks_same is_clone s r k k' h h' same (capacity_told s.capacity) (capacity_told r.capacity) x y (rw same.capacity refl) a b in (ap (λ z. answer.Capacity z) t.0, t.1)
     step_same call.SenderCount (answer.SenderCount x) (answer.SenderCount y) a b count memory =
         let t = looks_same is_clone s r k k' h h' same _ _ x y same.sender_count a b in (ap (λ z. answer.SenderCount z) t.0, t.1)
     step_same call.ReceiverCount (answer.ReceiverCount x) (answer.ReceiverCount y) a b count memory =

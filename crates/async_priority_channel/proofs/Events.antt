@@ -192,10 +192,10 @@ module _ {T P W : Type 0} where
 
     cannot_go_on : (s : State T P W) (side : Bool) (t : ℕ) (k : W) → IsGood s → waker_of t (waiters_of side s) ≡ Some k → CanGoOn s side → ⊥
     cannot_go_on s true t k good here can =
-        let none : s.room_waiters ≡ [] = elim can [ inl closed ↦ (good.closed_without_waiters closed).0 | inr room ↦ good.room_waiters_if_full (let w = good.within_capacity in omega arith) ] in
+        let none : s.room_waiters ≡ [] = elim can [ inl closed ↦ (good.no_waiters_if_closed closed).0 | inr room ↦ good.room_waiters_if_full (let w = good.within_capacity in omega arith) ] in
         let n : None ≡ Some k = rw none at here in absurd (cc)
     cannot_go_on s false t k good here can =
-        let none : s.message_waiters ≡ [] = elim can [ inl closed ↦ (good.closed_without_waiters closed).1 | inr some ↦ good.message_waiters_if_empty (some_pending s.pending some) ] in
+        let none : s.message_waiters ≡ [] = elim can [ inl closed ↦ (good.no_waiters_if_closed closed).1 | inr some ↦ good.message_waiters_if_empty (some_pending s.pending some) ] in
         let n : None ≡ Some k = rw none at here in absurd (cc)
 
     pub nobody_is_forgotten : (cmp : P → P → Ordering) (opening world : World T P W) (events : List (Event T P W)) → IsOpening opening

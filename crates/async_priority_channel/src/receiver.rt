@@ -1,5 +1,6 @@
 //! The handle that receives.
-ghost use Rattle.std.specs.Prelude.{◌≡◌, ◌-◌, ◌<◌, ◌^◌, None, Some};
+ghost use Rattle.std.specs.Prelude.{◌≡◌};
+ghost use Rattle.priority_channel_core.specs.Receives.{capacity_told};
 ghost use Rattle.async_priority_channel.specs.States.{unpolled};
 
 use crate::shared::Handle;
@@ -93,8 +94,7 @@ impl<T: Drop, P: Ord + Drop, R: Wait + Clone, A: Allocator + Copy> Receiver<T, P
 
     /// How many messages may be pending at a time; None where the capacity is `u64::MAX`. It takes no lock.
     pub fn capacity(&self) -> Option<u64>
-        ensures limited { self.now.capacity < 2 ^ 64 - 1 → result ≡ Some self.now.capacity }
-        ensures unlimited { self.now.capacity ≡ 2 ^ 64 - 1 → result ≡ None }
+        ensures { result ≡ capacity_told self.now.capacity }
     {
         self.handle.capacity()
     }

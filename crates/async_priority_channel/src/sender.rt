@@ -1,8 +1,9 @@
 //! The handle that sends.
-ghost use Rattle.std.specs.Prelude.{◌≡◌, ◌-◌, ◌<◌, ◌^◌, IfErr, None, Some};
+ghost use Rattle.std.specs.Prelude.{◌≡◌, IfErr};
 ghost use Rattle.std.specs.Iterator.Adapters.{peekable_can};
 ghost use Rattle.priority_channel_core.specs.Lists.{HasList};
 ghost use Rattle.priority_channel_core.specs.Errors.{refused};
+ghost use Rattle.priority_channel_core.specs.Receives.{capacity_told};
 ghost use Rattle.async_priority_channel.specs.States.{HoldsTail, unpolled};
 
 use crate::shared::Handle;
@@ -142,8 +143,7 @@ impl<T: Drop, P: Ord + Drop, R: Wait + Clone, A: Allocator + Copy> Sender<T, P, 
 
     /// How many messages may be pending at a time; None where the capacity is `u64::MAX`. It takes no lock.
     pub fn capacity(&self) -> Option<u64>
-        ensures limited { self.now.capacity < 2 ^ 64 - 1 → result ≡ Some self.now.capacity }
-        ensures unlimited { self.now.capacity ≡ 2 ^ 64 - 1 → result ≡ None }
+        ensures { result ≡ capacity_told self.now.capacity }
     {
         self.handle.capacity()
     }

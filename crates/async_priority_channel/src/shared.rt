@@ -1,7 +1,8 @@
 //! What the handles of a channel share, and the calls that both kinds of handle make.
-ghost use Rattle.std.specs.Prelude.{◌≡◌, ◌-◌, ◌<◌, ◌^◌, IfOk, IsSome, None, Some};
+ghost use Rattle.std.specs.Prelude.{◌≡◌, IfOk, IsSome};
 ghost use Rattle.futures.specs.Task.{Hears, IsArmed, Keeps};
 ghost use Rattle.priority_channel_core.specs.State.{opening};
+ghost use Rattle.priority_channel_core.specs.Receives.{capacity_told};
 
 use crate::kept_waker::{KeptWaker, wake_all};
 use futures::task::{Context, Source};
@@ -160,8 +161,7 @@ impl<T: Drop, P: Ord + Drop, R: Wait + Clone, A: Allocator + Copy> Handle<T, P, 
 
     /// Kept beside the lock, as it never changes.
     pub fn capacity(&self) -> Option<u64>
-        ensures limited { self.now.capacity < 2 ^ 64 - 1 → result ≡ Some self.now.capacity }
-        ensures unlimited { self.now.capacity ≡ 2 ^ 64 - 1 → result ≡ None }
+        ensures { result ≡ capacity_told self.now.capacity }
     {
         let capacity = self.shared.capacity;
         if capacity == u64::MAX {

@@ -66,7 +66,7 @@ module _ {T P W : Type 0} where
         within_limit = rw adds.new_is at limit;
         accepted_before = omega (arith, l, good.accepted_before);
         accepted_fits = rw adds.new_is at fits;
-        closed_without_waiters = λ closed. cc (closed, opened);
+        no_waiters_if_closed = λ closed. cc (closed, opened);
         room_waiters_if_full = λ more. good.room_waiters_if_full (omega (arith, l, more));
         message_waiters_if_empty = λ some. elim (eqb_tells (length front) 0) [
           | inl h ↦ let e = h.0 in rw e (good.message_waiters_if_empty (omega (arith, l, h.1, some)))
@@ -74,6 +74,6 @@ module _ {T P W : Type 0} where
         ];
         tickets = rw adds.new_is at tickets;
         tickets_fit = good.tickets_fit;
-        closed_without_senders = good.closed_without_senders;
-        closed_without_receivers = good.closed_without_receivers;
+        closed_if_no_senders = good.closed_if_no_senders;
+        closed_if_no_receivers = good.closed_if_no_receivers;
       })

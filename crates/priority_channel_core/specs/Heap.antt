@@ -28,6 +28,7 @@ module _ {T P : Type 0} where
   abbrev pub same_number : Item T P → Item T P → Bool
   same_number x y = x.number == y.number
 
+  -- by the priority, and of two equal ones the smaller number is the greater
   abbrev pub item_cmp : (P → P → Ordering) → Item T P → Item T P → Ordering
   item_cmp cmp = then_cmp (on (λ x. x.priority) cmp) (flip_args (on (λ x. x.number) nat_cmp))
 

@@ -30,7 +30,7 @@ module _ {T P W : Type 0} (cmp : P → P → Ordering) (is_clone : W → W → T
   Moves old call.IsEmpty (answer.IsEmpty told) handed new = Looks old (length old.pending == 0) told handed new
   Moves old call.IsFull (answer.IsFull told) handed new = Looks old (length old.pending == old.capacity) told handed new
   Moves old call.Len (answer.Len told) handed new = Looks old (length old.pending) told handed new
-  Moves old call.Capacity (answer.Capacity told) handed new = Looks old (capacity_told old) told handed new
+  Moves old call.Capacity (answer.Capacity told) handed new = Looks old (capacity_told old.capacity) told handed new
   Moves old call.SenderCount (answer.SenderCount told) handed new = Looks old old.sender_count told handed new
   Moves old call.ReceiverCount (answer.ReceiverCount told) handed new = Looks old old.receiver_count told handed new
   Moves old call.CloneSender (answer.CloneSender done) handed new =

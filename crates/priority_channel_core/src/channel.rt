@@ -233,7 +233,7 @@ impl<T, P: Ord, W: Clone, A: Allocator + Copy> PriorityQueueChannel<T, P, W, A> 
 
     /// How many pairs may be pending at a time; None where the capacity is `u64::MAX`.
     pub fn capacity(&self) -> Option<u64>
-        ensures answer { result ≡ capacity_told self.now.state }
+        ensures answer { result ≡ capacity_told self.now.state.capacity }
         ensures step { Step P.cmp W.is_clone self.now.state Call.Capacity (Answer.Capacity result) nobody self.now.state }
     {
         if self.capacity == u64::MAX {

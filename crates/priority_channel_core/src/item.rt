@@ -3,7 +3,7 @@ ghost use Rattle.std.specs.Prelude.{◌==◌};
 ghost use Rattle.std.proofs.Common.{rules};
 ghost use Rattle.std.specs.Cmp.{partial_order_from_own_ties};
 ghost use Rattle.std.specs.Cmp.Rules.{comparing};
-ghost use Rattle.std.specs.Ordering.{nat_cmp, on, flip_args, then_cmp, as_partial_cmp, eq_of_both};
+ghost use Rattle.std.specs.Ordering.{on, as_partial_cmp, eq_of_both};
 
 use std::cmp::Ordering;
 
@@ -30,7 +30,9 @@ impl<T, P: Ord> Eq for Item<T, P> {
 }
 
 impl<T, P: Ord> PartialOrd for Item<T, P> {
-    ghost partial_cmp = { as_partial_cmp (then_cmp (on (λ i. i.priority) P.cmp) (flip_args (on (λ i. i.number) nat_cmp))) };
+    ghost use Rattle.priority_channel_core.specs.Heap.{item_cmp};
+
+    ghost partial_cmp = { as_partial_cmp (item_cmp P.cmp) };
 
     ghost laws = { partial_order_from_own_ties (Prim.search (comparing, rules)) (Prim.search (comparing, rules)) };
 
@@ -40,7 +42,9 @@ impl<T, P: Ord> PartialOrd for Item<T, P> {
 }
 
 impl<T, P: Ord> Ord for Item<T, P> {
-    ghost cmp = { then_cmp (on (λ i. i.priority) P.cmp) (flip_args (on (λ i. i.number) nat_cmp)) };
+    ghost use Rattle.priority_channel_core.specs.Heap.{item_cmp};
+
+    ghost cmp = { item_cmp P.cmp };
 
     ghost total = { Prim.search (comparing, rules) };
 
