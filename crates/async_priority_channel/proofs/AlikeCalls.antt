@@ -1,5 +1,5 @@
 -- Two calls from states that are the same, of which none waits, with as many pairs accepted.
-use Rattle.std.proofs.Common.{◌≡◌, ℕ, ◌<◌, ◌≤◌, ◌⊎◌, Bool, true, false, List, [], ◌∷◌, ◌++◌, length, drop, refl, sym, ap, ◌∙◌, subst, inl, inr, zero, suc, arith, length-append}
+use Rattle.std.proofs.Common.{◌≡◌, ℕ, ◌<◌, ◌≤◌, ◌⊎◌, Bool, true, false, List, [], ◌∷◌, ◌++◌, length, take, drop, refl, sym, ap, ◌∙◌, subst, inl, inr, zero, suc, arith, length-append}
 use Rattle.std.specs.Prelude.{Option, Result, Ok, Err, ◌==◌, if◌then◌else◌}
 use Rattle.std.proofs.lemmas.List.{length-take-le}
 use Rattle.std.specs.Cmp.{IsTotalOrder}
@@ -39,8 +39,8 @@ module _ {T P W : Type 0} (is_clone : W → W → Type 0) where
     accepts_same n m pairs e a b' =
         let b : Accepts r n pairs h' k' = rw e at b' in
         record {
-          handed = handed_same is_clone h h' _ _ a.1 b.1 (handing (n == 0));
-          state = same_after is_clone k k' _ _ a.2 b.2 (record {
+          handed = handed_same is_clone h h' _ _ a.1.handed_is b.1.handed_is (handing (length (take n pairs) == 0));
+          state = same_after is_clone k k' _ _ a.1.new_is b.1.new_is (record {
             pending = rw same.pending refl;
             accepted = rw same.accepted refl;
             is_closed = same.is_closed;
@@ -49,7 +49,7 @@ module _ {T P W : Type 0} (is_clone : W → W → Type 0) where
             sender_count = same.sender_count;
             receiver_count = same.receiver_count;
             room_waiters = same.room_waiters;
-            message_waiters = messages (n == 0);
+            message_waiters = messages (length (take n pairs) == 0);
             next_ticket = same.next_ticket;
           });
         }

@@ -56,7 +56,7 @@ module _ {T P W : Type 0} (cmp : P → P → Ordering) where
 
     pub effect_accepts : (n : ℕ) (pairs : List (T × P)) → Accepts old n pairs handed new → Effect old (take n pairs) [] new
     effect_accepts n pairs h = record {
-      moves = rw (ap (λ (r : State T P W). r.pending) h.2) (IsPermutation-refl _);
+      moves = rw (ap (λ (r : State T P W). r.pending) h.1.new_is) (IsPermutation-refl _);
       closed = λ k. let e = h.0 in absurd (cc);
       gives = inl refl;
     }

@@ -1,5 +1,5 @@
 -- Each waiting list stays as it was, or is handed out whole.
-use Rattle.std.proofs.Common.{◌≡◌, ℕ, ◌⊎◌, Bool, true, false, List, [], ◌∷◌, refl, ap, ◌∙◌, inl, inr, zero, suc, length}
+use Rattle.std.proofs.Common.{◌≡◌, ℕ, ◌⊎◌, Bool, true, false, List, [], ◌∷◌, refl, ap, ◌∙◌, inl, inr, zero, suc, length, take}
 use Rattle.std.specs.Prelude.{Result, Ok, Err, ◌==◌, if◌then◌else◌}
 use Rattle.std.specs.declared.cmp.Ordering.{Ordering}
 use Rattle.priority_channel_core.specs.declared.calls.Call.TheVariants as call
@@ -39,9 +39,9 @@ module _ {T P W : Type 0} (old new : State T P W) (handed : Handed W) where
   hands_accepts : (n : ℕ) (pairs : List (T × P)) → Accepts old n pairs handed new → Hands
   hands_accepts n pairs h =
       record {
-        room = inl (ap (λ (s : State T P W). s.room_waiters) h.2, ap (λ (x : Handed W). x.room) h.1 ∙ either (n == 0));
-        message = messages (n == 0) (ap (λ (x : Handed W). x.message) h.1) (ap (λ (s : State T P W). s.message_waiters) h.2);
-        next = ap (λ (s : State T P W). s.next_ticket) h.2;
+        room = inl (ap (λ (s : State T P W). s.room_waiters) h.1.new_is, ap (λ (x : Handed W). x.room) h.1.handed_is ∙ either (length (take n pairs) == 0));
+        message = messages (length (take n pairs) == 0) (ap (λ (x : Handed W). x.message) h.1.handed_is) (ap (λ (s : State T P W). s.message_waiters) h.1.new_is);
+        next = ap (λ (s : State T P W). s.next_ticket) h.1.new_is;
       }
     where
       either : (b : Bool) → (if b then nobody else record { room = []; message = old.message_waiters }).room ≡ []

@@ -16,7 +16,7 @@ module _ {T P W : Type 0} where
     accepted : Accepts old (length front) pairs handed new
     accepted =
         let t : take (length front) pairs ≡ front = rw parts (take-append_seam front rest) in
-        (opened, adds.handed_is, rw t adds.new_is)
+        (opened, rw t adds)
 
     left : rest ≡ drop (length front) pairs
     left = rw parts (sym (drop-append_seam front rest))
@@ -49,8 +49,7 @@ module _ {T P W : Type 0} where
   -- a full open channel refuses a list as it is
   pub refuses_full : (s : State T P W) (pairs : List (T × P)) → room s ≡ 0 → s.is_closed ≡ false → Sends s pairs (Err (Full pairs)) nobody s
   refuses_full s pairs none opened =
-      let more : s.accepted + 0 ≡ s.accepted = omega arith in
-      (inl none, rw none refl, (opened, rw none refl, rw (none, append-nil s.pending, more) refl))
+      (inl none, rw none refl, (opened, rw none (adds_none s)))
 
   -- a channel stays good where there was room and were numbers for what is added
   pub good_adds : (old new : State T P W) (front : List (T × P)) (handed : Handed W) → AddsFront old front handed new → IsGood old
