@@ -67,8 +67,7 @@ impl<K> Kept<K> {
     }
 
     fn is_done(&self) -> bool
-        ensures done { IsTrue result ↔ (self.now ≡ done) }
-        ensures kept { IsTrue result ↔ (self.now.kept ≡ None) }
+        ensures { IsTrue result ↔ (self.now.kept ≡ None) }
     {
         self.kept.is_none()
     }
@@ -158,8 +157,7 @@ impl<T, P> SendState<T, P> {
 
     /// Whether it has answered or was given up.
     pub fn is_done(&self) -> bool
-        ensures done { IsTrue result ↔ (self.now ≡ done) }
-        ensures kept { IsTrue result ↔ (self.now.kept ≡ None) }
+        ensures { IsTrue result ↔ (self.now.kept ≡ None) }
     {
         self.pair.is_done()
     }
@@ -174,7 +172,7 @@ impl<T: Drop, P: Ord + Drop> SendState<T, P> {
     ) -> (Poll<Result<(), SendFault<(T, P)>>>, Wakes<W, A>)
         ensures step { IfSome self.old.kept (λ pair. PollsKept (Step P.cmp W.is_clone) send_of (λ reply. Answer.PollSend reply)
             pair self.old.ticket waker.now core.old.state result.0 result.1 core.new.state self.new) }
-        ensures done { self.old ≡ done → (result.0 ≡ Poll.Pending) × (result.1 ≡ nobody) × (self.new ≡ self.old) × (core.new ≡ core.old) }
+        ensures done { self.old.kept ≡ None → (result.0 ≡ Poll.Pending) × (result.1 ≡ nobody) × (self.new ≡ self.old) × (core.new ≡ core.old) }
         ensures unsent { IfSome (handed_back result.0) (λ pair. self.old.kept ≡ Some pair) }
         ensures kept { IfSome self.new.kept (λ pair. self.old.kept ≡ Some pair) }
         ensures cost { ComparesAtMost (digits (length core.new.state.pending)) (search_bound core.old.state) core.old core.new }
@@ -233,8 +231,7 @@ impl<M> SendvState<M> {
 
     /// Whether it has answered or was given up.
     pub fn is_done(&self) -> bool
-        ensures done { IsTrue result ↔ (self.now ≡ done) }
-        ensures kept { IsTrue result ↔ (self.now.kept ≡ None) }
+        ensures { IsTrue result ↔ (self.now.kept ≡ None) }
     {
         self.rest.is_done()
     }
@@ -267,7 +264,7 @@ impl<T: Drop, P: Ord + Drop, I: Iterator<Item = (T, P)>> SendvState<Peekable<I>>
         requires { ForSome self.old.kept (peekable_can I.can_next) }
         ensures step { IfSome self.old.kept (λ msgs. PollsKept (Performs (HasList I.next_gives) P.cmp W.is_clone) sendv_of (λ reply. Answer.PollSendv reply)
             msgs self.old.ticket waker.now core.old.state result.0 result.1 core.new.state self.new) }
-        ensures done { self.old ≡ done → (result.0 ≡ Poll.Pending) × (result.1 ≡ nobody) × (self.new ≡ self.old) × (core.new ≡ core.old) }
+        ensures done { self.old.kept ≡ None → (result.0 ≡ Poll.Pending) × (result.1 ≡ nobody) × (self.new ≡ self.old) × (core.new ≡ core.old) }
         ensures unsent { IfSome self.old.kept (λ msgs. IfSome (handed_back result.0) (HoldsTail (HasList I.next_gives) msgs)) }
         ensures kept { IfSome self.old.kept (λ msgs. IfSome self.new.kept (HoldsTail (HasList I.next_gives) msgs)) }
 
@@ -319,8 +316,7 @@ impl RecvState {
 
     /// Whether it has answered or was given up.
     pub fn is_done(&self) -> bool
-        ensures done { IsTrue result ↔ (self.now ≡ done) }
-        ensures kept { IsTrue result ↔ (self.now.kept ≡ None) }
+        ensures { IsTrue result ↔ (self.now.kept ≡ None) }
     {
         self.receive.is_done()
     }
@@ -334,7 +330,7 @@ impl RecvState {
     ) -> (Poll<Result<(T, P), RecvFault>>, Wakes<W, A>)
         ensures step { IfSome self.old.kept (λ kept. PollsKept (Step P.cmp W.is_clone) recv_of (λ reply. Answer.PollRecv reply)
             kept self.old.ticket waker.now core.old.state result.0 result.1 core.new.state self.new) }
-        ensures done { self.old ≡ done → (result.0 ≡ Poll.Pending) × (result.1 ≡ nobody) × (self.new ≡ self.old) × (core.new ≡ core.old) }
+        ensures done { self.old.kept ≡ None → (result.0 ≡ Poll.Pending) × (result.1 ≡ nobody) × (self.new ≡ self.old) × (core.new ≡ core.old) }
         ensures cost { ComparesAtMost (2 * digits (length core.old.state.pending)) (search_bound core.old.state) core.old core.new }
     {
         let Some(((), ticket)) = self.receive.take() else {

@@ -1,9 +1,9 @@
 //! The future that receives one message.
-ghost use Rattle.std.specs.Prelude.{◌≡◌, ⊤, Result};
+ghost use Rattle.std.specs.Prelude.{◌≡◌, ⊤, None, Result};
 ghost use Rattle.futures.specs.Task.{Covers, Keeps};
 ghost use Rattle.futures.specs.Poll.{IfReady, OnPending};
 ghost use Rattle.priority_channel_core.specs.declared.errors.RecvFault.{RecvFault};
-ghost use Rattle.async_priority_channel.specs.States.{done, unpolled};
+ghost use Rattle.async_priority_channel.specs.States.{unpolled};
 
 use crate::kept_waker::KeptWaker;
 use crate::receiver::Receiver;
@@ -57,7 +57,7 @@ impl<T: Drop, P: Ord + Drop, R: Wait + Clone, A: Allocator + Copy> Future for Re
         ensures same { OnPending result ((x : Result (T × P) RecvFault) → ⊤ → ⊤) }
         ensures registered { OnPending result (Covers cx.new (λ source. source ≡ self.new.channel.message)) }
         ensures kept { Keeps cx.old cx.new }
-        ensures done { self.old.state ≡ done → (result ≡ Poll.Pending) × (self.new ≡ self.old) }
+        ensures done { self.old.state.kept ≡ None → (result ≡ Poll.Pending) × (self.new ≡ self.old) }
     {
         if self.state.is_done() {
             return cx.yield_now();

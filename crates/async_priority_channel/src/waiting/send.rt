@@ -1,8 +1,8 @@
 //! The future that sends one message.
-ghost use Rattle.std.specs.Prelude.{◌≡◌, ⊤};
+ghost use Rattle.std.specs.Prelude.{◌≡◌, ⊤, None};
 ghost use Rattle.futures.specs.Task.{Covers, Keeps};
 ghost use Rattle.futures.specs.Poll.{IfReady, OnPending};
-ghost use Rattle.async_priority_channel.specs.States.{done, unpolled};
+ghost use Rattle.async_priority_channel.specs.States.{unpolled};
 ghost use Rattle.async_priority_channel.specs.Handles.{HandsBack};
 
 use crate::kept_waker::KeptWaker;
@@ -59,7 +59,7 @@ impl<T: Drop, P: Ord + Drop, R: Wait + Clone, A: Allocator + Copy> Future for Se
         ensures same { OnPending result ((x : _) → HandsBack self.new x → HandsBack self.old x) }
         ensures registered { OnPending result (Covers cx.new (λ source. source ≡ self.new.channel.room)) }
         ensures kept { Keeps cx.old cx.new }
-        ensures done { self.old.state ≡ done → (result ≡ Poll.Pending) × (self.new ≡ self.old) }
+        ensures done { self.old.state.kept ≡ None → (result ≡ Poll.Pending) × (self.new ≡ self.old) }
     {
         if self.state.is_done() {
             return cx.yield_now();

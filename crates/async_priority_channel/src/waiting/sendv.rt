@@ -1,11 +1,11 @@
 //! The future that sends many messages.
-ghost use Rattle.std.specs.Prelude.{◌≡◌};
+ghost use Rattle.std.specs.Prelude.{◌≡◌, None};
 ghost use Rattle.std.specs.Option.{ForSome};
 ghost use Rattle.std.specs.Iterator.Adapters.{peekable_can};
 ghost use Rattle.futures.specs.Task.{Covers, Keeps};
 ghost use Rattle.futures.specs.Poll.{IfReady, OnPending};
 ghost use Rattle.priority_channel_core.specs.Lists.{HasList};
-ghost use Rattle.async_priority_channel.specs.States.{done, unpolled};
+ghost use Rattle.async_priority_channel.specs.States.{unpolled};
 ghost use Rattle.async_priority_channel.specs.Handles.{HandsBackTail};
 
 use crate::kept_waker::KeptWaker;
@@ -79,7 +79,7 @@ impl<
         ensures same { OnPending result ((x : _) → HandsBackTail (HasList I.next_gives) (peekable_can I.can_next) self.new x → HandsBackTail (HasList I.next_gives) (peekable_can I.can_next) self.old x) }
         ensures registered { OnPending result (Covers cx.new (λ source. source ≡ self.new.channel.room)) }
         ensures kept { Keeps cx.old cx.new }
-        ensures done { self.old.state ≡ done → (result ≡ Poll.Pending) × (self.new ≡ self.old) }
+        ensures done { self.old.state.kept ≡ None → (result ≡ Poll.Pending) × (self.new ≡ self.old) }
     {
         if self.state.is_done() {
             return cx.yield_now();
