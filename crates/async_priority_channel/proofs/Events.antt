@@ -1,5 +1,5 @@
 -- What holds of a world holds after each event.
-use Rattle.std.proofs.Common.{◌≡◌, ◌≢◌, ℕ, ◌<◌, ◌≤◌, Bool, true, false, List, [], ◌∷◌, length, set, refl, ap, sym, ◌∙◌, inl, inr, arith}
+use Rattle.std.proofs.Common.{◌≡◌, ◌≢◌, ℕ, ◌<◌, ◌≤◌, List, [], ◌∷◌, length, set, refl, ap, sym, ◌∙◌, inl, inr, arith}
 use Rattle.std.specs.Prelude.{Option, Some, None, slice_get}
 use Rattle.std.proofs.lemmas.Option.{slice_get_within, get_or_from_slice_get}
 use Rattle.std.specs.declared.cmp.Ordering.{Ordering}
@@ -13,7 +13,8 @@ use Rattle.async_priority_channel.specs.Future.{Tasks, Standing, Futures, ticket
 use Rattle.async_priority_channel.specs.World.{World, Event, called, call_out, PollsFuture, GivesUpTicket, Happens, Leads, IsOpening}
 use Rattle.async_priority_channel.specs.Future.Standing.{New, Waiting, Called, Done}
 use Rattle.async_priority_channel.specs.World.Event.{Makes, Polls, GivesUp}
-use Rattle.async_priority_channel.specs.WaitingLaw.{waits_for_room, waiters_of, CanGoOn, NobodyIsForgotten, GivenOnce, CalledBy}
+use Rattle.async_priority_channel.specs.WaitingLaw.{Side, side_of, waiters_of, CanGoOn, NobodyIsForgotten, GivenOnce, CalledBy}
+use Rattle.async_priority_channel.specs.WaitingLaw.Side.{Room, Message}
 use Rattle.async_priority_channel.proofs.Places.{mapped_at, at_mapped, changed_at}
 use Rattle.async_priority_channel.proofs.Hands.{Hands, hands}
 use Rattle.async_priority_channel.proofs.Worlds.{Keeps, Changes, keeps-call_out, keeps-change, called_from}
@@ -72,9 +73,9 @@ module _ {T P W : Type 0} where
     changed_world : (old new : World T P W) (mid : State T P W) (handed : Handed W) (h : Hands old.state mid handed) (k : IsKept old)
         (i : ℕ) (f g : Futures T P W) (at : slice_get old.futures i ≡ Some f)
         (at' : slice_get (call_out handed old.futures) i ≡ Some (record { task = f.task; standing = called handed f.standing }))
-        (lists' : Bool → List (ℕ × W)) (next' : ℕ)
+        (lists' : Side → List (ℕ × W)) (next' : ℕ)
         → Changes is_clone (lists_of mid) mid.next_ticket (call_out handed old.futures) (called_world old mid handed h k) i (record { task = f.task; standing = called handed f.standing }) g at' lists' next'
-        → ((side : Bool) → lists_of new.state side ≡ lists' side) → new.state.next_ticket ≡ next' → new.futures ≡ set (call_out handed old.futures) i g → IsGood new.state
+        → ((side : Side) → lists_of new.state side ≡ lists' side) → new.state.next_ticket ≡ next' → new.futures ≡ set (call_out handed old.futures) i g → IsGood new.state
         → IsKept new × Passes old new
     changed_world old new mid handed h k i f g at at' lists' next' c same nexts futures good =
         let keeps = keeps-change is_clone (lists_of mid) mid.next_ticket (call_out handed old.futures) (called_world old mid handed h k) i (record { task = f.task; standing = called handed f.standing }) g at' lists' next' c in (
@@ -94,9 +95,9 @@ module _ {T P W : Type 0} where
           },
         )
 
-    unlisted_lists : (given : Option ℕ) (mid new : State T P W) → new ≡ unlisted given mid → (side : Bool) → lists_of new side ≡ without_given given (lists_of mid side)
-    unlisted_lists given mid new is true = ap (λ (s : State T P W). s.room_waiters) is
-    unlisted_lists given mid new is false = ap (λ (s : State T P W). s.message_waiters) is
+    unlisted_lists : (given : Option ℕ) (mid new : State T P W) → new ≡ unlisted given mid → (side : Side) → lists_of new side ≡ without_given given (lists_of mid side)
+    unlisted_lists given mid new is Room = ap (λ (s : State T P W). s.room_waiters) is
+    unlisted_lists given mid new is Message = ap (λ (s : State T P W). s.message_waiters) is
 
     -- a poll of a future that is not done
     live : (cmp : P → P → Ordering) (old new : World T P W) (which : ℕ) (waker : W) (f : Futures T P W) (handed : Handed W) (reply : Answers T P)
@@ -114,8 +115,8 @@ module _ {T P W : Type 0} where
           | inr w ↦
               changed_world old new w.mid handed w.handing k which f (polled f.task waker reply) at at' (lists_of new.state) new.state.next_ticket
               (waits is_clone (lists_of w.mid) w.mid.next_ticket (call_out handed old.futures) (called_world old w.mid handed w.handing k) which _ (polled f.task waker reply) at'
-              given w.kept waker (waits_for_room f.task) (lists_of new.state) new.state.next_ticket own w.clone refl w.goes_on
-              (still_given old.state w.mid handed w.handing k.good (waits_for_room f.task)) w.mine w.others w.nexts w.stands)
+              given w.kept waker (side_of f.task) (lists_of new.state) new.state.next_ticket own w.clone refl w.goes_on
+              (still_given old.state w.mid handed w.handing k.good (side_of f.task)) w.mine w.others w.nexts w.stands)
               (λ side. refl) refl futures step.good
         ]
 
@@ -182,19 +183,19 @@ module _ {T P W : Type 0} where
           };
         }
       where
-        nobody_listed : (side : Bool) (t : ℕ) (k : W) → waker_of t (lists_of world.state side) ≡ Some k → ⊥
-        nobody_listed true t k here =
+        nobody_listed : (side : Side) (t : ℕ) (k : W) → waker_of t (lists_of world.state side) ≡ Some k → ⊥
+        nobody_listed Room t k here =
             let e : world.state.room_waiters ≡ [] = ap (λ (s : State T P W). s.room_waiters) o.1 in
             let n : None ≡ Some k = rw e at here in absurd (cc)
-        nobody_listed false t k here =
+        nobody_listed Message t k here =
             let e : world.state.message_waiters ≡ [] = ap (λ (s : State T P W). s.message_waiters) o.1 in
             let n : None ≡ Some k = rw e at here in absurd (cc)
 
-    cannot_go_on : (s : State T P W) (side : Bool) (t : ℕ) (k : W) → IsGood s → waker_of t (waiters_of side s) ≡ Some k → CanGoOn s side → ⊥
-    cannot_go_on s true t k good here can =
+    cannot_go_on : (s : State T P W) (side : Side) (t : ℕ) (k : W) → IsGood s → waker_of t (waiters_of side s) ≡ Some k → CanGoOn s side → ⊥
+    cannot_go_on s Room t k good here can =
         let none : s.room_waiters ≡ [] = elim can [ inl closed ↦ (good.no_waiters_if_closed closed).0 | inr room ↦ good.room_waiters_if_full (let w = good.within_capacity in omega arith) ] in
         let n : None ≡ Some k = rw none at here in absurd (cc)
-    cannot_go_on s false t k good here can =
+    cannot_go_on s Message t k good here can =
         let none : s.message_waiters ≡ [] = elim can [ inl closed ↦ (good.no_waiters_if_closed closed).1 | inr some ↦ good.message_waiters_if_empty (some_pending s.pending some) ] in
         let n : None ≡ Some k = rw none at here in absurd (cc)
 
@@ -202,8 +203,8 @@ module _ {T P W : Type 0} where
         → Leads cmp is_clone opening events world → NobodyIsForgotten is_clone world
     nobody_is_forgotten cmp opening world events o h =
         let k = (leads_kept cmp opening world events h (opening_kept opening o)).0 in
-        let cannot : (i : ℕ) (f : Futures T P W) (t : ℕ) (w : W) → slice_get world.futures i ≡ Some f → f.standing ≡ Waiting t w → CanGoOn world.state (waits_for_room f.task) → ⊥ =
-        λ i f t w at is can. let l = k.keeps.kept i f t w at is in cannot_go_on world.state (waits_for_room f.task) t l.0 k.good l.2 can in
+        let cannot : (i : ℕ) (f : Futures T P W) (t : ℕ) (w : W) → slice_get world.futures i ≡ Some f → f.standing ≡ Waiting t w → CanGoOn world.state (side_of f.task) → ⊥ =
+        λ i f t w at is can. let l = k.keeps.kept i f t w at is in cannot_go_on world.state (side_of f.task) t l.0 k.good l.2 can in
         record {
           waiting_is_listed = k.keeps.kept;
           listed_is_waiting = k.keeps.listed;

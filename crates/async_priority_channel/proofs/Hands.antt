@@ -13,11 +13,13 @@ use Rattle.priority_channel_core.specs.Sends.{as_list, Refuses, Accepts, Sends}
 use Rattle.priority_channel_core.specs.Receives.{Receives, Shuts, Clones, Drops}
 use Rattle.priority_channel_core.specs.Step.{Moves, Calls, Answers}
 use Rattle.async_priority_channel.specs.World.{IsDirect}
+use Rattle.async_priority_channel.specs.WaitingLaw.{Side}
+use Rattle.async_priority_channel.specs.WaitingLaw.Side.{Room, Message}
 
 -- those who waited on a side
-abbrev pub handed_of : {W : Type 0} → Bool → Handed W → List (ℕ × W)
-handed_of true handed = handed.room
-handed_of false handed = handed.message
+abbrev pub handed_of : {W : Type 0} → Side → Handed W → List (ℕ × W)
+handed_of Room handed = handed.room
+handed_of Message handed = handed.message
 
 -- a list that stayed, or was handed out
 abbrev pub StaysOrLeaves : {W : Type 0} → List (ℕ × W) → List (ℕ × W) → List (ℕ × W) → Type 0

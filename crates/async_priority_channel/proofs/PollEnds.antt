@@ -1,5 +1,5 @@
 -- Each poll hands out some tickets, and then ends its future or leaves it waiting.
-use Rattle.std.proofs.Common.{◌≡◌, ◌≢◌, ℕ, ◌<◌, ◌⊎◌, Bool, true, false, List, [], ◌∷◌, refl, ap, inl, inr}
+use Rattle.std.proofs.Common.{◌≡◌, ◌≢◌, ℕ, ◌<◌, ◌⊎◌, List, [], ◌∷◌, refl, ap, inl, inr}
 use Rattle.std.specs.Prelude.{Option, Ok, Err}
 use Rattle.std.specs.List.{All}
 use Rattle.std.proofs.lemmas.List.Elements.{All-nil}
@@ -18,19 +18,20 @@ use Rattle.priority_channel_core.specs.Step.{Moves, Answers}
 use Rattle.async_priority_channel.specs.Future.{Tasks, Futures, poll_of, polled}
 use Rattle.async_priority_channel.specs.Future.Task.{Send, Sendv, Recv}
 use Rattle.async_priority_channel.specs.Future.Standing.{Waiting, Done}
-use Rattle.async_priority_channel.specs.WaitingLaw.{waits_for_room, waiters_of}
+use Rattle.async_priority_channel.specs.WaitingLaw.{Side, side_of, waiters_of}
+use Rattle.async_priority_channel.specs.WaitingLaw.Side.{Room, Message}
 use Rattle.async_priority_channel.proofs.Hands.{handed_of, StaysOrLeaves, Hands, hands_sends, hands_receives}
 
 module _ {T P W : Type 0} where
-  abbrev pub lists_of : State T P W → Bool → List (ℕ × W)
+  abbrev pub lists_of : State T P W → Side → List (ℕ × W)
   lists_of s side = waiters_of side s
 
-  pub stays_or_leaves : (old new : State T P W) (handed : Handed W) → Hands old new handed → (side : Bool) → StaysOrLeaves (lists_of old side) (handed_of side handed) (lists_of new side)
-  stays_or_leaves old new handed h true = h.room
-  stays_or_leaves old new handed h false = h.message
+  pub stays_or_leaves : (old new : State T P W) (handed : Handed W) → Hands old new handed → (side : Side) → StaysOrLeaves (lists_of old side) (handed_of side handed) (lists_of new side)
+  stays_or_leaves old new handed h Room = h.room
+  stays_or_leaves old new handed h Message = h.message
 
   -- the tickets of a list that stayed, or is empty, were given
-  pub still_given : (old new : State T P W) (handed : Handed W) → Hands old new handed → IsGood old → (side : Bool) → All (λ a. a.0 < new.next_ticket) (lists_of new side)
+  pub still_given : (old new : State T P W) (handed : Handed W) → Hands old new handed → IsGood old → (side : Side) → All (λ a. a.0 < new.next_ticket) (lists_of new side)
   still_given old new handed h good side =
       let given = either side in
       elim (stays_or_leaves old new handed h side) [
@@ -38,9 +39,9 @@ module _ {T P W : Type 0} where
         | inr s ↦ rw s.0 (All-nil (λ (a : ℕ × W). a.0 < new.next_ticket))
       ]
     where
-      either : (side : Bool) → All (λ a. a.0 < old.next_ticket) (lists_of old side)
-      either true = good.tickets.room_given
-      either false = good.tickets.message_given
+      either : (side : Side) → All (λ a. a.0 < old.next_ticket) (lists_of old side)
+      either Room = good.tickets.room_given
+      either Message = good.tickets.message_given
 
   -- a poll that ends its future
   pub record Ended (old : State T P W) (given : Option ℕ) (future : Futures T P W) (handed : Handed W) (new : State T P W) : Type 0 where
@@ -50,20 +51,20 @@ module _ {T P W : Type 0} where
     pub done : future.standing ≡ Done
 
   -- a poll that leaves its future waiting
-  pub record Waits (is_clone : W → W → Type 0) (old : State T P W) (given : Option ℕ) (waker : W) (side : Bool) (future : Futures T P W) (handed : Handed W) (new : State T P W) : Type 0 where
+  pub record Waits (is_clone : W → W → Type 0) (old : State T P W) (given : Option ℕ) (waker : W) (side : Side) (future : Futures T P W) (handed : Handed W) (new : State T P W) : Type 0 where
     pub mid : State T P W
     pub handing : Hands old mid handed
     pub kept : W
     pub clone : is_clone waker kept
     pub mine : lists_of new side ≡ (listing given kept (lists_of mid side) mid.next_ticket).waiters
-    pub others : (other : Bool) → other ≢ side → lists_of new other ≡ lists_of mid other
+    pub others : (other : Side) → other ≢ side → lists_of new other ≡ lists_of mid other
     pub nexts : new.next_ticket ≡ (listing given kept (lists_of mid side) mid.next_ticket).next_ticket
-    pub goes_on : waits_for_room future.task ≡ side
+    pub goes_on : side_of future.task ≡ side
     pub stands : future.standing ≡ Waiting (listing given kept (lists_of mid side) mid.next_ticket).ticket waker
 
   for_room : (is_clone : W → W → Type 0) (old mid new : State T P W) (given : Option ℕ) (waker : W) (ticket : ℕ) (task : Tasks T P) (handed : Handed W)
-      → waits_for_room task ≡ true → Hands old mid handed → WaitsForRoom is_clone given waker mid ticket new
-      → Waits is_clone old given waker true (record { task = task; standing = Waiting ticket waker }) handed new
+      → side_of task ≡ Room → Hands old mid handed → WaitsForRoom is_clone given waker mid ticket new
+      → Waits is_clone old given waker Room (record { task = task; standing = Waiting ticket waker }) handed new
   for_room is_clone old mid new given waker ticket task handed side h w = record {
     mid = mid;
     handing = h;
@@ -76,13 +77,13 @@ module _ {T P W : Type 0} where
     stands = ap (λ (t : ℕ). Waiting t waker) w.2.0;
   }
     where
-      either : (other : Bool) → other ≢ true → lists_of new other ≡ lists_of mid other
-      either true ne = absurd (ne refl)
-      either false ne = ap (λ (s : State T P W). s.message_waiters) w.2.1
+      either : (other : Side) → other ≢ Room → lists_of new other ≡ lists_of mid other
+      either Room ne = absurd (ne refl)
+      either Message ne = ap (λ (s : State T P W). s.message_waiters) w.2.1
 
   for_message : (is_clone : W → W → Type 0) (old mid new : State T P W) (given : Option ℕ) (waker : W) (ticket : ℕ) (handed : Handed W)
       → Hands old mid handed → WaitsForMessage is_clone given waker mid ticket new
-      → Waits is_clone old given waker false (record { task = Recv; standing = Waiting ticket waker }) handed new
+      → Waits is_clone old given waker Message (record { task = Recv; standing = Waiting ticket waker }) handed new
   for_message is_clone old mid new given waker ticket handed h w = record {
     mid = mid;
     handing = h;
@@ -95,14 +96,14 @@ module _ {T P W : Type 0} where
     stands = ap (λ (t : ℕ). Waiting t waker) w.2.0;
   }
     where
-      either : (other : Bool) → other ≢ false → lists_of new other ≡ lists_of mid other
-      either false ne = absurd (ne refl)
-      either true ne = ap (λ (s : State T P W). s.room_waiters) w.2.1
+      either : (other : Side) → other ≢ Message → lists_of new other ≡ lists_of mid other
+      either Message ne = absurd (ne refl)
+      either Room ne = ap (λ (s : State T P W). s.room_waiters) w.2.1
 
   module _ (cmp : P → P → Ordering) (is_clone : W → W → Type 0) (old new : State T P W) (handed : Handed W) (given : Option ℕ) (waker : W) where
     -- each poll ends its future or leaves it waiting
     pub poll_end : (task : Tasks T P) (reply : Answers T P) → Moves cmp is_clone old (poll_of task given waker) reply handed new
-        → Ended old given (polled task waker reply) handed new ⊎ Waits is_clone old given waker (waits_for_room task) (polled task waker reply) handed new
+        → Ended old given (polled task waker reply) handed new ⊎ Waits is_clone old given waker (side_of task) (polled task waker reply) handed new
     poll_end (Send m p) (answer.PollSend (Ready (Ok done))) h =
         inl (record { mid = h.0; handing = hands_sends old h.0 handed ((m, p) ∷ []) (Ok done) h.1; left = h.2; done = refl })
     poll_end (Send m p) (answer.PollSend (Ready (Err (send_fault.Closed e)))) h =

@@ -1,5 +1,5 @@
 -- A future ends, or waits: what this changes in a world.
-use Rattle.std.proofs.Common.{eq-eqb, ◌≡◌, ◌≢◌, ℕ, ◌<◌, ◌⊎◌, Bool, true, false, List, refl, ap, sym, ◌∙◌, inl, inr, arith}
+use Rattle.std.proofs.Common.{eq-eqb, ◌≡◌, ◌≢◌, ℕ, ◌<◌, ◌⊎◌, true, false, List, refl, ap, sym, ◌∙◌, inl, inr, arith}
 use Rattle.std.specs.Prelude.{Option, Some, None, slice_get, ◌==◌}
 use Rattle.std.specs.List.{All}
 use Rattle.std.proofs.lemmas.Bool.{ne_eqb}
@@ -8,7 +8,8 @@ use Rattle.priority_channel_core.specs.Waiting.{without_given, listing}
 use Rattle.async_priority_channel.specs.WaitingLaw.{waker_of}
 use Rattle.async_priority_channel.specs.Future.{Futures, ticket_of}
 use Rattle.async_priority_channel.specs.Future.Standing.{Waiting, Done}
-use Rattle.async_priority_channel.specs.WaitingLaw.{waits_for_room}
+use Rattle.async_priority_channel.specs.WaitingLaw.{Side, side_of}
+use Rattle.async_priority_channel.specs.WaitingLaw.Side.{Room, Message}
 use Rattle.async_priority_channel.proofs.Places.{Some-same}
 use Rattle.async_priority_channel.proofs.Lookups.{put, waker_of-without, waker_of-listing, waker_of-listed, place}
 use Rattle.async_priority_channel.proofs.Worlds.{Keeps, Changes}
@@ -27,23 +28,23 @@ gone_only xs (Some u) t k h =
       | inr e ↦ let r = e.0 in (rw r at p, λ q. e.1 (cc))
     ]
 
-same_side : (a b : Bool) → (a ≡ b) ⊎ (a ≢ b)
-same_side true true = inl refl
-same_side true false = inr (λ e. cc)
-same_side false true = inr (λ e. cc)
-same_side false false = inl refl
+same_side : (a b : Side) → (a ≡ b) ⊎ (a ≢ b)
+same_side Room Room = inl refl
+same_side Room Message = inr (λ e. cc)
+same_side Message Room = inr (λ e. cc)
+same_side Message Message = inl refl
 
 module _ {T P W : Type 0} (is_clone : W → W → Type 0) where
-  pub Keeps-same : (lists lists' : Bool → List (ℕ × W)) (next next' : ℕ) (futures : List (Futures T P W))
-      → ((side : Bool) → lists' side ≡ lists side) → next' ≡ next → Keeps is_clone lists next futures → Keeps is_clone lists' next' futures
+  pub Keeps-same : (lists lists' : Side → List (ℕ × W)) (next next' : ℕ) (futures : List (Futures T P W))
+      → ((side : Side) → lists' side ≡ lists side) → next' ≡ next → Keeps is_clone lists next futures → Keeps is_clone lists' next' futures
   Keeps-same lists lists' next next' futures same e k = record {
-    kept = λ i f t w at waits. let o = k.kept i f t w at waits in (o.0, o.1, ap (waker_of t) (same (waits_for_room f.task)) ∙ o.2);
+    kept = λ i f t w at waits. let o = k.kept i f t w at waits in (o.0, o.1, ap (waker_of t) (same (side_of f.task)) ∙ o.2);
     listed = λ side t kept here. k.listed side t kept (ap (waker_of t) (sym (same side)) ∙ here);
     below = λ i f t at has. let b = k.below i f t at has in omega arith;
     differ = k.differ;
   }
 
-  module _ (lists : Bool → List (ℕ × W)) (next : ℕ) (futures : List (Futures T P W)) (keeps : Keeps is_clone lists next futures)
+  module _ (lists : Side → List (ℕ × W)) (next : ℕ) (futures : List (Futures T P W)) (keeps : Keeps is_clone lists next futures)
       (i : ℕ) (f g : Futures T P W) (at : slice_get futures i ≡ Some f) where
     -- a future ends, and its ticket leaves both lists
     pub ends : (given : Option ℕ) → given ≡ ticket_of f.standing → g.standing ≡ Done
@@ -57,11 +58,11 @@ module _ {T P W : Type 0} (is_clone : W → W → Type 0) where
     }
 
     -- a future waits, under its own ticket or the next one
-    pub waits : (given : Option ℕ) (kept waker : W) (side : Bool) (lists' : Bool → List (ℕ × W)) (next' : ℕ)
-        → given ≡ ticket_of f.standing → is_clone waker kept → waits_for_room f.task ≡ side → waits_for_room g.task ≡ side
+    pub waits : (given : Option ℕ) (kept waker : W) (side : Side) (lists' : Side → List (ℕ × W)) (next' : ℕ)
+        → given ≡ ticket_of f.standing → is_clone waker kept → side_of f.task ≡ side → side_of g.task ≡ side
         → All (λ a. a.0 < next) (lists side)
         → lists' side ≡ (listing given kept (lists side) next).waiters
-        → ((other : Bool) → other ≢ side → lists' other ≡ lists other)
+        → ((other : Side) → other ≢ side → lists' other ≡ lists other)
         → next' ≡ (listing given kept (lists side) next).next_ticket
         → g.standing ≡ Waiting (listing given kept (lists side) next).ticket waker
         → Changes is_clone lists next futures keeps i f g at lists' next'
@@ -109,7 +110,7 @@ module _ {T P W : Type 0} (is_clone : W → W → Type 0) where
                           let found = keeps.listed s t k old in
                           let same : i ≡ found.which = keeps.differ i found.which f found.future t at found.there has (ap ticket_of found.waits) in
                           let one : f ≡ found.future = Some-same _ f found.future at (ap (slice_get futures) same ∙ found.there) in
-                          ne (sym found.on_side ∙ (sym (ap (λ (x : Futures T P W). waits_for_room x.task) one) ∙ on_side)),
+                          ne (sym found.on_side ∙ (sym (ap (λ (x : Futures T P W). side_of x.task) one) ∙ on_side)),
                     )
               ];
           ticket = λ t has.

@@ -8,7 +8,8 @@ use Rattle.async_priority_channel.specs.WaitingLaw.{waker_of}
 use Rattle.async_priority_channel.specs.Future.{Futures, ticket_of}
 use Rattle.async_priority_channel.specs.World.{is_handed, called, call_out}
 use Rattle.async_priority_channel.specs.Future.Standing.{Waiting, Called}
-use Rattle.async_priority_channel.specs.WaitingLaw.{waits_for_room, HasWaiting}
+use Rattle.async_priority_channel.specs.WaitingLaw.{Side, side_of, HasWaiting}
+use Rattle.async_priority_channel.specs.WaitingLaw.Side.{Room, Message}
 use Rattle.async_priority_channel.proofs.Places.{Some-same, mapped_at, at_mapped, changed_at, at_changed, at_unchanged}
 use Rattle.async_priority_channel.proofs.Lookups.{waker_of-listed}
 use Rattle.async_priority_channel.proofs.Hands.{handed_of, StaysOrLeaves}
@@ -27,25 +28,25 @@ or-right false b h = h
 
 module _ {T P W : Type 0} (is_clone : W → W → Type 0) where
   -- the two lists have exactly the waiting futures, and each ticket has one future
-  pub record Keeps (lists : Bool → List (ℕ × W)) (next : ℕ) (futures : List (Futures T P W)) : Type 0 where
+  pub record Keeps (lists : Side → List (ℕ × W)) (next : ℕ) (futures : List (Futures T P W)) : Type 0 where
     pub kept : (i : ℕ) (f : Futures T P W) (t : ℕ) (w : W) → slice_get futures i ≡ Some f → f.standing ≡ Waiting t w
-        → (k : W) × is_clone w k × (waker_of t (lists (waits_for_room f.task)) ≡ Some k)
-    pub listed : (side : Bool) (t : ℕ) (k : W) → waker_of t (lists side) ≡ Some k → HasWaiting is_clone futures side t k
+        → (k : W) × is_clone w k × (waker_of t (lists (side_of f.task)) ≡ Some k)
+    pub listed : (side : Side) (t : ℕ) (k : W) → waker_of t (lists side) ≡ Some k → HasWaiting is_clone futures side t k
     pub below : (i : ℕ) (f : Futures T P W) (t : ℕ) → slice_get futures i ≡ Some f → ticket_of f.standing ≡ Some t → t < next
     pub differ : (i j : ℕ) (f g : Futures T P W) (t : ℕ) → slice_get futures i ≡ Some f → slice_get futures j ≡ Some g
         → ticket_of f.standing ≡ Some t → ticket_of g.standing ≡ Some t → i ≡ j
 
-  module _ (lists : Bool → List (ℕ × W)) (next : ℕ) (futures : List (Futures T P W)) (keeps : Keeps lists next futures) where
+  module _ (lists : Side → List (ℕ × W)) (next : ℕ) (futures : List (Futures T P W)) (keeps : Keeps lists next futures) where
     -- a ticket that is listed on one side isn't listed on the other
-    other_side : (side : Bool) (t : ℕ) (k l : W) → waker_of t (lists true) ≡ Some k → waker_of t (lists false) ≡ Some l → ⊥
+    other_side : (side : Side) (t : ℕ) (k l : W) → waker_of t (lists Room) ≡ Some k → waker_of t (lists Message) ≡ Some l → ⊥
     other_side side t k l h j =
-        let a = keeps.listed true t k h in
-        let b = keeps.listed false t l j in
+        let a = keeps.listed Room t k h in
+        let b = keeps.listed Message t l j in
         let ta : ticket_of a.future.standing ≡ Some t = ap ticket_of a.waits in
         let tb : ticket_of b.future.standing ≡ Some t = ap ticket_of b.waits in
         let same : a.which ≡ b.which = keeps.differ a.which b.which a.future b.future t a.there b.there ta tb in
         let one : a.future ≡ b.future = Some-same _ _ _ (rw same at a.there) b.there in
-        let s = ap (λ (f : Futures T P W). waits_for_room f.task) one in
+        let s = ap (λ (f : Futures T P W). side_of f.task) one in
         let x = a.on_side in let y = b.on_side in absurd (cc)
 
     unlisted_by : (t : ℕ) (xs : List (ℕ × W)) → ((k : W) → waker_of t xs ≡ Some k → ⊥) → is_listed t xs ≡ false
@@ -57,7 +58,7 @@ module _ {T P W : Type 0} (is_clone : W → W → Type 0) where
         ]
 
     -- those who are handed out are called
-    pub keeps-call_out : (handed : Handed W) (lists' : Bool → List (ℕ × W)) → ((side : Bool) → StaysOrLeaves (lists side) (handed_of side handed) (lists' side))
+    pub keeps-call_out : (handed : Handed W) (lists' : Side → List (ℕ × W)) → ((side : Side) → StaysOrLeaves (lists side) (handed_of side handed) (lists' side))
         → Keeps lists' next (call_out handed futures)
     keeps-call_out handed lists' stays = record {
       kept = λ i g t w at waits.
@@ -65,7 +66,7 @@ module _ {T P W : Type 0} (is_clone : W → W → Type 0) where
           let f = m.0 in
           let c = called-waiting handed f.standing t w (ap (λ (x : Futures T P W). x.standing) m.2 ∙ waits) in
           let old = keeps.kept i f t w m.1 c.0 in
-          let side : waits_for_room g.task ≡ waits_for_room f.task = sym (ap (λ (x : Futures T P W). waits_for_room x.task) m.2) in
+          let side : side_of g.task ≡ side_of f.task = sym (ap (λ (x : Futures T P W). side_of x.task) m.2) in
           (old.0, old.1, rw side (still f t old.0 c.1 old.2));
       listed = λ side t k here.
           let was = was_listed side t k here in
@@ -90,23 +91,23 @@ module _ {T P W : Type 0} (is_clone : W → W → Type 0) where
           (sym (called-ticket handed n.0.standing) ∙ (ap (λ (x : Futures T P W). ticket_of x.standing) n.2 ∙ has'));
     }
       where
-        handed_side : (side : Bool) (t : ℕ) → is_handed t handed ≡ false → is_listed t (handed_of side handed) ≡ false
-        handed_side true t h = or-left _ _ h
-        handed_side false t h = or-right (is_listed t handed.room) _ h
+        handed_side : (side : Side) (t : ℕ) → is_handed t handed ≡ false → is_listed t (handed_of side handed) ≡ false
+        handed_side Room t h = or-left _ _ h
+        handed_side Message t h = or-right (is_listed t handed.room) _ h
 
-        still : (f : Futures T P W) (t : ℕ) (k : W) → is_handed t handed ≡ false → waker_of t (lists (waits_for_room f.task)) ≡ Some k
-            → waker_of t (lists' (waits_for_room f.task)) ≡ Some k
+        still : (f : Futures T P W) (t : ℕ) (k : W) → is_handed t handed ≡ false → waker_of t (lists (side_of f.task)) ≡ Some k
+            → waker_of t (lists' (side_of f.task)) ≡ Some k
         still f t k out here =
-            elim (stays (waits_for_room f.task)) [
+            elim (stays (side_of f.task)) [
               | inl s ↦ rw s.0 here
               | inr s ↦
-                  let a = handed_side (waits_for_room f.task) t out in
-                  let b = waker_of-listed (lists (waits_for_room f.task)) t k here in
+                  let a = handed_side (side_of f.task) t out in
+                  let b = waker_of-listed (lists (side_of f.task)) t k here in
                   let e = s.1 in
                   absurd (cc (ap (is_listed t) e))
             ]
 
-        was_listed : (side : Bool) (t : ℕ) (k : W) → waker_of t (lists' side) ≡ Some k → waker_of t (lists side) ≡ Some k
+        was_listed : (side : Side) (t : ℕ) (k : W) → waker_of t (lists' side) ≡ Some k → waker_of t (lists side) ≡ Some k
         was_listed side t k here =
             elim (stays side) [
               | inl s ↦ rw s.0 at here
@@ -114,51 +115,51 @@ module _ {T P W : Type 0} (is_clone : W → W → Type 0) where
             ]
 
         -- a side whose list stays hands out nobody
-        stays_unlisted : (side : Bool) (t : ℕ) (k : W) → waker_of t (lists' side) ≡ Some k → is_listed t (handed_of side handed) ≡ false
+        stays_unlisted : (side : Side) (t : ℕ) (k : W) → waker_of t (lists' side) ≡ Some k → is_listed t (handed_of side handed) ≡ false
         stays_unlisted side t k here =
             elim (stays side) [
               | inl s ↦ rw s.1 refl
               | inr s ↦ let n : None ≡ Some k = rw s.0 at here in absurd (cc)
             ]
 
-        other_unlisted : (side : Bool) (t : ℕ) → ((k : W) → waker_of t (lists side) ≡ Some k → ⊥) → is_listed t (handed_of side handed) ≡ false
+        other_unlisted : (side : Side) (t : ℕ) → ((k : W) → waker_of t (lists side) ≡ Some k → ⊥) → is_listed t (handed_of side handed) ≡ false
         other_unlisted side t none =
             elim (stays side) [
               | inl s ↦ rw s.1 refl
               | inr s ↦ rw s.1 (unlisted_by t (lists side) none)
             ]
 
-        not_handed : (side : Bool) (t : ℕ) (k : W) → waker_of t (lists' side) ≡ Some k → waker_of t (lists side) ≡ Some k → is_handed t handed ≡ false
-        not_handed true t k here was = or-false _ _ (stays_unlisted true t k here) (other_unlisted false t (λ l h. other_side true t k l was h))
-        not_handed false t k here was = or-false _ _ (other_unlisted true t (λ l h. other_side false t l k h was)) (stays_unlisted false t k here)
+        not_handed : (side : Side) (t : ℕ) (k : W) → waker_of t (lists' side) ≡ Some k → waker_of t (lists side) ≡ Some k → is_handed t handed ≡ false
+        not_handed Room t k here was = or-false _ _ (stays_unlisted Room t k here) (other_unlisted Message t (λ l h. other_side Room t k l was h))
+        not_handed Message t k here was = or-false _ _ (other_unlisted Room t (λ l h. other_side Message t l k h was)) (stays_unlisted Message t k here)
 
     -- who was handed out, on whichever side, was handed out with the clone of its waker
-    pub handed_kept : (handed : Handed W) (lists' : Bool → List (ℕ × W)) → ((side : Bool) → StaysOrLeaves (lists side) (handed_of side handed) (lists' side))
-        → (side : Bool) (t : ℕ) (k : W) → waker_of t (lists side) ≡ Some k → is_handed t handed ≡ true
+    pub handed_kept : (handed : Handed W) (lists' : Side → List (ℕ × W)) → ((side : Side) → StaysOrLeaves (lists side) (handed_of side handed) (lists' side))
+        → (side : Side) (t : ℕ) (k : W) → waker_of t (lists side) ≡ Some k → is_handed t handed ≡ true
         → (waker_of t handed.room ≡ Some k) ⊎ (waker_of t handed.message ≡ Some k)
-    handed_kept handed lists' stays true t k here out =
-        elim (stays true) [
+    handed_kept handed lists' stays Room t k here out =
+        elim (stays Room) [
           | inr s ↦ inl (rw s.1 here)
-          | inl s ↦ elim (stays false) [
+          | inl s ↦ elim (stays Message) [
             | inl u ↦ let e : is_handed t handed ≡ false = rw (s.1, u.1) refl in absurd (cc)
             | inr u ↦
-                let n = unlisted_by t (lists false) (λ l h. other_side true t k l here h) in
+                let n = unlisted_by t (lists Message) (λ l h. other_side Room t k l here h) in
                 let e : is_handed t handed ≡ false = rw (s.1, u.1) n in absurd (cc)
           ]
         ]
-    handed_kept handed lists' stays false t k here out =
-        elim (stays false) [
+    handed_kept handed lists' stays Message t k here out =
+        elim (stays Message) [
           | inr s ↦ inr (rw s.1 here)
-          | inl s ↦ elim (stays true) [
+          | inl s ↦ elim (stays Room) [
             | inl u ↦ let e : is_handed t handed ≡ false = rw (s.1, u.1) refl in absurd (cc)
             | inr u ↦
-                let n = unlisted_by t (lists true) (λ l h. other_side false t l k h here) in
+                let n = unlisted_by t (lists Room) (λ l h. other_side Message t l k h here) in
                 let e : is_handed t handed ≡ false = rw (s.1, u.1) (or-false _ _ n refl) in absurd (cc)
           ]
         ]
 
     -- where a called future stood before
-    pub called_from : (handed : Handed W) (lists' : Bool → List (ℕ × W)) → ((side : Bool) → StaysOrLeaves (lists side) (handed_of side handed) (lists' side))
+    pub called_from : (handed : Handed W) (lists' : Side → List (ℕ × W)) → ((side : Side) → StaysOrLeaves (lists side) (handed_of side handed) (lists' side))
         → (i : ℕ) (g : Futures T P W) (t : ℕ) (w : W) → slice_get (call_out handed futures) i ≡ Some g → g.standing ≡ Called t w
         → (f : Futures T P W) × (slice_get futures i ≡ Some f)
         × ((f.standing ≡ Called t w) ⊎ ((f.standing ≡ Waiting t w) × (k : W) × is_clone w k × ((waker_of t handed.room ≡ Some k) ⊎ (waker_of t handed.message ≡ Some k))))
@@ -168,19 +169,19 @@ module _ {T P W : Type 0} (is_clone : W → W → Type 0) where
           m.1,
           elim (called-called handed m.0.standing t w (ap (λ (x : Futures T P W). x.standing) m.2 ∙ is)) [
             | inl c ↦ inl c
-            | inr c ↦ let l = keeps.kept i m.0 t w m.1 c.0 in inr (c.0, l.0, l.1, handed_kept handed lists' stays (waits_for_room m.0.task) t l.0 l.2 c.1)
+            | inr c ↦ let l = keeps.kept i m.0 t w m.1 c.0 in inr (c.0, l.0, l.1, handed_kept handed lists' stays (side_of m.0.task) t l.0 l.2 c.1)
           ],
         )
 
     -- one future gets a new standing, and the lists change at its tickets alone
-    module _ (i : ℕ) (f g : Futures T P W) (at : slice_get futures i ≡ Some f) (lists' : Bool → List (ℕ × W)) (next' : ℕ) where
+    module _ (i : ℕ) (f g : Futures T P W) (at : slice_get futures i ≡ Some f) (lists' : Side → List (ℕ × W)) (next' : ℕ) where
       pub record Changes : Type 0 where
         pub grows : next ≤ next'
-        pub same : (side : Bool) (t : ℕ) → t < next → ticket_of f.standing ≢ Some t → waker_of t (lists' side) ≡ waker_of t (lists side)
-        pub own : (t : ℕ) (w : W) → g.standing ≡ Waiting t w → (k : W) × is_clone w k × (waker_of t (lists' (waits_for_room g.task)) ≡ Some k)
-        pub only : (side : Bool) (t : ℕ) (k : W) → waker_of t (lists' side) ≡ Some k
+        pub same : (side : Side) (t : ℕ) → t < next → ticket_of f.standing ≢ Some t → waker_of t (lists' side) ≡ waker_of t (lists side)
+        pub own : (t : ℕ) (w : W) → g.standing ≡ Waiting t w → (k : W) × is_clone w k × (waker_of t (lists' (side_of g.task)) ≡ Some k)
+        pub only : (side : Side) (t : ℕ) (k : W) → waker_of t (lists' side) ≡ Some k
             → ((waker_of t (lists side) ≡ Some k) × (ticket_of f.standing ≢ Some t))
-            ⊎ ((w : W) × (waits_for_room g.task ≡ side) × (g.standing ≡ Waiting t w) × is_clone w k)
+            ⊎ ((w : W) × (side_of g.task ≡ side) × (g.standing ≡ Waiting t w) × is_clone w k)
         pub ticket : (t : ℕ) → ticket_of g.standing ≡ Some t → (t < next') × ((ticket_of f.standing ≡ Some t) ⊎ (next ≤ t))
 
       -- another future doesn't have the changed one's ticket
@@ -203,7 +204,7 @@ module _ {T P W : Type 0} (is_clone : W → W → Type 0) where
               | inr s ↦
                   let has : ticket_of h.standing ≡ Some t = ap ticket_of waits in
                   let old = keeps.kept j h t w s.1 waits in
-                  (old.0, old.1, c.same (waits_for_room h.task) t (keeps.below j h t s.1 has) (not_own j h t s.0 s.1 has) ∙ old.2)
+                  (old.0, old.1, c.same (side_of h.task) t (keeps.below j h t s.1 has) (not_own j h t s.0 s.1 has) ∙ old.2)
             ];
         listed = λ side t k here.
             elim (c.only side t k here) [
