@@ -68,9 +68,7 @@ impl<T: Drop, P: Ord + Drop, R: Wait + Clone, A: Allocator + Copy> Future for Se
         let handle = &sender.handle;
         let Some(waker) = handle.register(cx, handle.room(), &mut self.place) else {
             let unsent = self.state.give_up_on(&mut handle.lock());
-            let Some(pair) = unsent else {
-                unreachable!()
-            };
+            let Some(pair) = unsent else { unreachable!() };
             return Poll::Ready(Err(SendFault::Memory(pair)));
         };
         let mut core = handle.lock();

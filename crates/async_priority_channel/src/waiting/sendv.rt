@@ -88,9 +88,7 @@ impl<
         let handle = &sender.handle;
         let Some(waker) = handle.register(cx, handle.room(), &mut self.place) else {
             let unsent = self.state.give_up_on(&mut handle.lock());
-            let Some(rest) = unsent else {
-                unreachable!()
-            };
+            let Some(rest) = unsent else { unreachable!() };
             return Poll::Ready(Err(SendFault::Memory(rest)));
         };
         let mut core = handle.lock();
