@@ -206,10 +206,12 @@ module _ {T P W : Type 0} where
         let cannot : (i : ℕ) (f : Futures T P W) (t : ℕ) (w : W) → slice_get world.futures i ≡ Some f → f.standing ≡ Waiting t w → CanGoOn world.state (side_of f.task) → ⊥ =
         λ i f t w at is can. let l = k.keeps.kept i f t w at is in cannot_go_on world.state (side_of f.task) t l.0 k.good l.2 can in
         record {
+          good = k.good;
           waiting_is_listed = k.keeps.kept;
           listed_is_waiting = k.keeps.listed;
           waiting_cannot_go_on = cannot;
           called_if_can_go_on = λ i f at not_new not_done can. called_one f.standing not_new not_done (λ t w is. cannot i f t w at is can);
+          tickets_were_given = λ i f t at has. k.keeps.below i f t at has;
           tickets_differ = λ i j f g t at at' has has'. k.keeps.differ i j f g t at at' has has';
         }
       where

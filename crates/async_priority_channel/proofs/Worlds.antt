@@ -38,8 +38,8 @@ module _ {T P W : Type 0} (is_clone : W → W → Type 0) where
 
   module _ (lists : Side → List (ℕ × W)) (next : ℕ) (futures : List (Futures T P W)) (keeps : Keeps lists next futures) where
     -- a ticket that is listed on one side isn't listed on the other
-    other_side : (side : Side) (t : ℕ) (k l : W) → waker_of t (lists Room) ≡ Some k → waker_of t (lists Message) ≡ Some l → ⊥
-    other_side side t k l h j =
+    other_side : (t : ℕ) (k l : W) → waker_of t (lists Room) ≡ Some k → waker_of t (lists Message) ≡ Some l → ⊥
+    other_side t k l h j =
         let a = keeps.listed Room t k h in
         let b = keeps.listed Message t l j in
         let ta : ticket_of a.future.standing ≡ Some t = ap ticket_of a.waits in
@@ -130,8 +130,8 @@ module _ {T P W : Type 0} (is_clone : W → W → Type 0) where
             ]
 
         not_handed : (side : Side) (t : ℕ) (k : W) → waker_of t (lists' side) ≡ Some k → waker_of t (lists side) ≡ Some k → is_handed t handed ≡ false
-        not_handed Room t k here was = or-false _ _ (stays_unlisted Room t k here) (other_unlisted Message t (λ l h. other_side Room t k l was h))
-        not_handed Message t k here was = or-false _ _ (other_unlisted Room t (λ l h. other_side Message t l k h was)) (stays_unlisted Message t k here)
+        not_handed Room t k here was = or-false _ _ (stays_unlisted Room t k here) (other_unlisted Message t (λ l h. other_side t k l was h))
+        not_handed Message t k here was = or-false _ _ (other_unlisted Room t (λ l h. other_side t l k h was)) (stays_unlisted Message t k here)
 
     -- who was handed out, on whichever side, was handed out with the clone of its waker
     pub handed_kept : (handed : Handed W) (lists' : Side → List (ℕ × W)) → ((side : Side) → StaysOrLeaves (lists side) (handed_of side handed) (lists' side))
@@ -143,7 +143,7 @@ module _ {T P W : Type 0} (is_clone : W → W → Type 0) where
           | inl s ↦ elim (stays Message) [
             | inl u ↦ let e : is_handed t handed ≡ false = rw (s.1, u.1) refl in absurd (cc)
             | inr u ↦
-                let n = unlisted_by t (lists Message) (λ l h. other_side Room t k l here h) in
+                let n = unlisted_by t (lists Message) (λ l h. other_side t k l here h) in
                 let e : is_handed t handed ≡ false = rw (s.1, u.1) n in absurd (cc)
           ]
         ]
@@ -153,7 +153,7 @@ module _ {T P W : Type 0} (is_clone : W → W → Type 0) where
           | inl s ↦ elim (stays Room) [
             | inl u ↦ let e : is_handed t handed ≡ false = rw (s.1, u.1) refl in absurd (cc)
             | inr u ↦
-                let n = unlisted_by t (lists Room) (λ l h. other_side Message t l k h here) in
+                let n = unlisted_by t (lists Room) (λ l h. other_side t l k h here) in
                 let e : is_handed t handed ≡ false = rw (s.1, u.1) (or-false _ _ n refl) in absurd (cc)
           ]
         ]

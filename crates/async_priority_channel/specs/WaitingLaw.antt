@@ -1,6 +1,7 @@
 -- What holds of each world that events reach from an opening one.
 use Rattle.std.specs.Prelude.{◌≡◌, ◌≢◌, ℕ, ◌<◌, true, List, [], ◌∷◌, ◌==◌, if◌then◌else◌, length, slice_get, Option, Some, None, ◌⊎◌}
 use Rattle.priority_channel_core.specs.State.{State, Handed}
+use Rattle.priority_channel_core.specs.Good.{IsGood}
 use Rattle.async_priority_channel.specs.Future.{Tasks, Futures, ticket_of}
 use Rattle.async_priority_channel.specs.World.{World}
 use Rattle.async_priority_channel.specs.Future.Task.{Send, Sendv, Recv}
@@ -43,6 +44,7 @@ module _ {T P W : Type 0} (is_clone : W → W → Type 0) where
     pub clone : is_clone waker kept
 
   pub record NobodyIsForgotten (world : World T P W) : Type 0 where
+    pub good : IsGood world.state
     -- the two waiting lists have exactly the waiting futures, each with a clone of its waker
     pub waiting_is_listed : (which : ℕ) (future : Futures T P W) (ticket : ℕ) (waker : W)
         → slice_get world.futures which ≡ Some future → future.standing ≡ Waiting ticket waker
@@ -57,6 +59,9 @@ module _ {T P W : Type 0} (is_clone : W → W → Type 0) where
     pub called_if_can_go_on : (which : ℕ) (future : Futures T P W)
         → slice_get world.futures which ≡ Some future → future.standing ≢ New → future.standing ≢ Done
         → CanGoOn world.state (side_of future.task) → (ticket : ℕ) × (waker : W) × (future.standing ≡ Called ticket waker)
+    -- each ticket that a future has was given
+    pub tickets_were_given : (which : ℕ) (future : Futures T P W) (ticket : ℕ)
+        → slice_get world.futures which ≡ Some future → ticket_of future.standing ≡ Some ticket → ticket < world.state.next_ticket
     -- different futures have different tickets
     pub tickets_differ : (first second : ℕ) (one other : Futures T P W) (ticket : ℕ)
         → slice_get world.futures first ≡ Some one → slice_get world.futures second ≡ Some other
