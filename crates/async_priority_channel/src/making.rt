@@ -20,7 +20,7 @@ pub type Ends<T, P, R, A> = (Sender<T, P, R, A>, Receiver<T, P, R, A>);
 /// let (tx, rx) = bounded(&rt, rt.alloc(), 10)?;
 /// tx.try_send("Foo", 0)?;
 /// tx.try_send("Bar", 2)?;
-/// assert_eq!(rx.try_recv(), Ok(("Bar", 2)));
+/// assert_eq!(rt; rx.try_recv(), Ok(("Bar", 2)));
 /// ```
 pub fn bounded<T: Drop, P: Ord + Drop, R: Wait + Clone, A: Allocator + Copy>(
     rt: &R,
@@ -35,14 +35,14 @@ pub fn bounded<T: Drop, P: Ord + Drop, R: Wait + Clone, A: Allocator + Copy>(
 }
 
 /// A channel for at most `cap` pending messages, whose memory is taken here: no later `try_send` or `try_sendv` is
-/// refused for want of memory. A future that is polled still asks for a place for its waker, and for one in the list of
+/// refused for want of memory before 2^64 - 1 messages were accepted. A future that is polled still asks for a place for its waker, and for one in the list of
 /// those who wait. The error is that memory was refused.
 ///
 /// ```
 /// let (tx, rx) = bounded_reserved(&rt, rt.alloc(), 1)?;
 /// tx.try_send("Foo", 0)?;
-/// assert_eq!(tx.try_send("Bar", 2), Err(TrySendError::Full(("Bar", 2))));
-/// assert_eq!(rx.try_recv(), Ok(("Foo", 0)));
+/// assert_eq!(rt; tx.try_send("Bar", 2), Err(TrySendError::Full(("Bar", 2))));
+/// assert_eq!(rt; rx.try_recv(), Ok(("Foo", 0)));
 /// ```
 pub fn bounded_reserved<T: Drop, P: Ord + Drop, R: Wait + Clone, A: Allocator + Copy>(
     rt: &R,
@@ -64,7 +64,7 @@ pub fn bounded_reserved<T: Drop, P: Ord + Drop, R: Wait + Clone, A: Allocator + 
 /// let (tx, rx) = unbounded(&rt, rt.alloc())?;
 /// block_on(&rt, tx.send("Foo", 0))??;
 /// block_on(&rt, tx.send("Bar", 2))??;
-/// assert_eq!(block_on(&rt, rx.recv())?, Ok(("Bar", 2)));
+/// assert_eq!(rt; block_on(&rt, rx.recv())?, Ok(("Bar", 2)));
 /// ```
 pub fn unbounded<T: Drop, P: Ord + Drop, R: Wait + Clone, A: Allocator + Copy>(
     rt: &R,

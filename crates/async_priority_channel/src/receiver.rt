@@ -38,8 +38,10 @@ impl<T: Drop, P: Ord + Drop, R: Wait + Clone, A: Allocator + Copy> Receiver<T, P
     /// none can come any more; what is pending in a closed channel is still received.
     ///
     /// ```
-    /// while let Ok((job, priority)) = rx.try_recv() {
-    ///     work(job, priority);
+    /// match rx.try_recv() {
+    ///     Ok((job, priority)) => work(job, priority),
+    ///     Err(TryRecvError::Empty) => rest(),
+    ///     Err(TryRecvError::Closed) => return,
     /// }
     /// ```
     pub fn try_recv(&self) -> Result<(T, P), TryRecvError> {
@@ -65,8 +67,8 @@ impl<T: Drop, P: Ord + Drop, R: Wait + Clone, A: Allocator + Copy> Receiver<T, P
     /// are woken.
     ///
     /// ```
-    /// assert!(rx.close());
-    /// assert!(!rx.close());
+    /// assert!(rt; rx.close());
+    /// assert!(rt; !rx.close());
     /// ```
     pub fn close(&self) -> bool {
         self.handle.close()

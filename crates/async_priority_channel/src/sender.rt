@@ -114,8 +114,8 @@ impl<T: Drop, P: Ord + Drop, R: Wait + Clone, A: Allocator + Copy> Sender<T, P, 
     /// are woken.
     ///
     /// ```
-    /// assert!(tx.close());
-    /// assert_eq!(tx.try_send("Foo", 0), Err(TrySendError::Closed(("Foo", 0))));
+    /// assert!(rt; tx.close());
+    /// assert_eq!(rt; tx.try_send("Foo", 0), Err(TrySendError::Closed(("Foo", 0))));
     /// ```
     pub fn close(&self) -> bool {
         self.handle.close()

@@ -6,3 +6,4 @@ mod states;
 mod threads;
 mod tries;
 mod waits;
+mod wakes;

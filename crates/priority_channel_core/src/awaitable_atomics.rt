@@ -57,7 +57,7 @@ impl<W, A: Allocator + Copy> Wakes<W, A> {
 /// ```
 /// let mut length: AwaitableAtomicCounterAndBit<Waker> = AwaitableAtomicCounterAndBit::new(alloc, 5);
 /// let (before, wakes) = length.incr(2);
-/// assert_eq!(before, (false, 5));
+/// assert_eq!(rt; before, (false, 5));
 /// let (_for_room, _for_message) = wakes.into_lists();
 /// ```
 #[derive(Drop)]

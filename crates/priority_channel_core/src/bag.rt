@@ -18,7 +18,7 @@ use std::marker::Model;
 /// let mut bag = Bag::new(alloc);
 /// bag.make_place()?;
 /// bag.push("build", 3);
-/// assert_eq!(bag.pop(), Some(("build", 3)));
+/// assert_eq!(rt; bag.pop(), Some(("build", 3)));
 /// ```
 ///
 /// Each pair gets a number when it is pushed, which decides among equal priorities. `u64::MAX` pairs can be pushed

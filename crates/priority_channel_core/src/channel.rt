@@ -22,10 +22,10 @@ pub mod run;
 /// ```
 /// let mut channel: PriorityQueueChannel<&str, i64, Waker> = PriorityQueueChannel::bounded_reserved(alloc, 2)?;
 /// let (sent, wakes) = channel.try_send("build", 3);
-/// assert!(sent.is_ok());
+/// assert!(rt; sent.is_ok());
 /// let (_for_room, _for_message) = wakes.into_lists();
 /// let (received, wakes) = channel.try_recv();
-/// assert_eq!(received, Ok(("build", 3)));
+/// assert_eq!(rt; received, Ok(("build", 3)));
 /// let (_for_room, _for_message) = wakes.into_lists();
 /// ```
 #[derive(Drop)]

@@ -63,9 +63,9 @@ impl Error for NoPlace {}
 ///
 /// ```
 /// let mut book = Book::new(alloc, 2, 8)?;
-/// assert_eq!(book.record(0, Call::TrySend("build", 3)), Ok(Reply::Sent(Ok(()))));
-/// assert_eq!(book.record(1, Call::TryRecv), Ok(Reply::Received(Ok(("build", 3)))));
-/// assert_eq!(book.history().len(), 2);
+/// assert_eq!(rt; book.record(0, Call::TrySend("build", 3)), Ok(Reply::Sent(Ok(()))));
+/// assert_eq!(rt; book.record(1, Call::TryRecv), Ok(Reply::Received(Ok(("build", 3)))));
+/// assert_eq!(rt; book.history().len(), 2);
 /// ```
 #[derive(Drop)]
 pub struct Book<T, P: Ord, A: Allocator = Global> {

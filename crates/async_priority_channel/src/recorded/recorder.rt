@@ -114,7 +114,7 @@ fn append<T: Copy, P: Copy + Ord, J: Recording, R: Wait>(
 /// }
 ///
 /// let history = audited::<Brand, _>(&rt, rt.alloc(), Fresh::new(2))?;
-/// assert_eq!(history.entries().len(), 2);
+/// assert_eq!(rt; history.entries().len(), 2);
 /// ```
 #[derive(Drop)]
 pub struct Recorded<T, P: Ord, J: Recording, A: Allocator = Global> {

@@ -9,7 +9,7 @@ use std::test::Fail;
 use std::thread;
 use std::time::Duration;
 
-// Counts the polls of a future.
+// Counts the polls of a future, and of others beside it.
 #[derive(Drop)]
 struct Counted<'a, F> {
     inner: F,
@@ -42,11 +42,15 @@ fn two_receives_in_one_task_rest_while_they_wait(rt: HostRuntime) -> Result<(), 
         thread::sleep(&rt, Duration::from_millis(200));
         first && second_tx.try_send(2u8, 2u8).is_ok()
     })?;
+    let first = Counted {
+        inner: first_rx.recv(),
+        polls: &polls,
+    };
     let second = Counted {
         inner: second_rx.recv(),
         polls: &polls,
     };
-    let received = block_on(&rt, join(first_rx.recv(), second))?;
+    let received = block_on(&rt, join(first, second))?;
     assert_eq!(rt; received, (Ok((1, 1)), Ok((2, 2))));
     assert!(rt; sending.join(&rt));
     assert!(rt; polls.load(Ordering::SeqCst) < 10);

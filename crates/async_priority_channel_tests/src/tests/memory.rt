@@ -14,6 +14,42 @@ fn a_making_may_be_refused(rt: HostRuntime) {
     assert!(rt; bounded::<u64, u64, _, _>(&rt, &alloc, 1).is_err());
     assert!(rt; bounded_reserved::<u64, u64, _, _>(&rt, &alloc, 1).is_err());
     assert!(rt; unbounded::<u64, u64, _, _>(&rt, &alloc).is_err());
+    // The place for the messages is had, and that for what the handles share is not.
+    alloc.refuse_nth(2);
+    assert!(rt; bounded_reserved::<u64, u64, _, _>(&rt, &alloc, 1).is_err());
+}
+
+// Each request is refused in turn, that of the making among them.
+#[test]
+fn what_was_accepted_comes_out(rt: HostRuntime) -> Result<(), Fail> {
+    let alloc = Refusing::new(rt.alloc());
+    for n in 1..10u64 {
+        alloc.refuse_nth(n);
+        let Ok((tx, rx)) = unbounded(&rt, &alloc) else {
+            assert_eq!(rt; n, 1);
+            continue;
+        };
+        let mut accepted = Vec::new(rt.alloc());
+        for i in [1u64, 3, 2] {
+            match tx.try_send(i, i) {
+                Ok(()) => accepted.push(i)?,
+                refused => assert_eq!(rt; refused, Err(TrySendError::Memory((i, i)))),
+            }
+        }
+        let met_all = alloc.refuse_none();
+        assert_eq!(rt; accepted.len() == 3, met_all, "at {n}");
+        for i in [3u64, 2, 1] {
+            if accepted.contains(&i) {
+                assert_eq!(rt; rx.try_recv(), Ok((i, i)), "at {n}");
+            }
+        }
+        assert_eq!(rt; rx.try_recv(), Err(TryRecvError::Empty), "at {n}");
+        if met_all {
+            assert!(rt; n > 2);
+            return Ok(());
+        }
+    }
+    Err(Fail::from("one of each nine requests was refused"))
 }
 
 #[test]
@@ -93,17 +129,45 @@ fn a_receive_may_be_refused(rt: HostRuntime) -> Result<(), Fail> {
     Ok(())
 }
 
+// A dropped future leaves its place in the waiting list, so the next one asks only for the place for its waker.
+
 #[test]
-fn a_dropped_future_waits_no_more(rt: HostRuntime) -> Result<(), Fail> {
+fn a_dropped_send_waits_no_more(rt: HostRuntime) -> Result<(), Fail> {
     let alloc = Refusing::new(rt.alloc());
-    let (tx, rx) = bounded(&rt, &alloc, 1)?;
-    assert_eq!(rt; block_on(&rt, poll_immediate(rx.recv()))?, None);
+    let (tx, _rx) = bounded(&rt, &alloc, 1)?;
     assert_eq!(rt; tx.try_send("x", 1u64), Ok(()));
     assert_eq!(rt; block_on(&rt, poll_immediate(tx.send("y", 2)))?, None);
     for _ in 0..20 {
-        // The place in the waiting list is free again, so only that for the waker is asked for.
         alloc.refuse_nth(2);
         assert_eq!(rt; block_on(&rt, poll_immediate(tx.send("y", 2)))?, None);
+        assert!(rt; alloc.refuse_none());
+    }
+    Ok(())
+}
+
+#[test]
+fn a_dropped_bulk_send_waits_no_more(rt: HostRuntime) -> Result<(), Fail> {
+    let alloc = Refusing::new(rt.alloc());
+    let (tx, _rx) = bounded(&rt, &alloc, 1)?;
+    assert_eq!(rt; tx.try_send("x", 1u64), Ok(()));
+    let more = [("y", 2)];
+    assert!(rt; block_on(&rt, poll_immediate(tx.sendv(more.into_iter().peekable())))?.is_none());
+    for _ in 0..20 {
+        alloc.refuse_nth(2);
+        assert!(rt; block_on(&rt, poll_immediate(tx.sendv(more.into_iter().peekable())))?.is_none());
+        assert!(rt; alloc.refuse_none());
+    }
+    Ok(())
+}
+
+#[test]
+fn a_dropped_receive_waits_no_more(rt: HostRuntime) -> Result<(), Fail> {
+    let alloc = Refusing::new(rt.alloc());
+    let (_tx, rx) = bounded::<u64, u64, _, _>(&rt, &alloc, 1)?;
+    assert_eq!(rt; block_on(&rt, poll_immediate(rx.recv()))?, None);
+    for _ in 0..20 {
+        alloc.refuse_nth(2);
+        assert_eq!(rt; block_on(&rt, poll_immediate(rx.recv()))?, None);
         assert!(rt; alloc.refuse_none());
     }
     Ok(())

@@ -190,17 +190,33 @@ fn a_receive_is_given_up(rt: HostRuntime) {
     assert_eq!(rt; core.len(), 1);
 }
 
-// The first poll of a bulk send of five pairs where there is room for two: how many were sent, and how many came back
-// if memory was refused.
-fn poll_five<A: Allocator + Copy>(alloc: A) -> (u64, Option<usize>) {
+// Sends 1, 2, 4, 8 and 16 by a bulk send into a channel for two, and receives after each poll that waits. Gives how
+// many of them came out or came back, their sum, and whether memory was refused.
+fn send_five<A: Allocator + Copy>(alloc: A) -> (u64, u64, bool) {
     let mut core: PriorityQueueChannel<u64, u64, u64, A> = PriorityQueueChannel::bounded(alloc, 2);
-    let mut state = SendvState::new([(1u64, 1u64); 5].into_iter().peekable());
-    let (poll, wakes) = state.poll_on(&mut core, &7);
-    let _ = wakes.into_lists();
-    match poll {
-        Poll::Ready(Err(SendFault::Memory(rest))) => (core.len(), Some(rest.count())),
-        _ => (core.len(), None),
+    let five = [(1u64, 1u64), (2, 2), (4, 4), (8, 8), (16, 16)];
+    let mut state = SendvState::new(five.into_iter().peekable());
+    let mut count = 0u64;
+    let mut sum = 0u64;
+    let mut is_refused = false;
+    for _ in 0..10 {
+        let (poll, wakes) = state.poll_on(&mut core, &7);
+        let (_room, _message) = wakes.into_lists();
+        if let Poll::Ready(Err(SendFault::Memory(rest))) = poll {
+            is_refused = true;
+            for (msg, _) in rest {
+                count = count.wrapping_add(1);
+                sum = sum.wrapping_add(msg);
+            }
+        }
+        let (received, wakes) = core.try_recv();
+        let (_room, _message) = wakes.into_lists();
+        if let Ok((msg, _)) = received {
+            count = count.wrapping_add(1);
+            sum = sum.wrapping_add(msg);
+        }
     }
+    (count, sum, is_refused)
 }
 
 #[test]
@@ -208,17 +224,16 @@ fn a_refused_bulk_send_loses_nothing(rt: HostRuntime) {
     let alloc = Refusing::new(rt.alloc());
     for n in 1..10u64 {
         alloc.refuse_nth(n);
-        let (sent, came_back) = poll_five(&alloc);
-        if alloc.refuse_none() {
-            assert_eq!(rt; (sent, came_back), (2, None));
-            // For the messages, and for the place in the waiting list.
-            assert!(rt; n > 2);
+        let (count, sum, is_refused) = send_five(&alloc);
+        let met_all = alloc.refuse_none();
+        // Each once: no other five of them have this sum.
+        assert_eq!(rt; (count, sum), (5, 31), "at {n}");
+        assert_eq!(rt; is_refused, !met_all, "at {n}");
+        if met_all {
+            // For the messages, and for a place in the waiting list at each poll that waits.
+            assert!(rt; n > 4);
             return;
         }
-        assert_eq!(rt;
-            came_back.map(|rest| sent.wrapping_add(rest as u64)),
-            Some(5)
-        );
     }
-    assert!(rt; false, "each of nine sends was refused");
+    assert!(rt; false, "one of each nine requests was refused");
 }

@@ -1,12 +1,11 @@
 //! Handles on many threads.
-use async_priority_channel::{Ends, Receiver, RecvError, RecvFault, Sender, bounded, unbounded};
+use async_priority_channel::{Ends, Receiver, Sender, bounded, unbounded};
 use futures::executor::block_on;
 use std::alloc::{AllocError, AllocGlobal, Global};
 use std::random::RandomSource;
 use std::sync::Wait;
 use std::test::Fail;
 use std::thread::{self, Threads};
-use std::time::Duration;
 
 // Sends the numbers from `first` on, each with itself as priority. Tells how many were sent.
 fn send_from<R>(rt: &R, tx: &Sender<u64, u64, R>, first: u64, count: u64) -> u64
@@ -136,43 +135,21 @@ fn ten_to_ten_bounded(rt: HostRuntime) -> Result<(), Fail> {
 }
 
 #[test]
-fn a_close_ends_ten_receives(rt: HostRuntime) -> Result<(), Fail> {
-    let (tx, rx) = bounded::<u64, u64, _, _>(&rt, rt.alloc(), 10)?;
-    let mut receiving = Vec::new(rt.alloc());
-    for _ in 0..10 {
-        let rx = rx.clone()?;
-        receiving.push(thread::spawn(&rt, move || block_on(&rt, rx.recv()))?)?;
-    }
-    // They wait by then.
-    thread::sleep(&rt, Duration::from_millis(100));
-    let closing = thread::spawn(&rt, move || tx.close())?;
-    assert!(rt; closing.join(&rt));
-    for thread in receiving {
-        assert_eq!(rt; thread.join(&rt)?, Err(RecvFault::Closed(RecvError)));
-    }
-    Ok(())
-}
-
-#[test]
-fn a_send_waits_for_room(rt: HostRuntime) -> Result<(), Fail> {
-    let (tx, rx) = bounded(&rt, rt.alloc(), 1)?;
-    assert_eq!(rt; tx.try_send(1u64, 1u64), Ok(()));
-    let sending = thread::spawn(&rt, move || block_on(&rt, tx.send(2, 2)))?;
-    // It waits by then.
-    thread::sleep(&rt, Duration::from_millis(100));
-    assert_eq!(rt; block_on(&rt, rx.recv())?, Ok((1, 1)));
-    assert_eq!(rt; block_on(&rt, rx.recv())?, Ok((2, 2)));
-    assert_eq!(rt; sending.join(&rt)?, Ok(()));
-    Ok(())
-}
-
-#[test]
 fn a_bulk_send_goes_on_as_room_comes(rt: HostRuntime) -> Result<(), Fail> {
     let (tx, rx) = bounded(&rt, rt.alloc(), 2)?;
     let sending = thread::spawn(&rt, move || send_many(&rt, &tx, 100))?;
     let (received, sum) = receive_all(&rt, &rx);
     assert!(rt; sending.join(&rt));
     assert_eq!(rt; (received, sum), (100, 4950));
+    Ok(())
+}
+
+#[test]
+fn handles_are_lent_to_threads(rt: HostRuntime) -> Result<(), Fail> {
+    let (tx, rx) = bounded::<u64, u64, _, _>(&rt, rt.alloc(), 1)?;
+    let (by_sender, by_receiver) = thread::join(&rt, || tx.close(), || rx.close());
+    assert!(rt; by_sender != by_receiver);
+    assert!(rt; tx.is_closed() && rx.is_closed());
     Ok(())
 }
 

@@ -110,13 +110,16 @@ fn refuses_other_lines(rt: HostRuntime) -> Result<(), AllocError> {
         b"capacity 1",
         b"capacity\r",
     ];
+    let openings: [&[u8]; 2] = [b"reserved 1\n", b"bounded 1\n"];
     for line in lines {
-        let mut script = b"reserved 1\n".to_vec(rt.alloc())?;
-        script.extend_from_slice(line)?;
-        assert_run(&rt, rt.alloc(), &script, 2, "ok\n", "line 2: not a call\n");
-        // What follows is not looked at.
-        script.extend_from_slice(b"\nrecv\n")?;
-        assert_run(&rt, rt.alloc(), &script, 2, "ok\n", "line 2: not a call\n");
+        for opening in openings {
+            let mut script = opening.to_vec(rt.alloc())?;
+            script.extend_from_slice(line)?;
+            assert_run(&rt, rt.alloc(), &script, 2, "ok\n", "line 2: not a call\n");
+            // What follows is not looked at.
+            script.extend_from_slice(b"\nrecv\n")?;
+            assert_run(&rt, rt.alloc(), &script, 2, "ok\n", "line 2: not a call\n");
+        }
     }
     let script = b"bounded 2\nsend 1 a\nhello\nlen\n";
     assert_run(

@@ -1,7 +1,9 @@
-use crate::tests::{Core, close, receive, send};
+use crate::tests::{Core, close, hands_out_nobody, receive, send};
 use priority_channel_core::calls::CorePoll;
+use priority_channel_core::channel::PriorityQueueChannel;
 use priority_channel_core::errors::{RecvError, RecvFault, SendFault};
-use std::alloc::AllocError;
+use refusing::Refusing;
+use std::alloc::{AllocError, Global};
 
 type Received = CorePoll<Result<(u64, u64), RecvFault>, ()>;
 
@@ -75,41 +77,54 @@ fn closing_hands_out_everybody(rt: HostRuntime) {
             CorePoll::Ready(Err(RecvFault::Closed(RecvError)))
         )
     );
-    assert!(rt; !close(&mut core));
+    let (was_open, wakes) = core.close();
+    assert!(rt; hands_out_nobody(wakes) && !was_open);
 }
 
-/// A waker whose clone may be refused.
+/// A waker whose clone asks for memory.
 #[derive(Drop)]
-struct Refusable {
-    is_refused: bool,
+struct BoxedWaker<'a> {
+    number: Box<u64, &'a Refusing<Global>>,
+    alloc: &'a Refusing<Global>,
 }
 
-impl Clone for Refusable {
-    fn clone(&self) -> Result<Refusable, AllocError> {
-        if self.is_refused {
-            return Err(AllocError);
-        }
-        Ok(Refusable { is_refused: false })
+impl<'a> BoxedWaker<'a> {
+    fn new(alloc: &'a Refusing<Global>, number: u64) -> Result<Self, AllocError> {
+        Ok(BoxedWaker {
+            number: Box::new(alloc, number)?,
+            alloc,
+        })
+    }
+}
+
+impl<'a> Clone for BoxedWaker<'a> {
+    fn clone(&self) -> Result<BoxedWaker<'a>, AllocError> {
+        BoxedWaker::new(self.alloc, *self.number)
     }
 }
 
 #[test]
-fn a_refused_waker_waits_no_more(rt: HostRuntime) {
-    let mut core: priority_channel_core::channel::PriorityQueueChannel<u64, u64, Refusable> =
-        priority_channel_core::channel::PriorityQueueChannel::bounded(rt.alloc(), 1);
-    for (is_refused, ticket) in [(false, None), (true, Some(0))] {
-        let (poll, wakes) = core.poll_recv(ticket, &Refusable { is_refused });
-        let (_room, _message) = wakes.into_lists();
-        if is_refused {
-            assert!(rt; matches!(poll, CorePoll::Ready(Err(RecvFault::Memory))));
-        } else {
-            assert!(rt; matches!(poll, CorePoll::Pending((), 0)));
-        }
-    }
+fn a_refused_waker_waits_no_more(rt: HostRuntime) -> Result<(), AllocError> {
+    let alloc = Refusing::new(rt.alloc());
+    let mut core: PriorityQueueChannel<u64, u64, BoxedWaker<'_>> = PriorityQueueChannel::bounded(
+        rt.alloc(),
+        1,
+    );
+    let first = BoxedWaker::new(&alloc, 1)?;
+    let second = BoxedWaker::new(&alloc, 2)?;
+    let (poll, wakes) = core.poll_recv(None, &first);
+    let (_room, _message) = wakes.into_lists();
+    assert!(rt; matches!(poll, CorePoll::Pending((), 0)));
+    alloc.refuse_nth(1);
+    let (poll, wakes) = core.poll_recv(Some(0), &second);
+    let (_room, _message) = wakes.into_lists();
+    assert!(rt; matches!(poll, CorePoll::Ready(Err(RecvFault::Memory))));
+    assert!(rt; !alloc.refuse_none());
     let (reply, wakes) = core.try_send(7, 1);
     assert!(rt; reply.is_ok());
     let (room, message) = wakes.into_lists();
     assert!(rt; room.is_empty() && message.is_empty());
+    Ok(())
 }
 
 #[test]

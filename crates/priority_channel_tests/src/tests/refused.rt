@@ -2,6 +2,7 @@ use crate::tests::{Core, close, hands_out_nobody, receive, send, spend};
 use priority_channel_core::errors::{TryRecvError, TrySendError};
 use refusing::Refusing;
 use std::alloc::{AllocError, Allocator, Global};
+use std::iter::repeat_n;
 
 #[test]
 fn a_reserved_channel_needs_no_memory(rt: HostRuntime) -> Result<(), AllocError> {
@@ -72,28 +73,24 @@ fn a_refused_growth_hands_the_list_back(rt: HostRuntime) {
     assert_eq!(rt; receive(&mut core), Ok(("a", 0)));
 }
 
-// How many pairs a bulk send accepted before memory was refused, which come out together with those that came back.
-fn send_many<A: Allocator + Copy>(alloc: A) -> (u64, bool) {
-    let mut core: Core<u64, A> = Core::unbounded(alloc);
-    let (reply, wakes) = core.try_sendv([(1u64, 1u64); 20].into_iter().peekable());
+// Sends so many pairs by one call, and receives what was accepted: how many came out, how many came back, and whether
+// memory was refused.
+fn send_many<A: Allocator + Copy>(core: &mut Core<&str, A>, count: usize) -> (usize, usize, bool) {
+    let (reply, wakes) = core.try_sendv(repeat_n(("a", 0u64), count).peekable());
     spend(wakes);
-    let accepted = core.len();
-    let came_back = match reply {
-        Ok(()) => 0,
-        Err(TrySendError::Memory(rest)) => rest.count() as u64,
-        Err(_) => return (accepted, false),
+    let (came_back, is_refused) = match reply {
+        Ok(()) => (0, false),
+        Err(TrySendError::Memory(rest)) => (rest.count(), true),
+        Err(TrySendError::Full(rest) | TrySendError::Closed(rest)) => (rest.count(), false),
     };
-    let mut came_out = 0u64;
+    let mut came_out = 0usize;
     for _ in 0..100 {
-        if receive(&mut core).is_err() {
+        if receive(core).is_err() {
             break;
         }
         came_out = came_out.wrapping_add(1);
     }
-    (
-        accepted,
-        came_out == accepted && accepted.wrapping_add(came_back) == 20,
-    )
+    (came_out, came_back, is_refused)
 }
 
 #[test]
@@ -101,12 +98,17 @@ fn no_pair_is_lost_where_growth_is_refused(rt: HostRuntime) {
     let alloc = Refusing::new(rt.alloc());
     let mut met_all = false;
     for n in 1..100u64 {
+        let mut core: Core<&str, &Refusing<Global>> = Core::bounded(&alloc, 10);
         alloc.refuse_nth(n);
-        let (accepted, none_lost) = send_many(&alloc);
+        let two = send_many(&mut core, 2);
+        let hundred = send_many(&mut core, 100);
         met_all = alloc.refuse_none();
-        assert!(rt; none_lost, "at {n}");
-        assert_eq!(rt; accepted == 20, met_all, "at {n}");
+        assert_eq!(rt; two.0.wrapping_add(two.1), 2, "at {n}");
+        assert_eq!(rt; hundred.0.wrapping_add(hundred.1), 100, "at {n}");
+        assert_eq!(rt; two.2 || hundred.2, !met_all, "at {n}");
         if met_all {
+            assert_eq!(rt; (two, hundred), ((2, 0, false), (10, 90, false)));
+            assert!(rt; n > 1);
             break;
         }
     }

@@ -105,6 +105,7 @@ fn stops_before_the_call_whose_answer_has_no_place(rt: HostRuntime) -> Result<()
         assert!(rt; left.is_empty(), "at {n}");
         assert_eq!(rt; right_answers(done, Row::WithDrops, made), 8, "at {n}");
         if met_all {
+            assert!(rt; n > 1);
             break;
         }
     }

@@ -1,8 +1,6 @@
-use crate::tests::{Core, close, hands_out_nobody, receive, send};
-use priority_channel_core::channel::PriorityQueueChannel;
+use crate::tests::{Core, close, receive, send};
 use priority_channel_core::errors::{TryRecvError, TrySendError};
 use std::alloc::AllocError;
-use std::cmp::Reverse;
 
 #[test]
 fn the_greatest_priority_comes_first(rt: HostRuntime) {
@@ -187,50 +185,4 @@ fn answers_as_a_scanned_list(rt: HostRuntime) -> Result<(), AllocError> {
     }
     assert!(rt; full > 0);
     Ok(())
-}
-
-#[test]
-fn takes_any_ordered_priority(rt: HostRuntime) {
-    let mut core: PriorityQueueChannel<u64, Reverse<u64>, u64> = PriorityQueueChannel::unbounded(
-        rt.alloc(),
-    );
-    for i in [1u64, 3, 2] {
-        let (reply, wakes) = core.try_send(i, Reverse(i));
-        assert!(rt; hands_out_nobody(wakes) && reply.is_ok());
-    }
-    for i in [1u64, 2, 3] {
-        let (reply, wakes) = core.try_recv();
-        assert!(rt; hands_out_nobody(wakes));
-        assert_eq!(rt; reply, Ok((i, Reverse(i))));
-    }
-}
-
-#[test]
-fn takes_pairs_as_priorities(rt: HostRuntime) {
-    let mut core: PriorityQueueChannel<&str, (u64, &str), u64> = PriorityQueueChannel::unbounded(
-        rt.alloc(),
-    );
-    for (msg, priority) in [("a", (1, "x")), ("b", (1, "y")), ("c", (0, "z"))] {
-        let (reply, wakes) = core.try_send(msg, priority);
-        assert!(rt; hands_out_nobody(wakes) && reply.is_ok());
-    }
-    for msg in ["b", "a", "c"] {
-        let (reply, wakes) = core.try_recv();
-        assert!(rt; hands_out_nobody(wakes));
-        assert_eq!(rt; reply.map(|(msg, _)| msg), Ok(msg));
-    }
-}
-
-#[test]
-fn without_priorities_it_is_a_queue(rt: HostRuntime) {
-    let mut core: PriorityQueueChannel<u64, (), u64> = PriorityQueueChannel::unbounded(rt.alloc());
-    for i in 1..4u64 {
-        let (reply, wakes) = core.try_send(i, ());
-        assert!(rt; hands_out_nobody(wakes) && reply.is_ok());
-    }
-    for i in 1..4u64 {
-        let (reply, wakes) = core.try_recv();
-        assert!(rt; hands_out_nobody(wakes));
-        assert_eq!(rt; reply, Ok((i, ())));
-    }
 }

@@ -35,7 +35,7 @@ fn closed_by_another<J: Recording + Send + Sync, R: Threads + Wait + Sync>(
     requires names { fresh ≡ names J.log J.name J.parts }
     requires passes { fresh.passes ≡ 2 }
 {
-    let (recorder, mut passes) = Recorded::<u64, u64, J>::new(alloc, fresh, 2, 2, 2)?;
+    let (recorder, mut passes) = Recorded::<u64, u64, J>::new(alloc, fresh, 1, 2, 2)?;
     let mut closing = Vec::new(alloc);
     closing.push(passes.pop().ok_or("no pass")?)?;
     let mut zero = passes.pop().ok_or("no pass")?;
