@@ -1,4 +1,7 @@
 //! A priority channel for many parties.
+//!
+//! `bounded`, `bounded_reserved` and `unbounded` make one, `Sender` and `Receiver` are its handles, and `recorded` has
+//! channels that keep the history of their calls.
 #![tactic(auto)]
 
 mod kept_waker;

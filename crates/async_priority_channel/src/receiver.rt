@@ -13,8 +13,9 @@ use std::sync::Wait;
 
 /// Receives the messages of a channel, the greatest priority first, and the one accepted first among equals.
 ///
-/// Each call takes the channel's lock once, for one step. A handle can be moved to other threads, lent to them, and
-/// cloned: each message goes to one receiver. The channel closes when its last receiver is dropped.
+/// Each call but `capacity` takes the channel's lock once, for one step, and then wakes whom it lets go on: a receive
+/// wakes all senders that wait, and those that find no room wait again. A handle can be moved to other threads, lent to
+/// them, and cloned: each message goes to one receiver. The channel closes when its last receiver is dropped.
 pub struct Receiver<T, P: Ord, R: Wait + Clone, A: Allocator + Copy = Global> {
     pub(crate) handle: Handle<T, P, R, A>,
 }
@@ -37,6 +38,8 @@ impl<T: Drop, P: Ord + Drop, R: Wait + Clone, A: Allocator + Copy> Receiver<T, P
     /// Receives a message at once, with its priority. The error is `Empty` where none is pending, and `Closed` where
     /// none can come any more; what is pending in a closed channel is still received.
     ///
+    /// It compares priorities at most twice as often as the number of pending messages has binary digits.
+    ///
     /// ```
     /// match rx.try_recv() {
     ///     Ok((job, priority)) => work(job, priority),
@@ -51,7 +54,10 @@ impl<T: Drop, P: Ord + Drop, R: Wait + Clone, A: Allocator + Copy> Receiver<T, P
     }
 
     /// Receives a message as soon as there is one: a future, which does nothing until it is polled. Dropped before it
-    /// has answered, it takes nothing.
+    /// has answered, it takes nothing. Its fault is `Closed`, where none can come any more, or `Memory` where memory was
+    /// refused, also for the place for its waker, for which its first poll asks.
+    ///
+    /// Of the two `?` below the first is for `block_on`, and the second for the fault.
     ///
     /// ```
     /// let (job, priority) = block_on(&rt, rx.recv())??;

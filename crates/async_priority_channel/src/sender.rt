@@ -17,8 +17,12 @@ use std::sync::Wait;
 
 /// Sends messages into a channel, each with a priority.
 ///
-/// Each call takes the channel's lock once, for one step. A handle can be moved to other threads, lent to them, and
-/// cloned; the channel closes when its last sender is dropped.
+/// Each call but `capacity` takes the channel's lock once, for one step, and then wakes whom it lets go on: a message
+/// wakes all receivers that wait, and those that find nothing wait again. A handle can be moved to other threads, lent to
+/// them, and cloned; the channel closes when its last sender is dropped.
+///
+/// The channel calls no code of its user under the lock but the order of priorities, the iterator of a bulk send, and
+/// what drops that iterator. These must neither use the channel nor own a handle of it.
 pub struct Sender<T, P: Ord, R: Wait + Clone, A: Allocator + Copy = Global> {
     pub(crate) handle: Handle<T, P, R, A>,
 }
@@ -41,6 +45,8 @@ impl<T: Drop, P: Ord + Drop, R: Wait + Clone, A: Allocator + Copy> Sender<T, P, 
     /// Sends a message at once, or gives it back: `Closed` where the channel is closed, `Full` where it has no room,
     /// and `Memory` where none could be made.
     ///
+    /// It compares priorities at most as often as the number of pending messages, with this one, has binary digits.
+    ///
     /// ```
     /// if let Err(TrySendError::Full((job, priority))) = tx.try_send(job, 7) {
     ///     block_on(&rt, tx.send(job, priority))??;
@@ -58,8 +64,8 @@ impl<T: Drop, P: Ord + Drop, R: Wait + Clone, A: Allocator + Copy> Sender<T, P, 
     /// closed, `Full` where there was no more room, and `Memory` where none could be made. What was sent stays sent, and
     /// the rest can be sent again.
     ///
-    /// The iterator is called under the channel's lock, and where all was sent it is dropped there. So it must neither
-    /// use the channel nor own a handle of it.
+    /// The iterator is called under the channel's lock, and where all was sent it is dropped there: a call that it makes
+    /// on the channel, or a handle of it that it drops, waits for ever.
     ///
     /// ```
     /// let jobs = vec![in rt.alloc(); ("compile", 2), ("link", 1)]?;
@@ -79,7 +85,10 @@ impl<T: Drop, P: Ord + Drop, R: Wait + Clone, A: Allocator + Copy> Sender<T, P, 
     }
 
     /// Sends a message as soon as there is room: a future, which does nothing until it is polled. Dropped before it has
-    /// answered, it sends nothing.
+    /// answered, it sends nothing. Its fault is `Closed`, or `Memory` where memory was refused, also for the place for
+    /// its waker, for which its first poll asks; either gives the message back.
+    ///
+    /// Of the two `?` below the first is for `block_on`, and the second for the fault.
     ///
     /// ```
     /// block_on(&rt, tx.send("Foo", 0))??;
@@ -92,8 +101,8 @@ impl<T: Drop, P: Ord + Drop, R: Wait + Clone, A: Allocator + Copy> Sender<T, P, 
     }
 
     /// Sends all messages, as there is room: a future, which sends a front at each poll and waits with the rest. What it
-    /// sent stays sent, also where it is dropped or ends in an error. As in `try_sendv`, the iterator must neither use
-    /// the channel nor own a handle of it.
+    /// sent stays sent, also where it is dropped or ends in a fault, which is one of those of `send` and gives back the
+    /// rest. The iterator is called and dropped as by `try_sendv`.
     ///
     /// ```
     /// let jobs = vec![in rt.alloc(); ("compile", 2), ("link", 1)]?;

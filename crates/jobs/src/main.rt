@@ -16,7 +16,7 @@ fn work<R>(
     done: &Sender<u64, Reverse<u64>, R>,
 ) -> anyhow::Result<()>
 where
-    R: Wait + Copy + RandomSource + AllocGlobal,
+    R: Wait + Clone + RandomSource + AllocGlobal,
 {
     for _ in rt.forever() {
         match block_on(rt, jobs.recv())? {

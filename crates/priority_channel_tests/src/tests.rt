@@ -17,11 +17,11 @@ mod word;
 type Core<T, A = Global> = PriorityQueueChannel<T, u64, u64, A>;
 
 /// Spends wakes, whomever they hand out.
-fn spend<A: Allocator>(wakes: Wakes<u64, A>) {
+fn spend<W: Drop, A: Allocator>(wakes: Wakes<W, A>) {
     let (_room, _message) = wakes.into_lists();
 }
 
-fn hands_out_nobody<A: Allocator>(wakes: Wakes<u64, A>) -> bool {
+fn hands_out_nobody<W: Drop, A: Allocator>(wakes: Wakes<W, A>) -> bool {
     let (room, message) = wakes.into_lists();
     room.is_empty() && message.is_empty()
 }

@@ -77,10 +77,13 @@ impl<T, P> Plain<Entry<T, P>, Entry<T, P>, u64> for Add {
 /// What contracts call one recorder by: the name of its log, beside those of its ledger. A function that uses a recorder
 /// is generic in it, so that a pass of another recorder is of another type.
 ///
-/// The outermost call passes `Brand`, and its caller's `Invariants.antt` says that the names are those of the `Fresh` that
-/// is passed. Where the function is called `audited` and the `Fresh` is its parameter `fresh`:
+/// The outermost call passes `Brand`, and its caller says that the names are those of the `Fresh` that is passed. Where a
+/// function `main` of the crate `app` calls `audited`, whose parameter `fresh` is the `Fresh`, the file
+/// `proofs/main/Invariants.antt` says:
 ///
 /// ```text
+/// use Rattle.app.proofs.main.Given as goal
+///
 /// abbrev pub ghosts-audited-J-Recording : goal.ghosts-audited-J-Recording
 /// ghosts-audited-J-Recording g a = record { log = a.fresh.log }
 ///

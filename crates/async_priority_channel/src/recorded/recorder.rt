@@ -102,9 +102,14 @@ fn append<T: Copy, P: Copy + Ord, J: Recording, R: Wait>(
 /// holder has seen begins what it sees later, what it sees when it meets another, and what is told at the end.
 ///
 /// ```
+/// ghost use Rattle.std.specs.Prelude.{◌≡◌, IfOk};
+/// ghost use Rattle.std.specs.Ordering.{nat_cmp};
+/// ghost use Rattle.async_priority_channel.specs.Log.{names, IsLegal};
+///
 /// fn audited<J: Recording, R: Wait>(rt: &R, alloc: Global, fresh: Fresh<u64, u8>) -> Result<History<u64, u8>, AllocError>
 ///     requires names { fresh ≡ names J.log J.name J.parts }
 ///     requires passes { fresh.passes ≡ 2 }
+///     ensures legal { IfOk result (λ history. IsLegal nat_cmp history) }
 /// {
 ///     let (recorder, mut passes) = Recorded::<u64, u8, J>::new(alloc, fresh, 4, 100, 2)?;
 ///     for pass in passes.iter_mut() {
@@ -203,7 +208,8 @@ impl<T: Copy, P: Copy + Ord, J: Recording, A: Allocator + Copy> Recorded<T, P, J
         other.seen = seen;
     }
 
-    /// Ends the recording, once all passes have come back, and tells the history.
+    /// Ends the recording, once all passes have come back, and tells the history, which nothing shows before. So no pass
+    /// may be lost.
     #[tactic(auto, using(crate::proofs::Accounts::account, crate::proofs::Fronts::prefix_whole))]
     pub fn end<R: Wait>(self, rt: &R, passes: Vec<Pass<T, P, J>, A>) -> History<T, P, A>
         requires all { vec_len passes ≡ J.parts }

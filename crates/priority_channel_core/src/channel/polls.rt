@@ -54,8 +54,18 @@ impl<T, P: Ord, W: Clone, A: Allocator + Copy> PriorityQueueChannel<T, P, W, A> 
         }
     }
 
-    /// Receives, or waits for a message under the answered ticket. The ticket of the poll before is given again, and
-    /// keeps its place with a clone of the newest waker.
+    /// Receives, or waits for a message under the answered ticket. The first poll gives no ticket, and each further one
+    /// that of the poll before, which keeps its place with a clone of the newest waker.
+    ///
+    /// ```
+    /// let (received, wakes) = channel.poll_recv(ticket, &waker);
+    /// let (_for_room, _for_message) = wakes.into_lists();
+    /// match received {
+    ///     CorePoll::Pending((), given) => ticket = Some(given),
+    ///     CorePoll::Ready(Ok((job, priority))) => work(job, priority),
+    ///     CorePoll::Ready(Err(fault)) => return Err(fault),
+    /// }
+    /// ```
     ///
     /// A ready answer leaves the given ticket in neither waiting list. `Memory` is answered where the channel is open
     /// and empty and the clone of the waker, its place or the ticket's number was refused.

@@ -55,7 +55,8 @@ impl<T: Drop, P: Ord + Drop, W: Clone, A: Allocator + Copy> PriorityQueueChannel
     /// channel is then as after the last call that was made, and the other calls come back, to be run again.
     ///
     /// ```
-    /// let ran = channel.run(vec![in alloc; Call::TrySend("build", 3), Call::TryRecv]?);
+    /// type Pairs = array::IntoIter<(&str, i64), 2>;
+    /// let ran = channel.run::<Pairs>(vec![in alloc; Call::TrySend("build", 3), Call::TryRecv]?);
     /// ```
     pub fn run<I: Iterator<Item = (T, P)>>(
         &mut self,

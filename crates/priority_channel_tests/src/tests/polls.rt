@@ -1,4 +1,4 @@
-use crate::tests::{Core, close, hands_out_nobody, receive, send};
+use crate::tests::{Core, close, hands_out_nobody, receive, send, spend};
 use priority_channel_core::calls::CorePoll;
 use priority_channel_core::channel::PriorityQueueChannel;
 use priority_channel_core::errors::{RecvError, RecvFault, SendFault};
@@ -103,27 +103,34 @@ impl<'a> Clone for BoxedWaker<'a> {
     }
 }
 
+// A receive waits, and is polled again with a waker whose clone is refused: the two answers, and whether a send then
+// hands out nobody.
+fn poll_with_refused_clone(
+    rest: Global,
+    alloc: &Refusing<Global>,
+) -> Result<(Received, Received, bool), AllocError> {
+    let mut core: PriorityQueueChannel<u64, u64, BoxedWaker<'_>> = PriorityQueueChannel::bounded(
+        rest, 1,
+    );
+    let first = BoxedWaker::new(alloc, 1)?;
+    let second = BoxedWaker::new(alloc, 2)?;
+    let (waits, wakes) = core.poll_recv(None, &first);
+    spend(wakes);
+    alloc.refuse_nth(1);
+    let (refused, wakes) = core.poll_recv(Some(0), &second);
+    spend(wakes);
+    let (_, wakes) = core.try_send(7, 1);
+    Ok((waits, refused, hands_out_nobody(wakes)))
+}
+
 #[test]
 fn a_refused_waker_waits_no_more(rt: HostRuntime) -> Result<(), AllocError> {
     let alloc = Refusing::new(rt.alloc());
-    let mut core: PriorityQueueChannel<u64, u64, BoxedWaker<'_>> = PriorityQueueChannel::bounded(
-        rt.alloc(),
-        1,
-    );
-    let first = BoxedWaker::new(&alloc, 1)?;
-    let second = BoxedWaker::new(&alloc, 2)?;
-    let (poll, wakes) = core.poll_recv(None, &first);
-    let (_room, _message) = wakes.into_lists();
-    assert!(rt; matches!(poll, CorePoll::Pending((), 0)));
-    alloc.refuse_nth(1);
-    let (poll, wakes) = core.poll_recv(Some(0), &second);
-    let (_room, _message) = wakes.into_lists();
-    assert!(rt; matches!(poll, CorePoll::Ready(Err(RecvFault::Memory))));
+    let (waits, refused, is_unlisted) = poll_with_refused_clone(rt.alloc(), &alloc)?;
     assert!(rt; !alloc.refuse_none());
-    let (reply, wakes) = core.try_send(7, 1);
-    assert!(rt; reply.is_ok());
-    let (room, message) = wakes.into_lists();
-    assert!(rt; room.is_empty() && message.is_empty());
+    assert!(rt; matches!(waits, CorePoll::Pending((), 0)));
+    assert!(rt; matches!(refused, CorePoll::Ready(Err(RecvFault::Memory))));
+    assert!(rt; is_unlisted);
     Ok(())
 }
 

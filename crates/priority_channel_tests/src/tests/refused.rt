@@ -2,7 +2,6 @@ use crate::tests::{Core, close, hands_out_nobody, receive, send, spend};
 use priority_channel_core::errors::{TryRecvError, TrySendError};
 use refusing::Refusing;
 use std::alloc::{AllocError, Allocator, Global};
-use std::iter::repeat_n;
 
 #[test]
 fn a_reserved_channel_needs_no_memory(rt: HostRuntime) -> Result<(), AllocError> {
@@ -73,10 +72,13 @@ fn a_refused_growth_hands_the_list_back(rt: HostRuntime) {
     assert_eq!(rt; receive(&mut core), Ok(("a", 0)));
 }
 
-// Sends so many pairs by one call, and receives what was accepted: how many came out, how many came back, and whether
-// memory was refused.
-fn send_many<A: Allocator + Copy>(core: &mut Core<&str, A>, count: usize) -> (usize, usize, bool) {
-    let (reply, wakes) = core.try_sendv(repeat_n(("a", 0u64), count).peekable());
+// Sends pairs by one call, and receives what was accepted: how many came out, how many came back, and whether memory was
+// refused.
+fn send_many<T: Drop, A: Allocator + Copy>(
+    core: &mut Core<T, A>,
+    msgs: Vec<(T, u64)>,
+) -> (usize, usize, bool) {
+    let (reply, wakes) = core.try_sendv(msgs.into_iter().peekable());
     spend(wakes);
     let (came_back, is_refused) = match reply {
         Ok(()) => (0, false),
@@ -94,14 +96,14 @@ fn send_many<A: Allocator + Copy>(core: &mut Core<&str, A>, count: usize) -> (us
 }
 
 #[test]
-fn no_pair_is_lost_where_growth_is_refused(rt: HostRuntime) {
+fn no_pair_is_lost_where_growth_is_refused(rt: HostRuntime) -> Result<(), AllocError> {
     let alloc = Refusing::new(rt.alloc());
     let mut met_all = false;
     for n in 1..100u64 {
         let mut core: Core<&str, &Refusing<Global>> = Core::bounded(&alloc, 10);
         alloc.refuse_nth(n);
-        let two = send_many(&mut core, 2);
-        let hundred = send_many(&mut core, 100);
+        let two = send_many(&mut core, vec![in rt.alloc(); ("a", 0), ("b", 1)]?);
+        let hundred = send_many(&mut core, vec![in rt.alloc(); ("a", 0); 100]?);
         met_all = alloc.refuse_none();
         assert_eq!(rt; two.0.wrapping_add(two.1), 2, "at {n}");
         assert_eq!(rt; hundred.0.wrapping_add(hundred.1), 100, "at {n}");
@@ -113,4 +115,5 @@ fn no_pair_is_lost_where_growth_is_refused(rt: HostRuntime) {
         }
     }
     assert!(rt; met_all);
+    Ok(())
 }
