@@ -45,6 +45,11 @@ module _ {W : Type 0} where
       then record { ticket = ticket; waiters = with_waker ticket waker waiters; next_ticket = next }
       else fresh waker waiters next
 
+  -- a party takes this place in the list, with a clone of its waker
+  abbrev pub TakesPlace : (W → W → Type 0) → Option ℕ → W → List (ℕ × W) → ℕ → Listing W → Type 0
+  TakesPlace is_clone given waker waiters next place =
+      (kept : W) × is_clone waker kept × (listing given kept waiters next ≡ place)
+
   -- in the lists of those who wait for room and for a message the tickets rise, each was given before
   -- the next one, and none waits for both
   pub record HasOwnTickets (room message : List (ℕ × W)) (next : ℕ) : Type 0 where

@@ -1,9 +1,8 @@
 //! A count with a closed bit in one word, and the parties that wait for the count to change.
-ghost use Rattle.std.specs.Prelude.{◌≡◌, ℕ, ◌+◌, ◌-◌, ◌<◌, ◌≤◌, ◌^◌, ◌==◌, if◌then◌else◌, [], length, IfSome, IsSome, true, false, IfNone, Some};
-ghost use Rattle.priority_channel_core.specs.Digits.{digits};
+ghost use Rattle.std.specs.Prelude.{◌≡◌, ℕ, ◌+◌, ◌-◌, ◌<◌, ◌≤◌, ◌^◌, ◌==◌, if◌then◌else◌, [], IfSome, IsSome, true, false, IfNone, Some};
 ghost use Rattle.priority_channel_core.specs.State.{nobody};
-ghost use Rattle.priority_channel_core.specs.Waiting.{is_given_listed, without, without_given, listing};
-ghost use Rattle.priority_channel_core.specs.Word.{closed_bit, count_below, IsOrderly};
+ghost use Rattle.priority_channel_core.specs.Waiting.{is_given_listed};
+ghost use Rattle.priority_channel_core.specs.Word.{closed_bit, count_below, IsOrderly, word_without, ListensForRoom, ListensForMessage, both_lists_bound};
 
 use crate::comparisons::Comparisons;
 use crate::waiting_list::WaitingList;
@@ -171,9 +170,9 @@ impl<W, A: Allocator + Copy> AwaitableAtomicCounterAndBit<W, A> {
     pub fn unlisten(&mut self, ticket: u64)
     where
         W: Drop,
-        ensures word { self.new.word ≡ record self.old.word { room_waiters = without ticket self.old.word.room_waiters; message_waiters = without ticket self.old.word.message_waiters } }
+        ensures word { self.new.word ≡ word_without (Some ticket) self.old.word }
         ensures tickets { IsOrderly self.new.word }
-        ensures cost { self.new.comparisons ≤ self.old.comparisons + digits (length self.old.word.room_waiters) + digits (length self.old.word.message_waiters) }
+        ensures cost { self.new.comparisons ≤ self.old.comparisons + both_lists_bound self.old.word }
     {
         self.room_waiters.remove(ticket, &mut self.comparisons);
         self.message_waiters.remove(ticket, &mut self.comparisons);
@@ -184,12 +183,12 @@ impl<W: Clone, A: Allocator + Copy> AwaitableAtomicCounterAndBit<W, A> {
     /// Lists a party that waits for a message, under its own ticket where that stands in the list, and else under
     /// the next one. None where the clone of the waker or its place was refused, or where the numbers ran out.
     pub fn listen_incr(&mut self, ticket: Option<u64>, waker: &W) -> Option<u64>
-        ensures listed { IfSome result (λ given. (kept : W) × W.is_clone waker.now kept × (let place = listing ticket kept self.old.word.message_waiters self.old.word.next_ticket in (given ≡ place.ticket) × (self.new.word ≡ record self.old.word { message_waiters = place.waiters; next_ticket = place.next_ticket }))) }
-        ensures refused { IfNone result (self.new.word ≡ record self.old.word { room_waiters = without_given ticket self.old.word.room_waiters; message_waiters = without_given ticket self.old.word.message_waiters }) }
+        ensures listed { IfSome result (λ listed. ListensForMessage W.is_clone ticket waker.now self.old.word listed self.new.word) }
+        ensures refused { IfNone result (self.new.word ≡ word_without ticket self.old.word) }
         ensures renewed { is_given_listed ticket self.old.word.message_waiters ≡ true → W.is_infallible waker.now → IsSome result }
         ensures tickets { IsOrderly self.new.word }
         ensures fits { self.new.word.next_ticket < 2 ^ 64 }
-        ensures cost { self.new.comparisons ≤ self.old.comparisons + digits (length self.old.word.room_waiters) + digits (length self.old.word.message_waiters) }
+        ensures cost { self.new.comparisons ≤ self.old.comparisons + both_lists_bound self.old.word }
     {
         let Some(listed) = self.message_waiters.listen(
             ticket,
@@ -207,12 +206,12 @@ impl<W: Clone, A: Allocator + Copy> AwaitableAtomicCounterAndBit<W, A> {
 
     /// Lists a party that waits for room, as `listen_incr` does one that waits for a message.
     pub fn listen_decr(&mut self, ticket: Option<u64>, waker: &W) -> Option<u64>
-        ensures listed { IfSome result (λ given. (kept : W) × W.is_clone waker.now kept × (let place = listing ticket kept self.old.word.room_waiters self.old.word.next_ticket in (given ≡ place.ticket) × (self.new.word ≡ record self.old.word { room_waiters = place.waiters; next_ticket = place.next_ticket }))) }
-        ensures refused { IfNone result (self.new.word ≡ record self.old.word { room_waiters = without_given ticket self.old.word.room_waiters; message_waiters = without_given ticket self.old.word.message_waiters }) }
+        ensures listed { IfSome result (λ listed. ListensForRoom W.is_clone ticket waker.now self.old.word listed self.new.word) }
+        ensures refused { IfNone result (self.new.word ≡ word_without ticket self.old.word) }
         ensures renewed { is_given_listed ticket self.old.word.room_waiters ≡ true → W.is_infallible waker.now → IsSome result }
         ensures tickets { IsOrderly self.new.word }
         ensures fits { self.new.word.next_ticket < 2 ^ 64 }
-        ensures cost { self.new.comparisons ≤ self.old.comparisons + digits (length self.old.word.room_waiters) + digits (length self.old.word.message_waiters) }
+        ensures cost { self.new.comparisons ≤ self.old.comparisons + both_lists_bound self.old.word }
     {
         let Some(listed) = self.room_waiters.listen(
             ticket,

@@ -1,8 +1,8 @@
 //! The parties that wait for one thing.
-ghost use Rattle.std.specs.Prelude.{◌≡◌, ℕ, ◌+◌, ◌<◌, ◌≤◌, false, IsTrue, IfSome, IsSome, true, IfNone, OnOk, OnErr, List, [], ◌∷◌, ◌++◌, length, ◌^◌};
+ghost use Rattle.std.specs.Prelude.{◌≡◌, ℕ, ◌+◌, ◌<◌, ◌≤◌, false, IsTrue, IfSome, IsSome, true, IfNone, None, OnOk, OnErr, List, [], length, ◌^◌};
 ghost use Rattle.std.specs.List.{All, HoldsAt};
 ghost use Rattle.priority_channel_core.specs.Digits.{digits};
-ghost use Rattle.priority_channel_core.specs.Waiting.{is_listed, is_given_listed, without, with_waker, without_given, listing};
+ghost use Rattle.priority_channel_core.specs.Waiting.{is_listed, is_given_listed, without, with_waker, without_given, TakesPlace};
 
 use crate::comparisons::Comparisons;
 use std::alloc::{Allocator, Global};
@@ -99,7 +99,8 @@ impl<W: Clone, A: Allocator> WaitingList<W, A> {
     ) -> Option<u64>
         requires given { All (λ a. a.0 < next_ticket.old) self.old }
         requires fits { next_ticket.old < 2 ^ 64 }
-        ensures listed { IfSome result (λ given. (kept : W) × W.is_clone waker.now kept × (listing ticket kept self.old next_ticket.old ≡ record { ticket = given; waiters = self.new; next_ticket = next_ticket.new })) }
+        ensures listed { IfSome result (λ listed. TakesPlace W.is_clone ticket waker.now self.old next_ticket.old
+            (record { ticket = listed; waiters = self.new; next_ticket = next_ticket.new })) }
         ensures refused { IfNone result ((self.new ≡ without_given ticket self.old) × (next_ticket.new ≡ next_ticket.old)) }
         ensures renewed { is_given_listed ticket self.old ≡ true → W.is_infallible waker.now → IsSome result }
         ensures fits { next_ticket.new < 2 ^ 64 }
@@ -137,7 +138,8 @@ impl<W: Clone, A: Allocator> WaitingList<W, A> {
     fn list_next(&mut self, waker: &W, next_ticket: &mut u64) -> Option<u64>
         requires given { All (λ a. a.0 < next_ticket.old) self.old }
         requires fits { next_ticket.old < 2 ^ 64 }
-        ensures listed { IfSome result (λ given. (given ≡ next_ticket.old) × (next_ticket.new ≡ next_ticket.old + 1) × ((kept : W) × W.is_clone waker.now kept × (self.new ≡ self.old ++ (given, kept) ∷ []))) }
+        ensures listed { IfSome result (λ listed. TakesPlace W.is_clone None waker.now self.old next_ticket.old
+            (record { ticket = listed; waiters = self.new; next_ticket = next_ticket.new })) }
         ensures refused { IfNone result ((self.new ≡ self.old) × (next_ticket.new ≡ next_ticket.old)) }
         ensures fits { next_ticket.new < 2 ^ 64 }
     {
