@@ -1,5 +1,5 @@
 //! Sending many pairs in one step.
-ghost use Rattle.std.specs.Prelude.{◌≡◌, ◌+◌, ◌*◌, ◌-◌, ◌<◌, ◌≤◌, ◌^◌, ◌↔◌, ◌⊎◌, List, length, IfErr, IsTrue, true, false, Option, Some, is_some};
+ghost use Rattle.std.specs.Prelude.{◌≡◌, ◌+◌, ◌*◌, ◌-◌, ◌<◌, ◌≤◌, ◌^◌, ◌↔◌, ◌⊎◌, List, length, Err, IfErr, IsTrue, true, false, Option, Some, is_some};
 ghost use Rattle.std.specs.Iterator.Adapters.{peekable_can, peekable_peeked};
 ghost use Rattle.priority_channel_core.specs.Digits.{digits};
 ghost use Rattle.priority_channel_core.specs.Lists.{HasList};
@@ -122,7 +122,8 @@ impl<T: Drop, P: Ord + Drop, W: Clone, A: Allocator + Copy> PriorityQueueChannel
     ) -> (Result<(), TrySendError<Peekable<I>>>, Wakes<W, A>)
         requires { peekable_can I.can_next msgs }
         ensures step { Performs (HasList I.next_gives) P.cmp W.is_clone self.old.state (Call.TrySendv msgs) (Answer.TrySendv result.0) result.1 self.new.state }
-        ensures untouched { (self.old.state.is_closed ≡ true) ⊎ (room_of self.old.state ≡ 0) → IfErr result.0 (λ error. refused error ≡ msgs) }
+        ensures closed { self.old.state.is_closed ≡ true → (result.0 ≡ Err (TrySendError.Closed msgs)) × (self.new.state ≡ self.old.state) }
+        ensures no_room { self.old.state.is_closed ≡ false → room_of self.old.state ≡ 0 → (result.0 ≡ Err (TrySendError.Full msgs)) × (self.new.state ≡ self.old.state) }
         ensures callable { IfErr result.0 (λ error. peekable_can I.can_next (refused error)) }
 
         // Whether or not the iterator has one list.

@@ -125,15 +125,34 @@ fn counting(left: u64, calls: &Cell<u64>) -> Peekable<CountsCalls<'_>> {
     CountsCalls { left, calls }.peekable()
 }
 
+// How many pairs are left, of at most ten.
+fn left(mut rest: Peekable<CountsCalls<'_>>) -> u64 {
+    let mut count = 0u64;
+    for _ in 0..10 {
+        if rest.next().is_none() {
+            break;
+        }
+        count = count.wrapping_add(1);
+    }
+    count
+}
+
 #[test]
 fn asks_the_iterator_for_one_pair_more_than_it_takes(rt: HostRuntime) {
     let calls = Cell::new(0);
     let mut core: Core<u64> = Core::bounded(rt.alloc(), 2);
     let (reply, wakes) = core.try_sendv(counting(5, &calls));
     assert!(rt; hands_out_nobody(wakes));
-    assert!(rt; matches!(reply, Err(TrySendError::Full(_))));
     assert_eq!(rt; calls.get(), 3);
     assert_eq!(rt; core.len(), 2);
+    let Err(TrySendError::Full(mut rest)) = reply else {
+        assert!(rt; false);
+        return;
+    };
+    assert_eq!(rt; rest.next(), Some((2, 2)));
+    assert_eq!(rt; rest.next(), Some((1, 1)));
+    assert_eq!(rt; rest.next(), Some((0, 0)));
+    assert_eq!(rt; rest.next(), None);
 
     calls.set(0);
     let mut core: Core<u64> = Core::bounded(rt.alloc(), 2);
@@ -150,10 +169,17 @@ fn does_not_touch_the_iterator_where_nothing_can_be_taken(rt: HostRuntime) {
     assert_eq!(rt; send(&mut core, 1, 1), Ok(()));
     let (reply, wakes) = core.try_sendv(counting(5, &calls));
     assert!(rt; hands_out_nobody(wakes));
-    assert!(rt; matches!(reply, Err(TrySendError::Full(_))));
+    let Err(TrySendError::Full(from_full)) = reply else {
+        assert!(rt; false);
+        return;
+    };
     assert!(rt; close(&mut core));
     let (reply, wakes) = core.try_sendv(counting(5, &calls));
     assert!(rt; hands_out_nobody(wakes));
-    assert!(rt; matches!(reply, Err(TrySendError::Closed(_))));
+    let Err(TrySendError::Closed(from_closed)) = reply else {
+        assert!(rt; false);
+        return;
+    };
     assert_eq!(rt; calls.get(), 0);
+    assert_eq!(rt; (left(from_full), left(from_closed)), (5, 5));
 }

@@ -1,7 +1,9 @@
-use crate::tests::{Core, close, hands_out_nobody, receive, send, spend};
+use crate::tests::{Core, close, hands_out_nobody, receive, send};
 use priority_channel_core::errors::{TryRecvError, TrySendError};
 use refusing::Refusing;
-use std::alloc::{AllocError, Allocator, Global};
+use std::alloc::{AllocError, Global};
+use std::array::IntoIter;
+use std::iter::Peekable;
 
 #[test]
 fn a_reserved_channel_needs_no_memory(rt: HostRuntime) -> Result<(), AllocError> {
@@ -72,48 +74,94 @@ fn a_refused_growth_hands_the_list_back(rt: HostRuntime) {
     assert_eq!(rt; receive(&mut core), Ok(("a", 0)));
 }
 
-// Sends pairs by one call, and receives what was accepted: how many came out, how many came back, and whether memory was
-// refused.
-fn send_many<T: Drop, A: Allocator + Copy>(
-    core: &mut Core<T, A>,
-    msgs: Vec<(T, u64)>,
-) -> (usize, usize, bool) {
-    let (reply, wakes) = core.try_sendv(msgs.into_iter().peekable());
-    spend(wakes);
-    let (came_back, is_refused) = match reply {
-        Ok(()) => (0, false),
-        Err(TrySendError::Memory(rest)) => (rest.count(), true),
-        Err(TrySendError::Full(rest) | TrySendError::Closed(rest)) => (rest.count(), false),
-    };
-    let mut came_out = 0usize;
-    for _ in 0..100 {
-        if receive(core).is_err() {
-            break;
-        }
-        came_out = came_out.wrapping_add(1);
-    }
-    (came_out, came_back, is_refused)
-}
-
+// Each growth is refused in turn. A refused send hands its pair back, and what was accepted comes out, the greatest first.
 #[test]
-fn no_pair_is_lost_where_growth_is_refused(rt: HostRuntime) -> Result<(), AllocError> {
+fn each_send_may_be_refused(rt: HostRuntime) -> Result<(), AllocError> {
     let alloc = Refusing::new(rt.alloc());
     let mut met_all = false;
     for n in 1..100u64 {
-        let mut core: Core<&str, &Refusing<Global>> = Core::bounded(&alloc, 10);
+        let mut core: Core<u64, &Refusing<Global>> = Core::unbounded(&alloc);
         alloc.refuse_nth(n);
-        let two = send_many(&mut core, vec![in rt.alloc(); ("a", 0), ("b", 1)]?);
-        let hundred = send_many(&mut core, vec![in rt.alloc(); ("a", 0); 100]?);
+        let mut accepted = Vec::new(rt.alloc());
+        for i in [1u64, 3, 2] {
+            match send(&mut core, i, i) {
+                Ok(()) => accepted.push(i)?,
+                refused => assert_eq!(rt; refused, Err(TrySendError::Memory((i, i))), "at {n}"),
+            }
+        }
         met_all = alloc.refuse_none();
-        assert_eq!(rt; two.0.wrapping_add(two.1), 2, "at {n}");
-        assert_eq!(rt; hundred.0.wrapping_add(hundred.1), 100, "at {n}");
-        assert_eq!(rt; two.2 || hundred.2, !met_all, "at {n}");
+        assert_eq!(rt; accepted.len() == 3, met_all, "at {n}");
+        for i in [3u64, 2, 1] {
+            if accepted.contains(&i) {
+                assert_eq!(rt; receive(&mut core), Ok((i, i)), "at {n}");
+            }
+        }
+        assert_eq!(rt; receive(&mut core), Err(TryRecvError::Empty), "at {n}");
         if met_all {
-            assert_eq!(rt; (two, hundred), ((2, 0, false), (10, 90, false)));
             assert!(rt; n > 1);
             break;
         }
     }
     assert!(rt; met_all);
     Ok(())
+}
+
+fn count(mut rest: Peekable<IntoIter<(&'static str, u64), 100>>) -> u64 {
+    let mut left = 0u64;
+    for _ in 0..100 {
+        if rest.next().is_none() {
+            break;
+        }
+        left = left.wrapping_add(1);
+    }
+    left
+}
+
+// Each growth is refused in turn, in a bulk send that all fits and in one that does not.
+#[test]
+fn each_bulk_send_may_be_refused(rt: HostRuntime) {
+    let alloc = Refusing::new(rt.alloc());
+    let mut met_all = false;
+    for n in 1..100u64 {
+        let mut core: Core<&str, &Refusing<Global>> = Core::bounded(&alloc, 10);
+        alloc.refuse_nth(n);
+        let (reply, wakes) = core.try_sendv([("a", 0), ("b", 1)].into_iter().peekable());
+        assert!(rt; hands_out_nobody(wakes));
+        match reply {
+            Ok(()) => {
+                assert_eq!(rt; receive(&mut core), Ok(("b", 1)), "at {n}");
+                assert_eq!(rt; receive(&mut core), Ok(("a", 0)), "at {n}");
+            }
+            Err(TrySendError::Memory(rest)) => {
+                assert_eq!(rt; n, 1);
+                assert!(rt; rest.eq([("a", 0), ("b", 1)]));
+            }
+            Err(_) => assert!(rt; false, "at {n}"),
+        }
+        assert!(rt; core.is_empty());
+        let (reply, wakes) = core.try_sendv([("a", 0); 100].into_iter().peekable());
+        assert!(rt; hands_out_nobody(wakes));
+        met_all = alloc.refuse_none();
+        let accepted = core.len();
+        match reply {
+            Err(TrySendError::Full(rest)) => {
+                assert_eq!(rt; (accepted, count(rest)), (10, 90), "at {n}");
+                assert!(rt; met_all || n == 1);
+            }
+            Err(TrySendError::Memory(rest)) => {
+                assert!(rt; !met_all && accepted < 10);
+                assert_eq!(rt; accepted.wrapping_add(count(rest)), 100, "at {n}");
+            }
+            _ => assert!(rt; false, "at {n}"),
+        }
+        for _ in 0..accepted {
+            assert_eq!(rt; receive(&mut core), Ok(("a", 0)), "at {n}");
+        }
+        assert_eq!(rt; receive(&mut core), Err(TryRecvError::Empty), "at {n}");
+        if met_all {
+            assert!(rt; n > 2);
+            break;
+        }
+    }
+    assert!(rt; met_all);
 }

@@ -11,27 +11,27 @@ type Pairs = Peekable<IntoIter<(u64, u64), 3>>;
 
 /// Which list of calls was run.
 #[derive(Clone, Copy)]
-enum Row {
+enum Calls {
     InOrder,
     WithDrops,
 }
 
-impl Row {
+impl Calls {
     fn is_right(self, at: usize, answer: Answer<u64, u64, Pairs>) -> bool {
         match (self, at, answer) {
-            (Row::InOrder, 0, Answer::TrySend(reply)) => reply == Ok(()),
-            (Row::InOrder, 1, Answer::TryRecv(reply)) => reply == Ok((1, 5)),
-            (Row::InOrder, 2, Answer::TryRecv(reply)) => reply == Err(TryRecvError::Empty),
-            (Row::InOrder, 3, Answer::Close(was_open)) => was_open,
-            (Row::WithDrops, 0, Answer::TrySendv(Err(TrySendError::Full(mut rest)))) => rest.next()
+            (Calls::InOrder, 0, Answer::TrySend(reply)) => reply == Ok(()),
+            (Calls::InOrder, 1, Answer::TryRecv(reply)) => reply == Ok((1, 5)),
+            (Calls::InOrder, 2, Answer::TryRecv(reply)) => reply == Err(TryRecvError::Empty),
+            (Calls::InOrder, 3, Answer::Close(was_open)) => was_open,
+            (Calls::WithDrops, 0, Answer::TrySendv(Err(TrySendError::Full(mut rest)))) => rest.next()
                 == Some((3, 5))
                 && rest.next().is_none(),
-            (Row::WithDrops, 1, Answer::CloneSender(done)) => done,
-            (Row::WithDrops, 2 | 3, Answer::DropSender) => true,
-            (Row::WithDrops, 4, Answer::IsClosed(told)) => told,
-            (Row::WithDrops, 5, Answer::TryRecv(reply)) => reply == Ok((2, 6)),
-            (Row::WithDrops, 6, Answer::TryRecv(reply)) => reply == Ok((1, 4)),
-            (Row::WithDrops, 7, Answer::TryRecv(reply)) => reply == Err(TryRecvError::Closed),
+            (Calls::WithDrops, 1, Answer::CloneSender(done)) => done,
+            (Calls::WithDrops, 2 | 3, Answer::DropSender) => true,
+            (Calls::WithDrops, 4, Answer::IsClosed(told)) => told,
+            (Calls::WithDrops, 5, Answer::TryRecv(reply)) => reply == Ok((2, 6)),
+            (Calls::WithDrops, 6, Answer::TryRecv(reply)) => reply == Ok((1, 4)),
+            (Calls::WithDrops, 7, Answer::TryRecv(reply)) => reply == Err(TryRecvError::Closed),
             _ => false,
         }
     }
@@ -40,7 +40,7 @@ impl Row {
 /// The first answer that is not right, from this one of a list on. A call that hands somebody out is not.
 fn right_answers<A: Allocator>(
     done: Vec<Done<u64, u64, u64, Pairs, A>, A>,
-    row: Row,
+    calls: Calls,
     first: usize,
 ) -> usize {
     let mut right = first;
@@ -50,7 +50,7 @@ fn right_answers<A: Allocator>(
             room_waiters,
             message_waiters,
         } = made;
-        if !row.is_right(right, answer) || !room_waiters.is_empty() || !message_waiters.is_empty() {
+        if !calls.is_right(right, answer) || !room_waiters.is_empty() || !message_waiters.is_empty() {
             return right;
         }
         right = right.saturating_add(1);
@@ -70,7 +70,7 @@ fn makes_each_call_in_order(rt: HostRuntime) -> Result<(), AllocError> {
     let Ran { done, left } = core.run(calls);
     assert!(rt; left.is_empty());
     assert_eq!(rt; done.len(), 4);
-    assert_eq!(rt; right_answers(done, Row::InOrder, 0), 4);
+    assert_eq!(rt; right_answers(done, Calls::InOrder, 0), 4);
     let Ran { done, left } = core.run(Vec::<Call<u64, u64, u64, Pairs>>::new(rt.alloc()));
     assert!(rt; done.is_empty() && left.is_empty());
     assert!(rt; core.is_closed());
@@ -100,10 +100,10 @@ fn stops_before_the_call_whose_answer_has_no_place(rt: HostRuntime) -> Result<()
         let made = done.len();
         assert_eq!(rt; made.wrapping_add(left.len()), 8, "at {n}");
         assert_eq!(rt; left.is_empty(), met_all, "at {n}");
-        assert_eq!(rt; right_answers(done, Row::WithDrops, 0), made, "at {n}");
+        assert_eq!(rt; right_answers(done, Calls::WithDrops, 0), made, "at {n}");
         let Ran { done, left } = core.run(left);
         assert!(rt; left.is_empty(), "at {n}");
-        assert_eq!(rt; right_answers(done, Row::WithDrops, made), 8, "at {n}");
+        assert_eq!(rt; right_answers(done, Calls::WithDrops, made), 8, "at {n}");
         if met_all {
             assert!(rt; n > 1);
             break;
