@@ -23,9 +23,8 @@ impl Calls {
             (Calls::InOrder, 1, Answer::TryRecv(reply)) => reply == Ok((1, 5)),
             (Calls::InOrder, 2, Answer::TryRecv(reply)) => reply == Err(TryRecvError::Empty),
             (Calls::InOrder, 3, Answer::Close(was_open)) => was_open,
-            (Calls::WithDrops, 0, Answer::TrySendv(Err(TrySendError::Full(mut rest)))) => rest.next()
-                == Some((3, 5))
-                && rest.next().is_none(),
+            (Calls::WithDrops, 0, Answer::TrySendv(Err(TrySendError::Full(mut rest)))) =>
+                rest.next() == Some((3, 5)) && rest.next().is_none(),
             (Calls::WithDrops, 1, Answer::CloneSender(done)) => done,
             (Calls::WithDrops, 2 | 3, Answer::DropSender) => true,
             (Calls::WithDrops, 4, Answer::IsClosed(told)) => told,
@@ -50,7 +49,10 @@ fn right_answers<A: Allocator>(
             room_waiters,
             message_waiters,
         } = made;
-        if !calls.is_right(right, answer) || !room_waiters.is_empty() || !message_waiters.is_empty() {
+        if !calls.is_right(right, answer)
+            || !room_waiters.is_empty()
+            || !message_waiters.is_empty()
+        {
             return right;
         }
         right = right.saturating_add(1);
