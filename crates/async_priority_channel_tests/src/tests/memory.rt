@@ -154,7 +154,9 @@ fn a_dropped_bulk_send_waits_no_more(rt: HostRuntime) -> Result<(), Fail> {
     assert!(rt; block_on(&rt, poll_immediate(tx.sendv(more.into_iter().peekable())))?.is_none());
     for _ in 0..20 {
         alloc.refuse_nth(2);
-        assert!(rt; block_on(&rt, poll_immediate(tx.sendv(more.into_iter().peekable())))?.is_none());
+        assert!(rt;
+            block_on(&rt, poll_immediate(tx.sendv(more.into_iter().peekable())))?.is_none()
+        );
         assert!(rt; alloc.refuse_none());
     }
     Ok(())
