@@ -1,5 +1,5 @@
 //! A count with a closed bit in one word, and the parties that wait for the count to change.
-ghost use Rattle.std.specs.Prelude.{◌≡◌, ℕ, ◌+◌, ◌-◌, ◌<◌, ◌≤◌, ◌^◌, ◌==◌, if◌then◌else◌, [], IfSome, IsSome, true, false, IfNone, Some};
+ghost use Rattle.std.specs.Prelude.{◌≡◌, ◌+◌, ◌-◌, ◌<◌, ◌≤◌, ◌^◌, ◌==◌, if◌then◌else◌, [], IfSome, IsSome, true, false, IfNone, Some};
 ghost use Rattle.priority_channel_core.specs.State.{nobody};
 ghost use Rattle.priority_channel_core.specs.Waiting.{is_given_listed};
 ghost use Rattle.priority_channel_core.specs.Word.{closed_bit, count_below, IsOrderly, word_without, ListensForRoom, ListensForMessage, both_lists_bound};

@@ -1,5 +1,5 @@
 //! Pending pairs, kept as a binary heap in one vector.
-ghost use Rattle.std.specs.Prelude.{◌≡◌, ◌↔◌, ℕ, ◌+◌, ◌*◌, ◌<◌, ◌≤◌, ◌^◌, [], ◌∷◌, ◌++◌, length, IfOk, IfNone, OnOk, OnErr, IsTrue, MatchOption, vec_capacity};
+ghost use Rattle.std.specs.Prelude.{◌≡◌, ◌↔◌, ◌+◌, ◌*◌, ◌<◌, ◌≤◌, ◌^◌, [], ◌∷◌, ◌++◌, length, IfOk, IfNone, OnOk, OnErr, IsTrue, MatchOption, vec_capacity};
 ghost use Rattle.priority_channel_core.specs.Digits.{digits};
 ghost use Rattle.priority_channel_core.specs.Greatest.{TakesGreatest};
 

@@ -1,5 +1,5 @@
 //! The two ways in which an item moves through a heap. The parent of the item at i is at (i - 1) / 2.
-ghost use Rattle.std.specs.Prelude.{◌≡◌, ℕ, ◌+◌, ◌*◌, ◌<◌, ◌≤◌, length};
+ghost use Rattle.std.specs.Prelude.{◌≡◌, ◌+◌, ◌*◌, ◌<◌, ◌≤◌, length};
 ghost use Rattle.std.specs.List.Sorted.{IsPermutation};
 ghost use Rattle.std.specs.List.{swap};
 ghost use Rattle.std.specs.BinaryHeap.Sift.{SiftsUp, RestoresHeap, IsGreaterChild};

@@ -1,5 +1,5 @@
 //! The parties that wait for one thing.
-ghost use Rattle.std.specs.Prelude.{◌≡◌, ℕ, ◌+◌, ◌<◌, ◌≤◌, false, IsTrue, IfSome, IsSome, true, IfNone, None, OnOk, OnErr, List, [], length, ◌^◌};
+ghost use Rattle.std.specs.Prelude.{◌≡◌, ℕ, ◌+◌, ◌<◌, ◌≤◌, false, IfSome, IsSome, true, IfNone, None, List, [], length, ◌^◌};
 ghost use Rattle.std.specs.List.{All, HoldsAt};
 ghost use Rattle.priority_channel_core.specs.Digits.{digits};
 ghost use Rattle.priority_channel_core.specs.Waiting.{is_listed, is_given_listed, without, with_waker, without_given, TakesPlace};

@@ -1,5 +1,5 @@
 //! One caller's channel with the history of its calls.
-ghost use Rattle.std.specs.Prelude.{◌≡◌, ◌<◌, ◌≤◌, ◌^◌, true, [], ◌∷◌, ◌++◌, length, vec_len, vec_capacity, IfOk, OnErr, Some, codes};
+ghost use Rattle.std.specs.Prelude.{◌≡◌, ◌<◌, ◌≤◌, ◌^◌, true, [], ◌∷◌, ◌++◌, length, vec_capacity, IfOk, OnErr, Some, codes};
 ghost use Rattle.priority_channel_core.specs.State.{opening};
 ghost use Rattle.async_priority_channel.specs.History.{entry, IsHistory, IsStep};
 
