@@ -35,8 +35,8 @@ pub fn bounded<T: Drop, P: Ord + Drop, R: Wait + Clone, A: Allocator + Copy>(
 }
 
 /// A channel for at most `cap` pending messages, whose memory is taken here: no later `try_send` or `try_sendv` is
-/// refused for want of memory before 2^64 - 1 messages were accepted. A future that is polled still asks for a place for its waker, and for one in the list of
-/// those who wait. The error is that memory was refused.
+/// refused for want of memory before 2^64 - 1 messages were accepted. A future that is polled still asks for a place for
+/// its waker, and for one in the list of those who wait. The error is that memory was refused.
 ///
 /// ```
 /// let (tx, rx) = bounded_reserved(&rt, rt.alloc(), 1)?;

@@ -21,8 +21,8 @@ use std::sync::Wait;
 /// wakes all receivers that wait, and those that find nothing wait again. A handle can be moved to other threads, lent to
 /// them, and cloned; the channel closes when its last sender is dropped.
 ///
-/// The channel calls no code of its user under the lock but the order of priorities, the iterator of a bulk send, and
-/// what drops that iterator. These must neither use the channel nor own a handle of it.
+/// Of its user's code the channel calls under the lock the order of priorities, and the iterator of a bulk send and its
+/// drop. These must neither use the channel nor own a handle of it.
 pub struct Sender<T, P: Ord, R: Wait + Clone, A: Allocator + Copy = Global> {
     pub(crate) handle: Handle<T, P, R, A>,
 }

@@ -11,8 +11,8 @@ use std::marker::Model;
 
 const CLOSED_BIT: u64 = 1 << 63;
 
-/// Whom a step hands out: those who waited for room, and those who waited for a message. It must
-/// be spent, by `into_lists`.
+/// Whom a step hands out: those who waited for room, and those who waited for a message. It must be spent, by
+/// `into_lists`.
 pub struct Wakes<W, A: Allocator = Global> {
     room: Vec<(u64, W), A>,
     message: Vec<(u64, W), A>,

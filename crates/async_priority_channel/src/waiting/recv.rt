@@ -17,8 +17,8 @@ use std::sync::Wait;
 
 /// Receives one message once there is one. `Receiver::recv` makes it.
 ///
-/// Its fault is `Closed`, where none can come any more, or `Memory`, where memory was refused. Polled again
-/// after its answer it is pending, changes nothing, and asks to be polled once more, so it should not be polled on.
+/// Its fault is `Closed`, where none can come any more, or `Memory`, where memory was refused. Polled again after its
+/// answer it is pending, changes nothing, and asks to be polled once more, so it should not be polled on.
 pub struct Recv<'a, T, P: Ord, R: Wait + Clone, A: Allocator + Copy = Global> {
     receiver: &'a Receiver<T, P, R, A>,
     state: RecvState,
