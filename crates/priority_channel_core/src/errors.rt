@@ -50,6 +50,13 @@ impl<T> TrySendError<T> {
     {
         matches!(self, TrySendError::Closed(_))
     }
+
+    /// Whether there was room, but no memory for it.
+    pub fn is_memory(&self) -> bool
+        ensures { IsTrue result ↔ (self.now ≡ TrySendError.Memory (refused self.now)) }
+    {
+        matches!(self, TrySendError::Memory(_))
+    }
 }
 
 impl<T> fmt::Display for TrySendError<T> {
@@ -81,6 +88,29 @@ impl<T> fmt::Debug for TrySendError<T> {
 }
 
 impl<T: Drop> Error for TrySendError<T> {}
+
+impl<T> From<SendError<T>> for TrySendError<T> {
+    ghost use Rattle.priority_channel_core.specs.declared.errors.TrySendError.{TrySendError};
+
+    ghost from_gives = { λ closed error. error ≡ TrySendError.Closed closed.0 };
+
+    fn from(closed: SendError<T>) -> TrySendError<T> {
+        TrySendError::Closed(closed.0)
+    }
+}
+
+impl<T> From<SendFault<T>> for TrySendError<T> {
+    ghost use Rattle.priority_channel_core.specs.Errors.{refusal_for};
+
+    ghost from_gives = { λ fault error. error ≡ refusal_for fault };
+
+    fn from(fault: SendFault<T>) -> TrySendError<T> {
+        match fault {
+            SendFault::Closed(closed) => TrySendError::from(closed),
+            SendFault::Memory(held) => TrySendError::Memory(held),
+        }
+    }
+}
 
 /// Why there is no message.
 #[derive(Clone, Copy, Debug, Drop, PartialEq, Eq)]
@@ -121,6 +151,79 @@ impl fmt::Display for TryRecvError {
 }
 
 impl Error for TryRecvError {}
+
+impl From<RecvError> for TryRecvError {
+    ghost use Rattle.priority_channel_core.specs.declared.errors.TryRecvError.{TryRecvError};
+
+    ghost from_gives = { λ _ error. error ≡ TryRecvError.Closed };
+
+    fn from(_closed: RecvError) -> TryRecvError {
+        TryRecvError::Closed
+    }
+}
+
+/// Why a batch brought nothing.
+#[derive(Clone, Copy, Debug, Drop, PartialEq, Eq)]
+pub enum TryRecvManyError {
+    /// No message is pending.
+    Empty,
+    /// No message is pending, and the channel is closed, so none will come.
+    Closed,
+    /// There is no memory for what was to come.
+    Memory,
+}
+
+impl TryRecvManyError {
+    /// Whether the channel was open and empty, so that a message may still come.
+    pub fn is_empty(&self) -> bool
+        ensures { IsTrue result ↔ (self.now ≡ TryRecvManyError.Empty) }
+    {
+        matches!(self, TryRecvManyError::Empty)
+    }
+
+    /// Whether the channel was closed and empty, so that no message will come.
+    pub fn is_closed(&self) -> bool
+        ensures { IsTrue result ↔ (self.now ≡ TryRecvManyError.Closed) }
+    {
+        matches!(self, TryRecvManyError::Closed)
+    }
+
+    /// Whether there was no memory for what was to come.
+    pub fn is_memory(&self) -> bool
+        ensures { IsTrue result ↔ (self.now ≡ TryRecvManyError.Memory) }
+    {
+        matches!(self, TryRecvManyError::Memory)
+    }
+}
+
+impl fmt::Display for TryRecvManyError {
+    ghost use Rattle.priority_channel_core.specs.Errors.{try_recv_many_error_text};
+
+    ghost output = { λ error. Some (try_recv_many_error_text error) };
+
+    fn fmt<W: fmt::Write>(&self, f: &mut fmt::Formatter<W>) -> fmt::Result {
+        f.write_str(match self {
+            TryRecvManyError::Empty => "receiving from an empty channel",
+            TryRecvManyError::Closed => "receiving from an empty and closed channel",
+            TryRecvManyError::Memory => "no memory for receiving",
+        })
+    }
+}
+
+impl Error for TryRecvManyError {}
+
+impl From<TryRecvError> for TryRecvManyError {
+    ghost use Rattle.priority_channel_core.specs.Errors.{batch_error_for};
+
+    ghost from_gives = { λ error many. many ≡ batch_error_for error };
+
+    fn from(error: TryRecvError) -> TryRecvManyError {
+        match error {
+            TryRecvError::Empty => TryRecvManyError::Empty,
+            TryRecvError::Closed => TryRecvManyError::Closed,
+        }
+    }
+}
 
 /// The channel is closed. It holds what was to be sent.
 #[derive(Clone, Copy, Drop, PartialEq, Eq)]
@@ -187,6 +290,20 @@ impl<T> SendFault<T> {
             SendFault::Closed(SendError(held)) | SendFault::Memory(held) => held,
         }
     }
+
+    /// Whether the channel was closed, so that it takes nothing any more.
+    pub fn is_closed(&self) -> bool
+        ensures { IsTrue result ↔ ((closed : SendError T) × (self.now ≡ SendFault.Closed closed)) }
+    {
+        matches!(self, SendFault::Closed(_))
+    }
+
+    /// Whether there was no memory, for what was to be sent or for waiting.
+    pub fn is_memory(&self) -> bool
+        ensures { IsTrue result ↔ (self.now ≡ SendFault.Memory (unsent self.now)) }
+    {
+        matches!(self, SendFault::Memory(_))
+    }
 }
 
 impl<T> fmt::Display for SendFault<T> {
@@ -217,13 +334,39 @@ impl<T> fmt::Debug for SendFault<T> {
 
 impl<T: Drop> Error for SendFault<T> {}
 
+impl<T> From<SendError<T>> for SendFault<T> {
+    ghost use Rattle.priority_channel_core.specs.declared.errors.SendFault.{SendFault};
+
+    ghost from_gives = { λ closed fault. fault ≡ SendFault.Closed closed };
+
+    fn from(closed: SendError<T>) -> SendFault<T> {
+        SendFault::Closed(closed)
+    }
+}
+
 /// Why a receive that waits has ended.
 #[derive(Clone, Copy, Debug, Drop, PartialEq, Eq)]
 pub enum RecvFault {
     /// The channel is closed and empty.
     Closed(RecvError),
-    /// There is no memory for waiting.
+    /// There is no memory, for waiting or for the place of many messages.
     Memory,
+}
+
+impl RecvFault {
+    /// Whether the channel was closed and empty, so that no message will come.
+    pub fn is_closed(&self) -> bool
+        ensures { IsTrue result ↔ ((closed : RecvError) × (self.now ≡ RecvFault.Closed closed)) }
+    {
+        matches!(self, RecvFault::Closed(_))
+    }
+
+    /// Whether there was no memory for waiting.
+    pub fn is_memory(&self) -> bool
+        ensures { IsTrue result ↔ (self.now ≡ RecvFault.Memory) }
+    {
+        matches!(self, RecvFault::Memory)
+    }
 }
 
 impl fmt::Display for RecvFault {
@@ -240,3 +383,13 @@ impl fmt::Display for RecvFault {
 }
 
 impl Error for RecvFault {}
+
+impl From<RecvError> for RecvFault {
+    ghost use Rattle.priority_channel_core.specs.declared.errors.RecvFault.{RecvFault};
+
+    ghost from_gives = { λ closed fault. fault ≡ RecvFault.Closed closed };
+
+    fn from(closed: RecvError) -> RecvFault {
+        RecvFault::Closed(closed)
+    }
+}

@@ -5,6 +5,7 @@ use priority_channel_core::errors::{TryRecvError, TrySendError};
 use std::alloc::{Allocator, Global};
 
 mod bag;
+mod batches;
 mod bulk;
 mod errors;
 mod handles;

@@ -1,5 +1,5 @@
 use priority_channel_core::errors::{
-    RecvError, RecvFault, SendError, SendFault, TryRecvError, TrySendError,
+    RecvError, RecvFault, SendError, SendFault, TryRecvError, TryRecvManyError, TrySendError,
 };
 use std::alloc::{AllocError, Global};
 use std::error::Error;
@@ -51,6 +51,16 @@ fn errors_print_why_and_not_what(rt: HostRuntime) -> Result<(), Fail> {
         "receiving from an empty and closed channel / Closed"
     );
 
+    let empty = printed(alloc, TryRecvManyError::Empty)?;
+    assert_eq!(rt; empty.as_str(), "receiving from an empty channel / Empty");
+    let closed = printed(alloc, TryRecvManyError::Closed)?;
+    assert_eq!(rt;
+        closed.as_str(),
+        "receiving from an empty and closed channel / Closed"
+    );
+    let memory = printed(alloc, TryRecvManyError::Memory)?;
+    assert_eq!(rt; memory.as_str(), "no memory for receiving / Memory");
+
     let closed = printed(alloc, SendFault::Closed(SendError(Opaque)))?;
     assert_eq!(rt;
         closed.as_str(),
@@ -87,17 +97,21 @@ fn errors_are_equal_where_variant_and_content_are(rt: HostRuntime) -> Result<(),
     assert_ne!(rt; TryRecvError::Empty, TryRecvError::Closed);
     assert_eq!(rt; RecvError.clone()?, RecvError);
     assert_ne!(rt; RecvFault::Memory, RecvFault::Closed(RecvError));
+    assert_ne!(rt; TryRecvManyError::Memory, TryRecvManyError::Empty);
+    assert_eq!(rt; TryRecvManyError::Closed.clone()?, TryRecvManyError::Closed);
     Ok(())
 }
 
 #[test]
 fn errors_hand_back_what_was_not_sent(rt: HostRuntime) {
     let refusal = TrySendError::Full(("late", 3));
-    assert!(rt; refusal.is_full() && !refusal.is_closed());
+    assert!(rt; refusal.is_full() && !refusal.is_closed() && !refusal.is_memory());
     assert_eq!(rt; refusal.into_inner(), ("late", 3));
 
     let refusal = TrySendError::Memory(1);
-    assert!(rt; !refusal.is_full() && !refusal.is_closed());
+    assert!(rt; refusal.is_memory() && !refusal.is_full() && !refusal.is_closed());
+    let refusal = TrySendError::Closed(1);
+    assert!(rt; refusal.is_closed() && !refusal.is_full() && !refusal.is_memory());
 
     let Parcel = TrySendError::Closed(Parcel).into_inner();
     let Parcel = SendError(Parcel).into_inner();
@@ -109,4 +123,90 @@ fn errors_hand_back_what_was_not_sent(rt: HostRuntime) {
 fn a_receive_tells_empty_from_closed(rt: HostRuntime) {
     assert!(rt; TryRecvError::Empty.is_empty() && !TryRecvError::Empty.is_closed());
     assert!(rt; TryRecvError::Closed.is_closed() && !TryRecvError::Closed.is_empty());
+}
+
+#[test]
+fn a_wait_tells_closed_from_want_of_memory(rt: HostRuntime) {
+    let closed = SendFault::Closed(SendError(1));
+    assert!(rt; closed.is_closed() && !closed.is_memory());
+    let memory = SendFault::Memory(1);
+    assert!(rt; memory.is_memory() && !memory.is_closed());
+
+    let closed = RecvFault::Closed(RecvError);
+    assert!(rt; closed.is_closed() && !closed.is_memory());
+    assert!(rt; RecvFault::Memory.is_memory() && !RecvFault::Memory.is_closed());
+}
+
+// Whether it is empty, closed, and out of memory.
+fn reasons(error: TryRecvManyError) -> (bool, bool, bool) {
+    (error.is_empty(), error.is_closed(), error.is_memory())
+}
+
+#[test]
+fn a_batch_tells_why_it_brought_nothing(rt: HostRuntime) {
+    assert_eq!(rt; reasons(TryRecvManyError::Empty), (true, false, false));
+    assert_eq!(rt; reasons(TryRecvManyError::Closed), (false, true, false));
+    assert_eq!(rt; reasons(TryRecvManyError::Memory), (false, false, true));
+}
+
+fn as_try_send(ended: Result<(), SendError<u64>>) -> Result<(), TrySendError<u64>> {
+    ended?;
+    Ok(())
+}
+
+fn as_send_fault(ended: Result<(), SendError<u64>>) -> Result<(), SendFault<u64>> {
+    ended?;
+    Ok(())
+}
+
+fn fault_as_try_send(ended: Result<(), SendFault<u64>>) -> Result<(), TrySendError<u64>> {
+    ended?;
+    Ok(())
+}
+
+fn as_try_recv(ended: Result<u64, RecvError>) -> Result<u64, TryRecvError> {
+    Ok(ended?)
+}
+
+fn as_recv_fault(ended: Result<u64, RecvError>) -> Result<u64, RecvFault> {
+    Ok(ended?)
+}
+
+fn as_try_recv_many(received: Result<u64, TryRecvError>) -> Result<u64, TryRecvManyError> {
+    Ok(received?)
+}
+
+#[test]
+fn errors_lead_to_one_another(rt: HostRuntime) {
+    assert_eq!(rt;
+        as_try_send(Err(SendError(1))),
+        Err(TrySendError::Closed(1))
+    );
+    assert_eq!(rt;
+        as_send_fault(Err(SendError(1))),
+        Err(SendFault::Closed(SendError(1)))
+    );
+    let closed = SendFault::Closed(SendError(1));
+    assert_eq!(rt;
+        fault_as_try_send(Err(closed)),
+        Err(TrySendError::Closed(1))
+    );
+    let memory = SendFault::Memory(1);
+    assert_eq!(rt;
+        fault_as_try_send(Err(memory)),
+        Err(TrySendError::Memory(1))
+    );
+
+    assert_eq!(rt; as_try_recv(Err(RecvError)), Err(TryRecvError::Closed));
+    assert_eq!(rt;
+        as_recv_fault(Err(RecvError)),
+        Err(RecvFault::Closed(RecvError))
+    );
+    let empty = TryRecvError::Empty;
+    assert_eq!(rt; as_try_recv_many(Err(empty)), Err(TryRecvManyError::Empty));
+    let closed = TryRecvError::Closed;
+    assert_eq!(rt;
+        as_try_recv_many(Err(closed)),
+        Err(TryRecvManyError::Closed)
+    );
 }
