@@ -1,5 +1,5 @@
 -- What a bulk send gives back is a tail of what it was given, over all of its polls.
-use Rattle.std.proofs.Common.{◌≡◌, ◌+◌, List, drop, refl, drop-drop}
+use Rattle.std.proofs.Common.{◌≡◌, List, refl}
 use Rattle.std.specs.Prelude.{Option, None, Some, IfSome, Result, Ok, Err}
 use Rattle.std.specs.Option.{ForSome, option_map}
 use Rattle.futures.specs.declared.task.Poll.{Poll}
@@ -17,23 +17,13 @@ use Rattle.async_priority_channel.specs.Future.{polled}
 use Rattle.async_priority_channel.specs.Future.Task.{Sendv}
 use Rattle.async_priority_channel.specs.States.{Holding, told_by, handed_back, HoldsTail, IsKeptOf, PollsKept}
 use Rattle.async_priority_channel.specs.Handles.{Underway, HandsBackTail}
+use Rattle.async_priority_channel.specs.Tails.{tail_of_itself, tail_of_tail}
 
 module _ {X M : Type 0} (holds : M → List X → Type 0) (can : M → Type 0) where
-  tail_of_itself : (msgs : M) → HoldsTail holds msgs msgs
-  tail_of_itself msgs = record { at = λ list has. (0, has) }
-
-  tail_of_tail : (first mid last : M) → HoldsTail holds first mid → HoldsTail holds mid last → HoldsTail holds first last
-  tail_of_tail first mid last h k = record {
-    at = λ list has.
-        let one = h.at list has in
-        let other = k.at (drop one.0 list) one.1 in
-        (one.0 + other.0, rw (drop-drop other.0 one.0 list) at other.1);
-  }
-
   -- given up at once
   pub hands_back_all : (future : Underway M) (rest : M) → future.state.kept ≡ Some rest → ForSome future.state.kept can
       → HandsBackTail holds can future (Err (send_fault.Memory rest))
-  hands_back_all future rest is h = (h rest is, rw is (tail_of_itself rest))
+  hands_back_all future rest is h = (h rest is, rw is (tail_of_itself holds rest))
 
   -- after a poll that was ready
   pub hands_back_unsent : (future : Underway M) (polled : Poll (Result (Unit {0}) (SendFault M))) → IfSome (handed_back polled) can
@@ -50,7 +40,7 @@ module _ {X M : Type 0} (holds : M → List X → Type 0) (can : M → Type 0) w
       → IfSome first (λ msgs. HoldsTail holds msgs last)
   still None mid last some h k = tt
   still (Some msgs) None last some h k = absurd (cc)
-  still (Some msgs) (Some rest) last some h k = tail_of_tail msgs rest last h k
+  still (Some msgs) (Some rest) last some h k = tail_of_tail holds msgs rest last h k
 
   some_of : {A : Type 0} (f : M → A) (kept : Option M) (a : A) → option_map f kept ≡ Some a → (held : M) × (kept ≡ Some held)
   some_of f None a e = absurd (cc)

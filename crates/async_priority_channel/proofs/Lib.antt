@@ -11,6 +11,7 @@ pub mod Fronts
 pub mod HandedBack
 pub mod Hands
 pub mod Histories
+pub mod LeftOver
 pub mod Lookups
 pub mod Places
 pub mod PollEnds

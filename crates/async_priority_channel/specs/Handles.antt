@@ -1,5 +1,5 @@
 -- What handles and futures show of their channel. What is behind its lock, no value shows.
-use Rattle.std.specs.Prelude.{◌≡◌, ℕ, List, IfErr, IfSome, Some, Result}
+use Rattle.std.specs.Prelude.{◌≡◌, ℕ, Bool, List, IfErr, IfSome, Some, Result}
 use Rattle.priority_channel_core.specs.declared.errors.SendFault.{SendFault}
 use Rattle.priority_channel_core.specs.Errors.{unsent}
 use Rattle.async_priority_channel.specs.States.{Holding, HoldsTail}
@@ -18,6 +18,17 @@ SameChannel one other = other ≡ one
 pub record Underway (K : Type 0) : Type 0 where
   pub channel : Channel
   pub state : Holding K
+
+-- a stream of a channel's messages, and whether it has ended
+pub record Streaming : Type 0 where
+  pub channel : Channel
+  pub has_ended : Bool
+
+-- a future that receives up to so many messages, and whether it has answered
+pub record Batching : Type 0 where
+  pub channel : Channel
+  pub limit : ℕ
+  pub is_done : Bool
 
 -- a fault of a send gives back what it kept
 abbrev pub HandsBack : {K : Type 0} → Underway K → Result (Unit {0}) (SendFault K) → Type 0

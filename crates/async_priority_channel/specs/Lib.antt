@@ -8,3 +8,6 @@ pub mod Handles
 pub mod History
 pub mod Log
 pub mod Passes
+pub mod Waits
+pub mod Tails
+pub mod Batches

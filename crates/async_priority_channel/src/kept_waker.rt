@@ -1,24 +1,38 @@
-//! What the channel keeps of a task that waits.
+//! What the channel keeps of a task or a thread that waits.
 ghost use Rattle.futures.specs.Task.{Hears, IsArmed, Keeps};
 
 use futures::task::{Context, Poll, Source, Waker};
 use priority_channel_core::awaitable_atomics::Wakes;
 use std::alloc::{AllocError, Allocator};
 use std::sync::{Arc, Mutex, Wait};
+use std::thread::Parker;
+use std::time::Duration;
 
-/// A place for the waker of one task, which a future shares with the channel's waiting list and keeps over its polls.
+/// A place where one task or one thread waits, which a future or a blocking call shares with the channel's waiting list
+/// and keeps over its polls.
 ///
 /// A waker wakes its task also when it is dropped. Were each poll to make a new one, then a poll of a future that is
 /// still listed would drop the listed one, wake its own task, and be polled again at once, for ever. In a shared place
 /// a poll finds the waker of its own task, and leaves it.
 pub struct KeptWaker<A: Allocator> {
-    slot: Arc<Mutex<Option<Waker>>, A>,
+    place: Arc<Place, A>,
+}
+
+// Of a task that waits there is a waker, and a thread that waits is parked.
+#[derive(Drop)]
+struct Place {
+    waker: Mutex<Option<Waker>>,
+    parker: Parker,
 }
 
 impl<A: Allocator + Copy> KeptWaker<A> {
     pub fn new(alloc: A) -> Result<Self, AllocError> {
-        let slot = Arc::new(alloc, Mutex::new(None))?;
-        Ok(KeptWaker { slot })
+        let place = Place {
+            waker: Mutex::new(None),
+            parker: Parker::new(),
+        };
+        let place = Arc::new(alloc, place)?;
+        Ok(KeptWaker { place })
     }
 }
 
@@ -29,33 +43,43 @@ impl<A: Allocator> KeptWaker<A> {
         ensures heard { Hears cx.new source.now.id }
         ensures kept { Keeps cx.old cx.new }
     {
-        let mut slot = self.slot.lock(rt);
+        let mut slot = self.place.waker.lock(rt);
         let _pending: Poll<()> = cx.register(source, &mut slot);
         slot.is_some()
     }
 
-    // Wakes the task, once the place's lock is free.
+    /// Parks the thread until it is woken, or so much time has passed. It may end early, and does at once where a wake
+    /// came since it was last parked.
+    pub fn park<R: Wait>(&self, rt: &R, limit: Option<Duration>) {
+        match limit {
+            Some(limit) => self.place.parker.park_timeout(rt, limit),
+            None => self.place.parker.park(rt),
+        }
+    }
+
+    // Wakes the task, once the place's lock is free, and the thread.
     fn wake<R: Wait>(self, rt: &R) {
-        let waker = self.slot.lock(rt).take();
+        let waker = self.place.waker.lock(rt).take();
         drop(waker);
+        self.place.parker.unpark();
     }
 }
 
 // Dropping a clone drops no waker while another is there, so a list can let one go under the channel's lock.
 impl<A: Allocator> Clone for KeptWaker<A> {
     fn clone(&self) -> Result<Self, AllocError> {
-        let slot = Arc::try_clone(&self.slot)?;
-        Ok(KeptWaker { slot })
+        let place = Arc::try_clone(&self.place)?;
+        Ok(KeptWaker { place })
     }
 }
 
 impl<A: Allocator> Drop for KeptWaker<A> {
     fn drop(self) {
-        let KeptWaker { slot: _ } = self;
+        let KeptWaker { place: _ } = self;
     }
 }
 
-/// Wakes each task that was handed out. It takes the locks of their places, and the channel's lock must be free.
+/// Wakes all who were handed out. It takes the locks of their places, and the channel's lock must be free.
 pub fn wake_all<R: Wait, A: Allocator>(rt: &R, wakes: Wakes<KeptWaker<A>, A>) {
     let (room, message) = wakes.into_lists();
     for (_, waker) in room {

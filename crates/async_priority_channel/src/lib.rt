@@ -1,22 +1,40 @@
 //! A priority channel for many parties.
 //!
-//! `bounded`, `bounded_reserved` and `unbounded` make one, `Sender` and `Receiver` are its handles, and `recorded` has
-//! channels that keep the history of their calls.
+//! `bounded`, `bounded_reserved` and `unbounded` make one. `Sender` and `Receiver` are its handles, whose pages list their
+//! calls; `WeakSender` and `WeakReceiver` know a channel and do not keep it open. `recorded` has channels that keep the
+//! history of their calls.
 #![tactic(auto)]
 
+mod attempts;
+mod blocking;
+mod close_on_drop;
+mod iter;
 mod kept_waker;
 pub mod laws;
 mod making;
+mod many;
+mod parked;
+mod peek;
 mod receiver;
 pub mod recorded;
 mod sender;
 mod shared;
+mod stream;
+mod timeouts;
+mod until;
 pub mod waiting;
+mod weak;
 
+pub use close_on_drop::CloseOnDrop;
+pub use iter::{IntoIter, Iter, TryIter};
 pub use making::{Ends, bounded, bounded_reserved, unbounded};
+pub use many::RecvMany;
 pub use priority_channel_core::errors::{
-    RecvError, RecvFault, SendError, SendFault, TryRecvError, TrySendError,
+    RecvError, RecvFault, SendError, SendFault, TryRecvError, TryRecvManyError, TrySendError,
 };
 pub use receiver::Receiver;
 pub use sender::Sender;
+pub use stream::{IntoStream, RecvStream};
+pub use timeouts::{RecvTimeoutError, SendTimeoutError};
 pub use waiting::{Recv, Send, Sendv};
+pub use weak::{WeakReceiver, WeakSender};

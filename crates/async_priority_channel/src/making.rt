@@ -5,11 +5,11 @@ ghost use Rattle.priority_channel_core.specs.State.{opening};
 use crate::receiver::Receiver;
 use crate::sender::Sender;
 use crate::shared::{Core, Handle};
-use std::alloc::{AllocError, Allocator};
+use std::alloc::{AllocError, Allocator, Global};
 use std::sync::Wait;
 
 /// A sender and a receiver of one channel.
-pub type Ends<T, P, R, A> = (Sender<T, P, R, A>, Receiver<T, P, R, A>);
+pub type Ends<T, P, R, A = Global> = (Sender<T, P, R, A>, Receiver<T, P, R, A>);
 
 /// A channel for at most `cap` pending messages. While it is full, `send` waits and `try_send` is refused.
 ///
@@ -35,8 +35,8 @@ pub fn bounded<T: Drop, P: Ord + Drop, R: Wait + Clone, A: Allocator + Copy>(
 }
 
 /// A channel for at most `cap` pending messages, whose memory is taken here: no later `try_send` or `try_sendv` is
-/// refused for want of memory before 2^64 - 1 messages were accepted. A future that is polled still asks for a place for
-/// its waker, and for one in the list of those who wait. The error is that memory was refused.
+/// refused for want of memory before 2^64 - 1 messages were accepted. Who has to wait still asks for a place to
+/// wait in, and for one in the list of those who wait. The error is that memory was refused.
 ///
 /// ```
 /// let (tx, rx) = bounded_reserved(&rt, rt.alloc(), 1)?;

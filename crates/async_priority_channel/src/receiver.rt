@@ -9,13 +9,32 @@ use priority_channel_core::errors::TryRecvError;
 use std::alloc::{AllocError, Allocator, Global};
 use std::fmt;
 use std::marker::Model;
+use std::random::RandomSource;
 use std::sync::Wait;
 
 /// Receives the messages of a channel, the greatest priority first, and the one accepted first among equals.
 ///
-/// Each call but `capacity` takes the channel's lock once, for one step, and then wakes whom it lets go on: a receive
-/// wakes all senders that wait, and those that find no room wait again. A handle can be moved to other threads, lent to
-/// them, and cloned: each message goes to one receiver. The channel closes when its last receiver is dropped.
+/// | | at once | waits on its thread | for a limited time | for a task |
+/// |---|---|---|---|---|
+/// | a message | `try_recv` | `recv_blocking` | `recv_timeout`, `recv_deadline` | `recv` |
+/// | many messages | `try_recv_many` | `recv_many_blocking` | | `recv_many` |
+/// | one after another | `try_iter` | `iter`, `for pair in &rx`, `for pair in rx` | | `stream`, `into_stream` |
+/// | a look | `peek_priority`, `peek_with` | | | |
+///
+/// Beside them: `close`, `close_on_drop`, `downgrade`, `same_channel`, `clone`, and the looks `is_closed`, `is_empty`,
+/// `is_full`, `len`, `capacity`, `sender_count` and `receiver_count`.
+///
+/// A call that answers at once takes the channel's lock for one step, and then wakes whom it lets go on: a receive wakes
+/// all senders that wait, and those that find no room wait again. A call that waits makes such a step each time that it
+/// looks, and a receive of many looks at the length before. `capacity`, `same_channel`, `downgrade` and what makes a
+/// future, a stream, an iterator or a guard take no lock. A handle can be moved to other threads, lent to them, and
+/// cloned: each message goes to one receiver. The channel closes when its last receiver is dropped.
+///
+/// Of its user's code the channel calls under the lock the order of priorities, what `peek_with` is given, and the clone
+/// of a priority that `peek_priority` makes. These must neither use the channel nor own a handle of it.
+///
+/// What is pending then stays in memory as long as there is a handle of the channel, and with it what the messages own: a
+/// client that waits for the answer to a request that nobody will receive waits for ever. `close_on_drop` lets it go.
 pub struct Receiver<T, P: Ord, R: Wait + Clone, A: Allocator + Copy = Global> {
     pub(crate) handle: Handle<T, P, R, A>,
 }
@@ -29,6 +48,24 @@ impl<T, P: Ord, R: Wait + Clone, A: Allocator + Copy> Model for Receiver<T, P, R
 }
 
 impl<T: Drop, P: Ord + Drop, R: Wait + Clone, A: Allocator + Copy> Receiver<T, P, R, A> {
+    /// Receives a message as soon as there is one: a future, which does nothing until it is polled. Dropped before it
+    /// has answered, it takes nothing. Its fault is `Closed`, where none can come any more, or `Memory` where memory was
+    /// refused, also for the place for its waker, for which its first poll asks.
+    ///
+    /// Of the two `?` below the first is for `block_on`, and the second for the fault.
+    ///
+    /// ```
+    /// let (job, priority) = block_on(&rt, rx.recv())??;
+    /// ```
+    pub fn recv(&self) -> Recv<'_, T, P, R, A>
+        ensures channel { result.channel ≡ self.now }
+        ensures fresh { result.state ≡ unpolled tt }
+    {
+        Recv::new(self)
+    }
+}
+
+impl<T, P: Ord, R: Wait + Clone, A: Allocator + Copy> Receiver<T, P, R, A> {
     pub(crate) fn over(handle: Handle<T, P, R, A>) -> Self
         ensures { result ≡ handle }
     {
@@ -51,22 +88,6 @@ impl<T: Drop, P: Ord + Drop, R: Wait + Clone, A: Allocator + Copy> Receiver<T, P
         let (received, wakes) = self.handle.lock().try_recv();
         self.handle.wake_all(wakes);
         received
-    }
-
-    /// Receives a message as soon as there is one: a future, which does nothing until it is polled. Dropped before it
-    /// has answered, it takes nothing. Its fault is `Closed`, where none can come any more, or `Memory` where memory was
-    /// refused, also for the place for its waker, for which its first poll asks.
-    ///
-    /// Of the two `?` below the first is for `block_on`, and the second for the fault.
-    ///
-    /// ```
-    /// let (job, priority) = block_on(&rt, rx.recv())??;
-    /// ```
-    pub fn recv(&self) -> Recv<'_, T, P, R, A>
-        ensures channel { result.channel ≡ self.now }
-        ensures fresh { result.state ≡ unpolled tt }
-    {
-        Recv::new(self)
     }
 
     /// Closes the channel for good, and tells whether it was open. What is pending can still be received. All who wait
@@ -107,6 +128,17 @@ impl<T: Drop, P: Ord + Drop, R: Wait + Clone, A: Allocator + Copy> Receiver<T, P
         self.handle.capacity()
     }
 
+    /// Whether the other is a receiver of the same channel.
+    ///
+    /// A channel draws 128 random bits where it is compared for the first time, and is known by them: so the permission has
+    /// to be a `RandomSource` too.
+    pub fn same_channel(&self, other: &Receiver<T, P, R, A>) -> bool
+    where
+        R: RandomSource,
+    {
+        self.handle.is_same(&other.handle)
+    }
+
     /// How many senders the channel has.
     pub fn sender_count(&self) -> usize {
         self.handle.sender_count()
@@ -145,8 +177,23 @@ impl<T: Drop, P: Ord + Drop, R: Wait + Clone, A: Allocator + Copy> Drop for Rece
         } else {
             core.nobody()
         };
+        let receivers = core.receiver_count();
         drop(core);
         handle.wake_all(wakes);
+        if receivers == 0 && handle.lets_go() {
+            let_go(&handle);
+        }
+    }
+}
+
+// Drops what is pending in a channel without receivers, each message after the lock is free, since it may use the channel.
+fn let_go<T: Drop, P: Ord + Drop, R: Wait + Clone, A: Allocator + Copy>(
+    handle: &Handle<T, P, R, A>,
+) {
+    for _ in 0..handle.len() {
+        let (received, wakes) = handle.lock().try_recv();
+        handle.wake_all(wakes);
+        drop(received);
     }
 }
 

@@ -13,13 +13,23 @@ use std::alloc::{AllocError, Allocator, Global};
 use std::fmt;
 use std::iter::Peekable;
 use std::marker::Model;
+use std::random::RandomSource;
 use std::sync::Wait;
 
 /// Sends messages into a channel, each with a priority.
 ///
-/// Each call but `capacity` takes the channel's lock once, for one step, and then wakes whom it lets go on: a message
-/// wakes all receivers that wait, and those that find nothing wait again. A handle can be moved to other threads, lent to
-/// them, and cloned; the channel closes when its last sender is dropped.
+/// | | at once | waits on its thread | for a limited time | as a future |
+/// |---|---|---|---|---|
+/// | a message | `try_send` | `send_blocking` | `send_timeout`, `send_deadline` | `send` |
+/// | many messages | `try_sendv` | `sendv_blocking` | `sendv_timeout`, `sendv_deadline` | `sendv` |
+///
+/// Beside them: `close`, `close_on_drop`, `downgrade`, `same_channel`, `clone`, and the looks `is_closed`, `is_empty`,
+/// `is_full`, `len`, `capacity`, `sender_count` and `receiver_count`.
+///
+/// A call that answers at once takes the channel's lock for one step, and then wakes whom it lets go on: a message wakes
+/// all receivers that wait, and those that find nothing wait again. A call that waits makes such a step each time that it
+/// looks. `capacity`, `same_channel`, `downgrade` and what makes a future or a guard take no lock. A handle can be moved to
+/// other threads, lent to them, and cloned; the channel closes when its last sender is dropped.
 ///
 /// Of its user's code the channel calls under the lock the order of priorities, and the iterator of a bulk send and its
 /// drop. These must neither use the channel nor own a handle of it.
@@ -36,30 +46,6 @@ impl<T, P: Ord, R: Wait + Clone, A: Allocator + Copy> Model for Sender<T, P, R, 
 }
 
 impl<T: Drop, P: Ord + Drop, R: Wait + Clone, A: Allocator + Copy> Sender<T, P, R, A> {
-    pub(crate) fn over(handle: Handle<T, P, R, A>) -> Self
-        ensures { result ≡ handle }
-    {
-        Sender { handle }
-    }
-
-    /// Sends a message at once, or gives it back: `Closed` where the channel is closed, `Full` where it has no room,
-    /// and `Memory` where none could be made.
-    ///
-    /// It compares priorities at most as often as the number of pending messages, with this one, has binary digits.
-    ///
-    /// ```
-    /// if let Err(TrySendError::Full((job, priority))) = tx.try_send(job, 7) {
-    ///     block_on(&rt, tx.send(job, priority))??;
-    /// }
-    /// ```
-    pub fn try_send(&self, msg: T, priority: P) -> Result<(), TrySendError<(T, P)>>
-        ensures { IfErr result (λ error. refused error ≡ (msg, priority)) }
-    {
-        let (sent, wakes) = self.handle.lock().try_send(msg, priority);
-        self.handle.wake_all(wakes);
-        sent
-    }
-
     /// Sends as many messages as there is room for, in one step, and gives back the rest: `Closed` where the channel is
     /// closed, `Full` where there was no more room, and `Memory` where none could be made. What was sent stays sent, and
     /// the rest can be sent again.
@@ -118,6 +104,32 @@ impl<T: Drop, P: Ord + Drop, R: Wait + Clone, A: Allocator + Copy> Sender<T, P, 
     {
         Sendv::new(self, msgs)
     }
+}
+
+impl<T, P: Ord, R: Wait + Clone, A: Allocator + Copy> Sender<T, P, R, A> {
+    pub(crate) fn over(handle: Handle<T, P, R, A>) -> Self
+        ensures { result ≡ handle }
+    {
+        Sender { handle }
+    }
+
+    /// Sends a message at once, or gives it back: `Closed` where the channel is closed, `Full` where it has no room,
+    /// and `Memory` where none could be made.
+    ///
+    /// It compares priorities at most as often as the number of pending messages, with this one, has binary digits.
+    ///
+    /// ```
+    /// if let Err(TrySendError::Full((job, priority))) = tx.try_send(job, 7) {
+    ///     block_on(&rt, tx.send(job, priority))??;
+    /// }
+    /// ```
+    pub fn try_send(&self, msg: T, priority: P) -> Result<(), TrySendError<(T, P)>>
+        ensures { IfErr result (λ error. refused error ≡ (msg, priority)) }
+    {
+        let (sent, wakes) = self.handle.lock().try_send(msg, priority);
+        self.handle.wake_all(wakes);
+        sent
+    }
 
     /// Closes the channel for good, and tells whether it was open. What is pending can still be received. All who wait
     /// are woken.
@@ -155,6 +167,17 @@ impl<T: Drop, P: Ord + Drop, R: Wait + Clone, A: Allocator + Copy> Sender<T, P, 
         ensures { result ≡ capacity_told self.now.capacity }
     {
         self.handle.capacity()
+    }
+
+    /// Whether the other is a sender of the same channel.
+    ///
+    /// A channel draws 128 random bits where it is compared for the first time, and is known by them: so the permission has
+    /// to be a `RandomSource` too.
+    pub fn same_channel(&self, other: &Sender<T, P, R, A>) -> bool
+    where
+        R: RandomSource,
+    {
+        self.handle.is_same(&other.handle)
     }
 
     /// How many senders the channel has.

@@ -10,7 +10,9 @@ use priority_channel_core::awaitable_atomics::Wakes;
 use priority_channel_core::channel::PriorityQueueChannel;
 use std::alloc::{AllocError, Allocator};
 use std::marker::Model;
-use std::sync::{Arc, Mutex, MutexGuard, Wait};
+use std::random::RandomSource;
+use std::sync::atomic::{AtomicBool, Ordering};
+use std::sync::{Arc, Mutex, MutexGuard, OnceLock, Wait, WaitMethods};
 
 pub type Core<T, P, A> = PriorityQueueChannel<T, P, KeptWaker<A>, A>;
 
@@ -22,6 +24,10 @@ struct Shared<T, P: Ord, A: Allocator + Copy> {
     room: Source,
     message: Source,
     core: Mutex<Core<T, P, A>>,
+    // Whether what is pending goes with the last receiver.
+    lets_go: AtomicBool,
+    // Which channel it is, drawn where channels are compared for the first time.
+    identity: OnceLock<u128>,
 }
 
 impl<T, P: Ord, A: Allocator + Copy> Model for Shared<T, P, A> {
@@ -70,13 +76,17 @@ impl<T: Drop, P: Ord + Drop, R: Wait + Clone, A: Allocator + Copy> Handle<T, P, 
                     room: Source::new(),
                     message: Source::new(),
                     core: Mutex::new(core),
+                    lets_go: AtomicBool::new(false),
+                    identity: OnceLock::new(),
                 },
             )?,
         };
         let other = one.share()?;
         Ok((one, other))
     }
+}
 
+impl<T, P: Ord, R: Wait + Clone, A: Allocator + Copy> Handle<T, P, R, A> {
     /// A further part in the channel. It changes no count.
     pub fn share(&self) -> Result<Self, AllocError>
         ensures { IfOk result (λ other. other ≡ self.now) }
@@ -107,8 +117,19 @@ impl<T: Drop, P: Ord + Drop, R: Wait + Clone, A: Allocator + Copy> Handle<T, P, 
         &self.shared.message
     }
 
-    /// Leaves the task's waker in a future's place, which is made at the first poll. None where the place or the waker
-    /// was refused.
+    pub fn rt(&self) -> &R {
+        &self.rt
+    }
+
+    /// The place of a party, which is made where it waits for the first time. None where it was refused.
+    pub fn place_in<'k>(&self, place: &'k mut Option<KeptWaker<A>>) -> Option<&'k KeptWaker<A>> {
+        if place.is_none() {
+            *place = Some(KeptWaker::new(self.shared.alloc).ok()?);
+        }
+        place.as_ref()
+    }
+
+    /// Leaves the task's waker in a future's place. None where the place or the waker was refused.
     pub fn register<'k>(
         &self,
         cx: &mut Context<'_>,
@@ -118,15 +139,40 @@ impl<T: Drop, P: Ord + Drop, R: Wait + Clone, A: Allocator + Copy> Handle<T, P, 
         ensures heard { IsSome result → IsArmed cx.new × Hears cx.new source.now.id }
         ensures kept { Keeps cx.old cx.new }
     {
-        if place.is_none() {
-            *place = Some(KeptWaker::new(self.shared.alloc).ok()?);
-        }
-        let kept = place.as_ref()?;
+        let kept = self.place_in(place)?;
         if kept.register(&self.rt, cx, source) {
             Some(kept)
         } else {
             None
         }
+    }
+
+    /// What is pending once the last receiver goes will go with it.
+    pub fn let_go_at_last(&self) {
+        self.shared.lets_go.store(true, Ordering::SeqCst);
+    }
+
+    pub fn lets_go(&self) -> bool {
+        self.shared.lets_go.load(Ordering::SeqCst)
+    }
+
+    /// Whether both are parts in one channel. The language compares no pointers into two blocks, so each channel has 128
+    /// random bits, which two channels share with a chance of 2^-128.
+    pub fn is_same(&self, other: &Self) -> bool
+    where
+        R: RandomSource,
+    {
+        self.identity() == other.identity()
+    }
+
+    fn identity(&self) -> u128
+    where
+        R: RandomSource,
+    {
+        *self
+            .shared
+            .identity
+            .get_or_init(&self.rt, || draw_bits(&self.rt))
     }
 
     pub fn close(&self) -> bool {
@@ -169,4 +215,15 @@ impl<T: Drop, P: Ord + Drop, R: Wait + Clone, A: Allocator + Copy> Handle<T, P, 
         }
         Some(capacity)
     }
+}
+
+// So few bits are refused to nobody; where they were, they are asked for again.
+fn draw_bits<R: Wait + RandomSource>(rt: &R) -> u128 {
+    let mut bytes = [0; 16];
+    for _ in rt.forever() {
+        if rt.fill_bytes(&mut bytes).is_ok() {
+            return u128::from_le_bytes(bytes);
+        }
+    }
+    unreachable!()
 }

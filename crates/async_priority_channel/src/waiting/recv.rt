@@ -19,6 +19,7 @@ use std::sync::Wait;
 ///
 /// Its fault is `Closed`, where none can come any more, or `Memory`, where memory was refused. Polled again after its
 /// answer it is pending, changes nothing, and asks to be polled once more, so it should not be polled on.
+#[must_use = "a future does nothing until it is polled: `block_on`, or a call that ends in `_blocking`"]
 pub struct Recv<'a, T, P: Ord, R: Wait + Clone, A: Allocator + Copy = Global> {
     receiver: &'a Receiver<T, P, R, A>,
     state: RecvState,

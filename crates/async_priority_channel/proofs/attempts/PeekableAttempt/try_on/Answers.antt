@@ -1,0 +1,10 @@
+use Rattle.priority_channel_core.specs.Lists.{HasList}
+use Rattle.async_priority_channel.specs.States.{HoldsTail}
+use Rattle.async_priority_channel.proofs.LeftOver.{left_of_try}
+use Rattle.async_priority_channel.proofs.StateLemmas.{refused_tail}
+use Rattle.async_priority_channel.proofs.attempts.PeekableAttempt.try_on.Goals as goal
+
+pub returns-clause-tail : goal.returns-clause-tail
+returns-clause-tail g c =
+    rw c.send_tried.ensures (left_of_try (HoldsTail (HasList g.I.Iterator.next_gives) c.args.self) c.try_sendv-sent.result.0
+    (refused_tail (HasList g.I.Iterator.next_gives) g.P.Ord.cmp _ _ _ _ _ _ c.try_sendv-sent.ensures.step))

@@ -1,0 +1,9 @@
+use Rattle.priority_channel_core.specs.Lists.{HasList}
+use Rattle.async_priority_channel.specs.Waits.{unsent_in_time}
+use Rattle.async_priority_channel.specs.States.{HoldsTail}
+use Rattle.async_priority_channel.proofs.LeftOver.{held_by_error}
+use Rattle.async_priority_channel.proofs.sender.Sender.sendv_deadline.Goals as goal
+
+pub returns-in_err-wait-clause-tail : goal.returns-in_err-wait-clause-tail
+returns-in_err-wait-clause-tail g c =
+    held_by_error (HoldsTail (HasList g.I.Iterator.next_gives) c.args.msgs) _ unsent_in_time _ c.from_residual.result c.from_residual.ensures.1 c.in_err-wait.ensures.1

@@ -1,0 +1,219 @@
+//! What a party is to do on the core: at once, or once it has waited.
+ghost use Rattle.std.specs.Prelude.{◌≡◌, ⊤, IfSome, refl};
+ghost use Rattle.std.proofs.Common.{◌∙◌};
+ghost use Rattle.std.specs.Iterator.Adapters.{peekable_can};
+ghost use Rattle.priority_channel_core.specs.Lists.{HasList};
+ghost use Rattle.priority_channel_core.specs.Step.{Step};
+ghost use Rattle.priority_channel_core.specs.Bulk.{Performs};
+ghost use Rattle.async_priority_channel.specs.States.{HoldsTail};
+ghost use Rattle.async_priority_channel.specs.Waits.{left_over, waits_under, outcome_of_try, outcome_of_poll, recv_tried, recv_polled};
+ghost use Rattle.async_priority_channel.specs.Tails.{tail_of_itself, tail_of_tail};
+
+use crate::kept_waker::KeptWaker;
+use crate::shared::Core;
+use priority_channel_core::awaitable_atomics::Wakes;
+use priority_channel_core::calls::{Answer, Call, CorePoll};
+use priority_channel_core::errors::{RecvFault, SendError, SendFault, TryRecvError, TrySendError};
+use std::alloc::Allocator;
+use std::iter::Peekable;
+
+/// What came of an attempt. What was not done comes back.
+pub enum Outcome<D, C> {
+    Done(D),
+    /// There was no room, or no message.
+    Blocked(C),
+    Closed(C),
+    Memory(C),
+}
+
+/// A call that can be attempted until it is done. It need not be `Drop`: whoever attempts it can lose nothing of it.
+pub trait Attempt<T, P: Ord, A: Allocator + Copy>: Sized {
+    type Done;
+
+    // Holds of what may be attempted.
+    ghost can_attempt: { Self → Type 0 } = { λ _. ⊤ };
+
+    // Holds of a call and of what may come back of it.
+    ghost leaves: { Self → Self → Type 0 };
+
+    /// The call, in one step.
+    fn try_on(self, core: &mut Core<T, P, A>) -> (Outcome<Self::Done, Self>, Wakes<KeptWaker<A>, A>)
+        requires { can_attempt self }
+        ensures { IfSome (left_over result.0) (λ rest. can_attempt rest × leaves self rest) };
+
+    /// The call, in one step, or to wait under the ticket in the place, where it is blocked.
+    fn poll_on(
+        self,
+        core: &mut Core<T, P, A>,
+        ticket: &mut Option<u64>,
+        place: &KeptWaker<A>,
+    ) -> (Outcome<Self::Done, Self>, Wakes<KeptWaker<A>, A>)
+        requires { can_attempt self }
+        ensures { IfSome (left_over result.0) (λ rest. can_attempt rest × leaves self rest) };
+
+    ghost whole: { (call : Self) → leaves call call };
+
+    ghost still: { (first next last : Self) → leaves first next → leaves next last → leaves first last };
+}
+
+/// A receive of one pair.
+#[derive(Clone, Copy)]
+pub struct Receive;
+
+impl<T, P: Ord, A: Allocator + Copy> Attempt<T, P, A> for Receive {
+    type Done = (T, P);
+
+    ghost leaves = { λ _ _. ⊤ };
+
+    ghost whole = { λ _. tt };
+
+    ghost still = { λ _ _ _ _ _. tt };
+
+    fn try_on(self, core: &mut Core<T, P, A>) -> (Outcome<(T, P), Self>, Wakes<KeptWaker<A>, A>)
+        ensures step { (reply : _) × (result.0 ≡ recv_tried self reply)
+            × Step P.cmp ⟦<KeptWaker<A> as Clone>⟧.is_clone core.old.state
+            Call.TryRecv (Answer.TryRecv reply) result.1 core.new.state }
+    {
+        let (received, wakes) = core.try_recv();
+        let outcome = match received {
+            Ok(pair) => Outcome::Done(pair),
+            Err(TryRecvError::Empty) => Outcome::Blocked(Receive),
+            Err(TryRecvError::Closed) => Outcome::Closed(Receive),
+        };
+        (outcome, wakes)
+    }
+
+    fn poll_on(
+        self,
+        core: &mut Core<T, P, A>,
+        ticket: &mut Option<u64>,
+        place: &KeptWaker<A>,
+    ) -> (Outcome<(T, P), Self>, Wakes<KeptWaker<A>, A>)
+        ensures step { (reply : _) × (result.0 ≡ recv_polled self reply) × (ticket.new ≡ waits_under reply)
+            × Step P.cmp ⟦<KeptWaker<A> as Clone>⟧.is_clone core.old.state
+            (Call.PollRecv ticket.old place.now) (Answer.PollRecv reply) result.1 core.new.state }
+    {
+        let (received, wakes) = core.poll_recv(ticket.take(), place);
+        let outcome = match received {
+            CorePoll::Ready(Ok(pair)) => Outcome::Done(pair),
+            CorePoll::Ready(Err(RecvFault::Closed(_))) => Outcome::Closed(Receive),
+            CorePoll::Ready(Err(RecvFault::Memory)) => Outcome::Memory(Receive),
+            CorePoll::Pending((), given) => {
+                *ticket = Some(given);
+                Outcome::Blocked(Receive)
+            }
+        };
+        (outcome, wakes)
+    }
+}
+
+fn send_tried<C>(sent: Result<(), TrySendError<C>>) -> Outcome<(), C>
+    ensures { result ≡ outcome_of_try sent }
+{
+    match sent {
+        Ok(()) => Outcome::Done(()),
+        Err(TrySendError::Full(rest)) => Outcome::Blocked(rest),
+        Err(TrySendError::Closed(rest)) => Outcome::Closed(rest),
+        Err(TrySendError::Memory(rest)) => Outcome::Memory(rest),
+    }
+}
+
+fn send_polled<C>(
+    sent: CorePoll<Result<(), SendFault<C>>, C>,
+    ticket: &mut Option<u64>,
+) -> Outcome<(), C>
+    ensures outcome { result ≡ outcome_of_poll sent }
+    ensures ticket { ticket.new ≡ waits_under sent }
+{
+    *ticket = None;
+    match sent {
+        CorePoll::Ready(Ok(())) => Outcome::Done(()),
+        CorePoll::Ready(Err(SendFault::Closed(SendError(rest)))) => Outcome::Closed(rest),
+        CorePoll::Ready(Err(SendFault::Memory(rest))) => Outcome::Memory(rest),
+        CorePoll::Pending(rest, given) => {
+            *ticket = Some(given);
+            Outcome::Blocked(rest)
+        }
+    }
+}
+
+/// A send of one pair.
+impl<T, P: Ord, A: Allocator + Copy> Attempt<T, P, A> for (T, P) {
+    type Done = ();
+
+    ghost leaves = { λ pair rest. rest ≡ pair };
+
+    ghost whole = { λ _. refl };
+
+    ghost still = { λ _ _ _ one other. other ∙ one };
+
+    fn try_on(self, core: &mut Core<T, P, A>) -> (Outcome<(), Self>, Wakes<KeptWaker<A>, A>)
+        ensures whole { IfSome (left_over result.0) (λ rest. rest ≡ self) }
+        ensures step { (reply : _) × (result.0 ≡ outcome_of_try reply)
+            × Step P.cmp ⟦<KeptWaker<A> as Clone>⟧.is_clone core.old.state
+            (Call.TrySend self.0 self.1) (Answer.TrySend reply) result.1 core.new.state }
+    {
+        let (msg, priority) = self;
+        let (sent, wakes) = core.try_send(msg, priority);
+        (send_tried(sent), wakes)
+    }
+
+    fn poll_on(
+        self,
+        core: &mut Core<T, P, A>,
+        ticket: &mut Option<u64>,
+        place: &KeptWaker<A>,
+    ) -> (Outcome<(), Self>, Wakes<KeptWaker<A>, A>)
+        ensures whole { IfSome (left_over result.0) (λ rest. rest ≡ self) }
+        ensures step { (reply : _) × (result.0 ≡ outcome_of_poll reply) × (ticket.new ≡ waits_under reply)
+            × Step P.cmp ⟦<KeptWaker<A> as Clone>⟧.is_clone core.old.state
+            (Call.PollSend self.0 self.1 ticket.old place.now) (Answer.PollSend reply) result.1 core.new.state }
+    {
+        let (msg, priority) = self;
+        let (sent, wakes) = core.poll_send(msg, priority, *ticket, place);
+        (send_polled(sent, ticket), wakes)
+    }
+}
+
+/// A send of many pairs, of which a front may have been sent and the rest comes back.
+impl<T: Drop, P: Ord + Drop, A: Allocator + Copy, I: Iterator<Item = (T, P)>> Attempt<T, P, A>
+    for Peekable<I> {
+    type Done = ();
+
+    ghost can_attempt = { peekable_can I.can_next };
+
+    ghost leaves = { HoldsTail (HasList I.next_gives) };
+
+    ghost whole = { λ msgs. tail_of_itself (HasList I.next_gives) msgs };
+
+    ghost still = { λ first mid last. tail_of_tail (HasList I.next_gives) first mid last };
+
+    fn try_on(self, core: &mut Core<T, P, A>) -> (Outcome<(), Self>, Wakes<KeptWaker<A>, A>)
+        requires { peekable_can I.can_next self }
+        ensures tail { IfSome (left_over result.0) (HoldsTail (HasList I.next_gives) self) }
+        ensures callable { IfSome (left_over result.0) (peekable_can I.can_next) }
+        ensures step { (reply : _) × (result.0 ≡ outcome_of_try reply)
+            × Performs (HasList I.next_gives) P.cmp ⟦<KeptWaker<A> as Clone>⟧.is_clone core.old.state
+            (Call.TrySendv self) (Answer.TrySendv reply) result.1 core.new.state }
+    {
+        let (sent, wakes) = core.try_sendv(self);
+        (send_tried(sent), wakes)
+    }
+
+    fn poll_on(
+        self,
+        core: &mut Core<T, P, A>,
+        ticket: &mut Option<u64>,
+        place: &KeptWaker<A>,
+    ) -> (Outcome<(), Self>, Wakes<KeptWaker<A>, A>)
+        requires { peekable_can I.can_next self }
+        ensures tail { IfSome (left_over result.0) (HoldsTail (HasList I.next_gives) self) }
+        ensures callable { IfSome (left_over result.0) (peekable_can I.can_next) }
+        ensures step { (reply : _) × (result.0 ≡ outcome_of_poll reply) × (ticket.new ≡ waits_under reply)
+            × Performs (HasList I.next_gives) P.cmp ⟦<KeptWaker<A> as Clone>⟧.is_clone core.old.state
+            (Call.PollSendv self ticket.old place.now) (Answer.PollSendv reply) result.1 core.new.state }
+    {
+        let (sent, wakes) = core.poll_sendv(self, *ticket, place);
+        (send_polled(sent, ticket), wakes)
+    }
+}

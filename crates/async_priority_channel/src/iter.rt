@@ -1,0 +1,221 @@
+//! The messages of a channel one after another, for the loop of a worker.
+ghost use Rattle.std.specs.Prelude.{◌≡◌, ◌<◌, IfSome, IfNone, None};
+ghost use Rattle.std.specs.Iterator.{at_most};
+
+use crate::attempts::Receive;
+use crate::kept_waker::KeptWaker;
+use crate::receiver::Receiver;
+use crate::shared::Handle;
+use crate::timeouts::Ended;
+use crate::until::Endless;
+use std::alloc::{Allocator, Global};
+use std::iter::FusedIterator;
+use std::sync::Wait;
+use std::thread::Parker;
+use std::time::Duration;
+
+// How many milliseconds a loop sleeps where memory for waiting is refused, until it looks for a message again.
+const PAUSE: u64 = 1;
+
+// The waits of a loop, with one place for all of them.
+#[derive(Drop)]
+struct Waits<A: Allocator> {
+    place: Option<KeptWaker<A>>,
+    // An end that a loop's proof sees, and no run reaches; none is left once the channel has ended.
+    left: u64,
+}
+
+impl<A: Allocator + Copy> Waits<A> {
+    fn new() -> Self {
+        Waits {
+            place: None,
+            left: u64::MAX,
+        }
+    }
+
+    fn next_on<T, P: Ord, R: Wait + Clone>(&mut self, handle: &Handle<T, P, R, A>) -> Option<(T, P)>
+        ensures shorter { IfSome result (λ _. self.new.left < self.old.left) }
+        ensures ended { IfNone result (self.new.left ≡ 0) }
+        ensures stays_ended { self.old.left ≡ 0 → result ≡ None }
+    {
+        if self.left == 0 {
+            return None;
+        }
+        self.left -= 1;
+        let received = wait_without_fail(handle, &mut self.place);
+        if received.is_none() {
+            self.left = 0;
+        }
+        received
+    }
+}
+
+// Waits until a message is there or none can come. To wait takes memory, and to look does not.
+fn wait_without_fail<T, P: Ord, R: Wait + Clone, A: Allocator + Copy>(
+    handle: &Handle<T, P, R, A>,
+    place: &mut Option<KeptWaker<A>>,
+) -> Option<(T, P)> {
+    for _ in handle.rt().forever() {
+        match handle.wait(Receive, &Endless, place) {
+            Ok(pair) => return Some(pair),
+            Err(Ended::Closed(Receive)) => return None,
+            Err(Ended::Memory(Receive)) => pause(handle.rt()),
+            Err(Ended::Over(Receive, never)) => match never {},
+        }
+    }
+    unreachable!()
+}
+
+// Without memory, and without a clock.
+fn pause<R: Wait>(rt: &R) {
+    Parker::new().park_timeout(rt, Duration::from_millis(PAUSE));
+}
+
+/// The messages of a channel, for each of which the thread waits, until the channel is closed and empty. `Receiver::iter`
+/// and `for pair in &rx` make it.
+///
+/// It never fails: where memory for waiting is refused, it sleeps for a millisecond and looks again. Its waits share one
+/// place.
+#[must_use = "it receives nothing until it is asked for the next message"]
+pub struct Iter<'a, T, P: Ord, R: Wait + Clone, A: Allocator + Copy = Global> {
+    receiver: &'a Receiver<T, P, R, A>,
+    waits: Waits<A>,
+}
+
+impl<'a, T, P: Ord, R: Wait + Clone, A: Allocator + Copy> Drop for Iter<'a, T, P, R, A> {
+    fn drop(self) {
+        let Iter {
+            receiver: _,
+            waits: _,
+        } = self;
+    }
+}
+
+impl<'a, T, P: Ord, R: Wait + Clone, A: Allocator + Copy> Iterator for Iter<'a, T, P, R, A> {
+    type Item = (T, P);
+
+    ghost remaining = { λ s. at_most s.waits.left };
+
+    fn next(&mut self) -> Option<(T, P)> {
+        let receiver = self.receiver;
+        self.waits.next_on(&receiver.handle)
+    }
+}
+
+impl<'a, T, P: Ord, R: Wait + Clone, A: Allocator + Copy> FusedIterator for Iter<'a, T, P, R, A> {}
+
+/// As `Iter`, with a receiver of its own, which goes with it. `for pair in rx` makes it.
+#[derive(Drop)]
+#[must_use = "it receives nothing until it is asked for the next message"]
+pub struct IntoIter<T, P: Ord, R: Wait + Clone, A: Allocator + Copy = Global> {
+    receiver: Receiver<T, P, R, A>,
+    waits: Waits<A>,
+}
+
+impl<T: Drop, P: Ord + Drop, R: Wait + Clone, A: Allocator + Copy> Iterator
+    for IntoIter<T, P, R, A> {
+    type Item = (T, P);
+
+    ghost remaining = { λ s. at_most s.waits.left };
+
+    fn next(&mut self) -> Option<(T, P)> {
+        self.waits.next_on(&self.receiver.handle)
+    }
+}
+
+impl<T: Drop, P: Ord + Drop, R: Wait + Clone, A: Allocator + Copy> FusedIterator
+    for IntoIter<T, P, R, A> {}
+
+/// The messages that are there, until none is. `Receiver::try_iter` makes it. Once it has found none, it stays ended.
+#[must_use = "it receives nothing until it is asked for the next message"]
+pub struct TryIter<'a, T, P: Ord, R: Wait + Clone, A: Allocator + Copy = Global> {
+    receiver: &'a Receiver<T, P, R, A>,
+    // As of `Waits`.
+    left: u64,
+}
+
+impl<'a, T, P: Ord, R: Wait + Clone, A: Allocator + Copy> Drop for TryIter<'a, T, P, R, A> {
+    fn drop(self) {
+        let TryIter {
+            receiver: _,
+            left: _,
+        } = self;
+    }
+}
+
+impl<'a, T, P: Ord, R: Wait + Clone, A: Allocator + Copy> Iterator for TryIter<'a, T, P, R, A> {
+    type Item = (T, P);
+
+    ghost remaining = { λ s. at_most s.left };
+
+    fn next(&mut self) -> Option<(T, P)> {
+        if self.left == 0 {
+            return None;
+        }
+        self.left -= 1;
+        let received = self.receiver.try_recv().ok();
+        if received.is_none() {
+            self.left = 0;
+        }
+        received
+    }
+}
+
+impl<'a, T, P: Ord, R: Wait + Clone, A: Allocator + Copy> FusedIterator
+    for TryIter<'a, T, P, R, A> {}
+
+impl<'a, T, P: Ord, R: Wait + Clone, A: Allocator + Copy> IntoIterator
+    for &'a Receiver<T, P, R, A> {
+    type Item = (T, P);
+
+    type IntoIter = Iter<'a, T, P, R, A>;
+
+    fn into_iter(self) -> Iter<'a, T, P, R, A> {
+        self.iter()
+    }
+}
+
+impl<T: Drop, P: Ord + Drop, R: Wait + Clone, A: Allocator + Copy> IntoIterator
+    for Receiver<T, P, R, A> {
+    type Item = (T, P);
+
+    type IntoIter = IntoIter<T, P, R, A>;
+
+    fn into_iter(self) -> IntoIter<T, P, R, A> {
+        IntoIter {
+            receiver: self,
+            waits: Waits::new(),
+        }
+    }
+}
+
+impl<T, P: Ord, R: Wait + Clone, A: Allocator + Copy> Receiver<T, P, R, A> {
+    /// The messages one after another, each waited for on this thread, until the channel is closed and empty. It is what
+    /// a worker's loop goes over, and its proof sees that the loop ends.
+    ///
+    /// ```
+    /// for (job, priority) in rx.iter() {
+    ///     work(job, priority);
+    /// }
+    /// ```
+    pub fn iter(&self) -> Iter<'_, T, P, R, A> {
+        Iter {
+            receiver: self,
+            waits: Waits::new(),
+        }
+    }
+
+    /// The messages that are there, until none is. It never waits.
+    ///
+    /// ```
+    /// for (job, priority) in rx.try_iter() {
+    ///     put_off(job, priority);
+    /// }
+    /// ```
+    pub fn try_iter(&self) -> TryIter<'_, T, P, R, A> {
+        TryIter {
+            receiver: self,
+            left: u64::MAX,
+        }
+    }
+}

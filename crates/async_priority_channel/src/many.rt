@@ -1,0 +1,246 @@
+//! Receives of many messages.
+ghost use Rattle.std.specs.Prelude.{◌≡◌, ◌<◌, ⊤, ℕ, true, false, IfOk, IfSome, IfNone, OnErr, Result, vec_len, vec_capacity};
+ghost use Rattle.futures.specs.Task.{Covers, Keeps};
+ghost use Rattle.futures.specs.Poll.{IfReady, OnPending};
+ghost use Rattle.priority_channel_core.specs.declared.errors.RecvFault.{RecvFault};
+ghost use Rattle.async_priority_channel.specs.Batches.{Appends, IsWithin};
+
+use crate::attempts::{Outcome, Receive};
+use crate::receiver::Receiver;
+use crate::stream::Receives;
+use futures::Future;
+use futures::task::{Context, Poll};
+use priority_channel_core::errors::{RecvError, RecvFault, TryRecvManyError};
+use std::alloc::{Allocator, Global};
+use std::marker::Model;
+use std::sync::Wait;
+
+impl<T, P: Ord, R: Wait + Clone, A: Allocator + Copy> Receiver<T, P, R, A> {
+    /// Receives up to `limit` messages at once, appends them to `batch`, the greatest priority first, and tells how many
+    /// came: as so many calls of `try_recv` that no other call comes between.
+    ///
+    /// The error is that of one receive, also with a `limit` of 0, or `Memory`, where there is no place for a first
+    /// message. Place for those that are pending is made before the lock is taken; where it is refused, as many come as
+    /// there is place for.
+    ///
+    /// ```
+    /// let mut jobs = Vec::new(rt.alloc());
+    /// let count = rx.try_recv_many(&mut jobs, 64)?;
+    /// ```
+    pub fn try_recv_many<B: Allocator>(
+        &self,
+        batch: &mut Vec<(T, P), B>,
+        limit: usize,
+    ) -> Result<usize, TryRecvManyError>
+        ensures appended { IfOk result (Appends batch.old.items batch.new.items) }
+        ensures limited { IfOk result (IsWithin limit) }
+        ensures unchanged { OnErr result (batch.new.items ≡ batch.old.items) }
+    {
+        make_place(batch, limit, self.len());
+        let place = limit.min(batch.capacity() - batch.len());
+        let (received, wakes) = self.handle.lock().try_recv_many(batch, place);
+        self.handle.wake_all(wakes);
+        match received {
+            Ok(0) if limit > 0 => Err(TryRecvManyError::Memory),
+            Ok(count) => Ok(count),
+            Err(error) => Err(TryRecvManyError::from(error)),
+        }
+    }
+
+    /// As `try_recv_many`, but waits for the first message on this thread, which sleeps meanwhile. With a `limit` of 0 it
+    /// does not wait. Its fault is one of those of `recv_blocking`, or `Memory` for the place in `batch`.
+    ///
+    /// Where it has to wait, it receives the first message as it comes, and right after it what is there by then.
+    ///
+    /// ```
+    /// let count = rx.recv_many_blocking(&mut jobs, 64)?;
+    /// ```
+    pub fn recv_many_blocking<B: Allocator>(
+        &self,
+        batch: &mut Vec<(T, P), B>,
+        limit: usize,
+    ) -> Result<usize, RecvFault>
+        ensures appended { IfOk result (Appends batch.old.items batch.new.items) }
+        ensures limited { IfOk result (IsWithin limit) }
+        ensures unchanged { OnErr result (batch.new.items ≡ batch.old.items) }
+    {
+        if let Some(answer) = self.answer_at_once(batch, limit) {
+            return answer;
+        }
+        let first = self.recv_blocking()?;
+        Ok(self.receive_with(first, batch, limit))
+    }
+
+    // None where it has to wait for a first message, for which there is place then.
+    fn answer_at_once<B: Allocator>(
+        &self,
+        batch: &mut Vec<(T, P), B>,
+        limit: usize,
+    ) -> Option<Result<usize, RecvFault>>
+        ensures appended { IfSome result (λ answer. IfOk answer (Appends batch.old.items batch.new.items)) }
+        ensures limited { IfSome result (λ answer. IfOk answer (IsWithin limit)) }
+        ensures unchanged { IfSome result (λ answer. OnErr answer (batch.new.items ≡ batch.old.items)) }
+        ensures waits { IfNone result ((batch.new.items ≡ batch.old.items) × (vec_len batch.new < vec_capacity batch.new) × (0 < limit)) }
+    {
+        match self.try_recv_many(batch, limit) {
+            Ok(count) => Some(Ok(count)),
+            Err(TryRecvManyError::Closed) => Some(Err(RecvFault::Closed(RecvError))),
+            Err(TryRecvManyError::Memory) => Some(Err(RecvFault::Memory)),
+            Err(TryRecvManyError::Empty) => {
+                if limit == 0 {
+                    return Some(Ok(0));
+                }
+                match batch.reserve(1) {
+                    Ok(()) => None,
+                    Err(_) => Some(Err(RecvFault::Memory)),
+                }
+            }
+        }
+    }
+
+    // The first message, for which there is place, and what is there behind it.
+    fn receive_with<B: Allocator>(
+        &self,
+        first: (T, P),
+        batch: &mut Vec<(T, P), B>,
+        limit: usize,
+    ) -> usize
+        requires place { vec_len batch.old < vec_capacity batch.old }
+        requires positive { 0 < limit }
+        ensures appended { Appends batch.old.items batch.new.items result }
+        ensures limited { IsWithin limit result }
+    {
+        batch.push_reserved(first);
+        match self.try_recv_many(batch, limit - 1) {
+            Ok(more) => more + 1,
+            Err(_) => 1,
+        }
+    }
+
+    /// As `recv_many_blocking`, as a future, which does nothing until it is polled. Dropped before it has answered, it
+    /// takes nothing.
+    ///
+    /// ```
+    /// let count = block_on(&rt, rx.recv_many(&mut jobs, 64))??;
+    /// ```
+    pub fn recv_many<'a, B: Allocator>(
+        &'a self,
+        batch: &'a mut Vec<(T, P), B>,
+        limit: usize,
+    ) -> RecvMany<'a, T, P, B, R, A>
+        ensures { result ≡ record { channel = self.now; limit = limit; is_done = false } }
+    {
+        RecvMany {
+            receiver: self,
+            batch,
+            limit,
+            receives: Receives::new(),
+        }
+    }
+}
+
+// Makes place for what is pending, as far as it is wanted, and for one at least, since it may come before the receive.
+// Where memory is refused, the place that is there has to do.
+fn make_place<X, B: Allocator>(batch: &mut Vec<X, B>, limit: usize, pending: u64)
+    ensures { batch.new.items ≡ batch.old.items }
+{
+    let wanted = usize::try_from(pending).unwrap_or(usize::MAX).max(1);
+    let _ = batch.reserve(limit.min(wanted));
+}
+
+/// Receives many messages once there is one. `Receiver::recv_many` makes it.
+///
+/// Polled again after its answer it is pending, changes nothing, and asks to be polled once more, so it should not be
+/// polled on.
+#[must_use = "a future does nothing until it is polled: `block_on`, or a call that ends in `_blocking`"]
+pub struct RecvMany<'a, T, P: Ord, B: Allocator, R: Wait + Clone, A: Allocator + Copy = Global> {
+    receiver: &'a Receiver<T, P, R, A>,
+    batch: &'a mut Vec<(T, P), B>,
+    limit: usize,
+    receives: Receives<A>,
+}
+
+impl<'a, T, P: Ord, B: Allocator, R: Wait + Clone, A: Allocator + Copy> Model
+    for RecvMany<'a, T, P, B, R, A> {
+    ghost use Rattle.async_priority_channel.specs.Handles.{Batching};
+
+    ghost Value = { Batching };
+
+    ghost view = { λ f. record { channel = f.receiver.now; limit = f.limit; is_done = f.receives.has_ended } };
+}
+
+impl<T, P: Ord, B: Allocator, R: Wait + Clone, A: Allocator + Copy> Future
+    for RecvMany<'_, T, P, B, R, A> {
+    type Output = Result<usize, RecvFault>;
+
+    ghost needs = { λ f source. source ≡ f.channel.message };
+
+    ghost gives = { λ f answer. IfOk answer (IsWithin f.limit) };
+
+    fn poll(&mut self, cx: &mut Context<'_>) -> Poll<Result<usize, RecvFault>>
+        ensures value { IfReady result (λ answer. IfOk answer (IsWithin self.old.limit)) }
+        ensures again { OnPending result ⊤ }
+        ensures same { OnPending result ((x : Result ℕ RecvFault) → IfOk x (IsWithin self.new.limit) → IfOk x (IsWithin self.old.limit)) }
+        ensures registered { OnPending result (Covers cx.new (λ source. source ≡ self.new.channel.message)) }
+        ensures kept { Keeps cx.old cx.new }
+        ensures channel { self.new.channel ≡ self.old.channel }
+        ensures answered { IfReady result (λ _. self.new.is_done ≡ true) }
+        ensures waits { self.old.is_done ≡ false → OnPending result (self.new ≡ self.old) }
+        ensures done { self.old.is_done ≡ true → (result ≡ Poll.Pending) × (self.new ≡ self.old) }
+    {
+        if self.receives.has_ended() {
+            return cx.yield_now();
+        }
+        let receiver = self.receiver;
+        poll_batch(
+            receiver,
+            &mut *self.batch,
+            self.limit,
+            &mut self.receives,
+            cx,
+        )
+    }
+}
+
+// Over the fields of a future that is not done.
+fn poll_batch<T, P: Ord, B: Allocator, R: Wait + Clone, A: Allocator + Copy>(
+    receiver: &Receiver<T, P, R, A>,
+    batch: &mut Vec<(T, P), B>,
+    limit: usize,
+    receives: &mut Receives<A>,
+    cx: &mut Context<'_>,
+) -> Poll<Result<usize, RecvFault>>
+    ensures appended { IfReady result (λ answer. IfOk answer (Appends batch.old.items batch.new.items)) }
+    ensures limited { IfReady result (λ answer. IfOk answer (IsWithin limit)) }
+    ensures unchanged { OnPending result (batch.new.items ≡ batch.old.items) }
+    ensures registered { OnPending result (Covers cx.new (λ source. source ≡ receiver.now.message)) }
+    ensures kept { Keeps cx.old cx.new }
+    ensures answered { IfReady result (λ _. receives.new.has_ended ≡ true) }
+    ensures waits { OnPending result (receives.new.has_ended ≡ receives.old.has_ended) }
+{
+    let answer = match receiver.answer_at_once(batch, limit) {
+        Some(answer) => answer,
+        None => match receives.wait(&receiver.handle, cx) {
+            Outcome::Blocked(Receive) => return Poll::Pending,
+            Outcome::Closed(Receive) => Err(RecvFault::Closed(RecvError)),
+            Outcome::Memory(Receive) => Err(RecvFault::Memory),
+            Outcome::Done(first) => Ok(receiver.receive_with(first, batch, limit)),
+        },
+    };
+    receives.finish(&receiver.handle);
+    Poll::Ready(answer)
+}
+
+// A waker wakes as it is dropped, so the place goes after the lock.
+impl<T, P: Ord, B: Allocator, R: Wait + Clone, A: Allocator + Copy> Drop
+    for RecvMany<'_, T, P, B, R, A> {
+    fn drop(self) {
+        let RecvMany {
+            receiver,
+            batch: _,
+            limit: _,
+            receives,
+        } = self;
+        receives.end(&receiver.handle);
+    }
+}

@@ -1,0 +1,230 @@
+//! The messages of a channel as a stream, for a task.
+ghost use Rattle.std.specs.Prelude.{◌≡◌, ⊤, ℕ, List, [], Option, None, true, false, IfSome, OnSome};
+ghost use Rattle.futures.specs.Task.{Covers, Keeps};
+ghost use Rattle.futures.specs.Poll.{IfReady, OnPending};
+ghost use Rattle.async_priority_channel.specs.Waits.{OnBlocked};
+
+use crate::attempts::{Attempt, Outcome, Receive};
+use crate::kept_waker::KeptWaker;
+use crate::receiver::Receiver;
+use crate::shared::{Core, Handle};
+use futures::Stream;
+use futures::task::{Context, Poll};
+use std::alloc::{Allocator, Global};
+use std::marker::Model;
+use std::sync::Wait;
+
+/// The receives of a task: the ticket of the one that waits, the place of the task, and whether they have ended.
+#[derive(Drop)]
+pub struct Receives<A: Allocator> {
+    ticket: Option<u64>,
+    place: Option<KeptWaker<A>>,
+    has_ended: bool,
+}
+
+impl<A: Allocator + Copy> Receives<A> {
+    pub fn new() -> Self
+        ensures { result.has_ended ≡ false }
+    {
+        Receives {
+            ticket: None,
+            place: None,
+            has_ended: false,
+        }
+    }
+
+    pub fn poll_next_on<T, P: Ord, R: Wait + Clone>(
+        &mut self,
+        handle: &Handle<T, P, R, A>,
+        cx: &mut Context<'_>,
+    ) -> Poll<Option<(T, P)>>
+        ensures registered { OnPending result (Covers cx.new (λ source. source ≡ handle.now.message)) }
+        ensures kept { Keeps cx.old cx.new }
+        ensures ended { IfReady result (λ next. next ≡ None → self.new.has_ended ≡ true) }
+        ensures stays_ended { self.old.has_ended ≡ true → result ≡ Poll.Ready None }
+    {
+        if self.has_ended {
+            return Poll::Ready(None);
+        }
+        let outcome = match self.receive(handle) {
+            Outcome::Blocked(Receive) => self.wait(handle, cx),
+            received => received,
+        };
+        match outcome {
+            Outcome::Done(pair) => Poll::Ready(Some(pair)),
+            Outcome::Blocked(Receive) => Poll::Pending,
+            Outcome::Closed(Receive) => {
+                self.has_ended = true;
+                Poll::Ready(None)
+            }
+            // There may be memory at the next poll, for which the task asks at once.
+            Outcome::Memory(Receive) => cx.yield_now(),
+        }
+    }
+
+    // At once, and without memory.
+    fn receive<T, P: Ord, R: Wait + Clone>(
+        &mut self,
+        handle: &Handle<T, P, R, A>,
+    ) -> Outcome<(T, P), Receive>
+        ensures { self.new.has_ended ≡ self.old.has_ended }
+    {
+        let mut core = handle.lock();
+        let (outcome, wakes) = Receive.try_on(&mut core);
+        if !matches!(&outcome, Outcome::Blocked(_)) {
+            self.give_up_on(&mut core);
+        }
+        drop(core);
+        handle.wake_all(wakes);
+        outcome
+    }
+
+    /// Receives, or waits in the task's place, where nothing was there before.
+    pub fn wait<T, P: Ord, R: Wait + Clone>(
+        &mut self,
+        handle: &Handle<T, P, R, A>,
+        cx: &mut Context<'_>,
+    ) -> Outcome<(T, P), Receive>
+        ensures registered { OnBlocked result (Covers cx.new (λ source. source ≡ handle.now.message)) }
+        ensures kept { Keeps cx.old cx.new }
+        ensures same { self.new.has_ended ≡ self.old.has_ended }
+    {
+        let Some(place) = handle.register(cx, handle.message(), &mut self.place) else {
+            return Outcome::Memory(Receive);
+        };
+        let (outcome, wakes) = Receive.poll_on(&mut handle.lock(), &mut self.ticket, place);
+        handle.wake_all(wakes);
+        outcome
+    }
+
+    fn give_up_on<T, P: Ord>(&mut self, core: &mut Core<T, P, A>)
+        ensures { self.new.has_ended ≡ self.old.has_ended }
+    {
+        if let Some(ticket) = self.ticket.take() {
+            core.give_up(ticket);
+        }
+    }
+
+    /// The last answer was given: nobody waits any more.
+    pub fn finish<T, P: Ord, R: Wait + Clone>(&mut self, handle: &Handle<T, P, R, A>)
+        ensures { self.new.has_ended ≡ true }
+    {
+        self.give_up_on(&mut handle.lock());
+        self.has_ended = true;
+    }
+
+    pub fn has_ended(&self) -> bool
+        ensures { result ≡ self.now.has_ended }
+    {
+        self.has_ended
+    }
+
+    /// Nobody waits any more. A waker wakes as it is dropped, so the place goes after the lock.
+    pub fn end<T, P: Ord, R: Wait + Clone>(self, handle: &Handle<T, P, R, A>) {
+        let mut receives = self;
+        receives.give_up_on(&mut handle.lock());
+        drop(receives);
+    }
+}
+
+/// The messages of a channel as a stream, which ends for good where the channel is closed and empty. `Receiver::stream`
+/// makes it.
+///
+/// What is there is received at once, in one hold of the lock and without memory. To wait takes a place for the task's
+/// waker, which is kept over all waits, and one in the list of those who wait; where either is refused, the task asks to
+/// be polled again at once.
+#[must_use = "a stream does nothing until it is polled: `block_on`, or `for pair in &rx`"]
+pub struct RecvStream<'a, T, P: Ord, R: Wait + Clone, A: Allocator + Copy = Global> {
+    receiver: &'a Receiver<T, P, R, A>,
+    receives: Receives<A>,
+}
+
+impl<'a, T, P: Ord, R: Wait + Clone, A: Allocator + Copy> Model for RecvStream<'a, T, P, R, A> {
+    ghost use Rattle.async_priority_channel.specs.Handles.{Streaming};
+
+    ghost Value = { Streaming };
+
+    ghost view = { λ s. record { channel = s.receiver.now; has_ended = s.receives.has_ended } };
+}
+
+impl<T, P: Ord, R: Wait + Clone, A: Allocator + Copy> Stream for RecvStream<'_, T, P, R, A> {
+    type Item = (T, P);
+
+    ghost needs = { λ s source. source ≡ s.channel.message };
+
+    ghost yields = { λ s pairs next. s.has_ended ≡ true → (pairs ≡ []) × (next ≡ None) };
+
+    fn poll_next(&mut self, cx: &mut Context<'_>) -> Poll<Option<(T, P)>> {
+        let receiver = self.receiver;
+        self.receives.poll_next_on(&receiver.handle, cx)
+    }
+}
+
+impl<T, P: Ord, R: Wait + Clone, A: Allocator + Copy> Drop for RecvStream<'_, T, P, R, A> {
+    fn drop(self) {
+        let RecvStream { receiver, receives } = self;
+        receives.end(&receiver.handle);
+    }
+}
+
+/// As `RecvStream`, with a receiver of its own, which goes with it: a task can take it. `Receiver::into_stream` makes it.
+#[must_use = "a stream does nothing until it is polled: `block_on`, or `for pair in rx`"]
+pub struct IntoStream<T, P: Ord, R: Wait + Clone, A: Allocator + Copy = Global> {
+    receiver: Receiver<T, P, R, A>,
+    receives: Receives<A>,
+}
+
+impl<T, P: Ord, R: Wait + Clone, A: Allocator + Copy> Model for IntoStream<T, P, R, A> {
+    ghost use Rattle.async_priority_channel.specs.Handles.{Streaming};
+
+    ghost Value = { Streaming };
+
+    ghost view = { λ s. record { channel = s.receiver; has_ended = s.receives.has_ended } };
+}
+
+impl<T: Drop, P: Ord + Drop, R: Wait + Clone, A: Allocator + Copy> Stream
+    for IntoStream<T, P, R, A> {
+    type Item = (T, P);
+
+    ghost needs = { λ s source. source ≡ s.channel.message };
+
+    ghost yields = { λ s pairs next. s.has_ended ≡ true → (pairs ≡ []) × (next ≡ None) };
+
+    fn poll_next(&mut self, cx: &mut Context<'_>) -> Poll<Option<(T, P)>> {
+        self.receives.poll_next_on(&self.receiver.handle, cx)
+    }
+}
+
+impl<T: Drop, P: Ord + Drop, R: Wait + Clone, A: Allocator + Copy> Drop for IntoStream<T, P, R, A> {
+    fn drop(self) {
+        let IntoStream { receiver, receives } = self;
+        receives.end(&receiver.handle);
+        drop(receiver);
+    }
+}
+
+impl<T, P: Ord, R: Wait + Clone, A: Allocator + Copy> Receiver<T, P, R, A> {
+    /// The messages as a stream of the kit's `futures`, which ends where the channel is closed and empty.
+    ///
+    /// ```
+    /// let pairs = block_on(&rt, rx.stream().take(10).collect(rt.alloc()))??;
+    /// ```
+    pub fn stream(&self) -> RecvStream<'_, T, P, R, A>
+        ensures { result ≡ record { channel = self.now; has_ended = false } }
+    {
+        RecvStream {
+            receiver: self,
+            receives: Receives::new(),
+        }
+    }
+
+    /// As `stream`, for a task that outlives this receiver.
+    pub fn into_stream(self) -> IntoStream<T, P, R, A>
+        ensures { result ≡ record { channel = self; has_ended = false } }
+    {
+        IntoStream {
+            receiver: self,
+            receives: Receives::new(),
+        }
+    }
+}

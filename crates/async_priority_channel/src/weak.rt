@@ -1,0 +1,179 @@
+//! Handles that keep no channel open.
+ghost use Rattle.std.specs.Prelude.{IfOk, IfSome};
+ghost use Rattle.async_priority_channel.specs.Handles.{SameChannel};
+
+use crate::receiver::Receiver;
+use crate::sender::Sender;
+use crate::shared::Handle;
+use std::alloc::{AllocError, Allocator, Global};
+use std::fmt;
+use std::marker::Model;
+use std::sync::Wait;
+
+/// Knows a channel, and is none of its senders. `Sender::downgrade` makes it.
+///
+/// It keeps no channel open, and cannot open one again. What is pending stays in memory while it is there, also once all
+/// senders and receivers are gone, unless a receiver's `close_on_drop` lets it go.
+///
+/// ```
+/// let weak = tx.downgrade()?;
+/// if let Some(sender) = weak.upgrade() {
+///     sender.try_send("still here", 0)?;
+/// }
+/// ```
+#[derive(Drop)]
+pub struct WeakSender<T, P: Ord, R: Wait + Clone, A: Allocator + Copy = Global> {
+    handle: Handle<T, P, R, A>,
+}
+
+impl<T, P: Ord, R: Wait + Clone, A: Allocator + Copy> Model for WeakSender<T, P, R, A> {
+    ghost use Rattle.async_priority_channel.specs.Handles.{Channel};
+
+    ghost Value = { Channel };
+
+    ghost view = { λ weak. weak.handle };
+}
+
+impl<T: Drop, P: Ord + Drop, R: Wait + Clone, A: Allocator + Copy> WeakSender<T, P, R, A> {
+    /// A further sender of the channel. None where the channel is closed, as it is once its last sender or its last receiver
+    /// is gone, and where a clone of a sender would be refused.
+    pub fn upgrade(&self) -> Option<Sender<T, P, R, A>>
+        ensures { IfSome result (λ sender. SameChannel self.now sender) }
+    {
+        let handle = self.handle.share().ok()?;
+        let mut core = self.handle.lock();
+        if core.is_closed() {
+            return None;
+        }
+        // Last, so that a refusal above leaves the count.
+        if !core.clone_sender() {
+            return None;
+        }
+        drop(core);
+        Some(Sender { handle })
+    }
+}
+
+impl<T, P: Ord, R: Wait + Clone, A: Allocator + Copy> WeakSender<T, P, R, A> {
+    /// Whether the channel is closed, by a call of `close` or by the drop of the last sender or receiver.
+    pub fn is_closed(&self) -> bool {
+        self.handle.is_closed()
+    }
+}
+
+impl<T, P: Ord, R: Wait + Clone, A: Allocator + Copy> Sender<T, P, R, A> {
+    /// A handle that knows the channel and is none of its senders. It changes no count. Refused for want of memory.
+    pub fn downgrade(&self) -> Result<WeakSender<T, P, R, A>, AllocError>
+        ensures { IfOk result (λ weak. SameChannel self.now weak) }
+    {
+        let handle = self.handle.share()?;
+        Ok(WeakSender { handle })
+    }
+}
+
+/// A further weak handle of the channel.
+impl<T: Drop, P: Ord + Drop, R: Wait + Clone, A: Allocator + Copy> Clone
+    for WeakSender<T, P, R, A> {
+    ghost use Rattle.async_priority_channel.specs.Handles.{SameChannel};
+
+    ghost is_clone = { SameChannel };
+
+    fn clone(&self) -> Result<Self, AllocError> {
+        let handle = self.handle.share()?;
+        Ok(WeakSender { handle })
+    }
+}
+
+impl<T, P: Ord, R: Wait + Clone, A: Allocator + Copy> fmt::Debug for WeakSender<T, P, R, A> {
+    ghost use Rattle.std.specs.Prelude.{Some, codes};
+
+    ghost debug_output = { λ _. Some (codes "WeakSender { .. }") };
+
+    fn fmt<W: fmt::Write>(&self, f: &mut fmt::Formatter<W>) -> fmt::Result {
+        f.write_str("WeakSender { .. }")
+    }
+}
+
+/// Knows a channel, and is none of its receivers. `Receiver::downgrade` makes it.
+///
+/// It keeps no channel open, and cannot open one again. What is pending stays in memory while it is there, also once all
+/// receivers and senders are gone, unless a receiver's `close_on_drop` lets it go.
+///
+/// ```
+/// let weak = rx.downgrade()?;
+/// if let Some(receiver) = weak.upgrade() {
+///     work(receiver.try_recv()?);
+/// }
+/// ```
+#[derive(Drop)]
+pub struct WeakReceiver<T, P: Ord, R: Wait + Clone, A: Allocator + Copy = Global> {
+    handle: Handle<T, P, R, A>,
+}
+
+impl<T, P: Ord, R: Wait + Clone, A: Allocator + Copy> Model for WeakReceiver<T, P, R, A> {
+    ghost use Rattle.async_priority_channel.specs.Handles.{Channel};
+
+    ghost Value = { Channel };
+
+    ghost view = { λ weak. weak.handle };
+}
+
+impl<T: Drop, P: Ord + Drop, R: Wait + Clone, A: Allocator + Copy> WeakReceiver<T, P, R, A> {
+    /// A further receiver of the channel. None where the channel is closed, as it is once its last receiver or its last sender
+    /// is gone, and where a clone of a receiver would be refused.
+    pub fn upgrade(&self) -> Option<Receiver<T, P, R, A>>
+        ensures { IfSome result (λ receiver. SameChannel self.now receiver) }
+    {
+        let handle = self.handle.share().ok()?;
+        let mut core = self.handle.lock();
+        if core.is_closed() {
+            return None;
+        }
+        // Last, so that a refusal above leaves the count.
+        if !core.clone_receiver() {
+            return None;
+        }
+        drop(core);
+        Some(Receiver { handle })
+    }
+}
+
+impl<T, P: Ord, R: Wait + Clone, A: Allocator + Copy> WeakReceiver<T, P, R, A> {
+    /// Whether the channel is closed, by a call of `close` or by the drop of the last sender or receiver.
+    pub fn is_closed(&self) -> bool {
+        self.handle.is_closed()
+    }
+}
+
+impl<T, P: Ord, R: Wait + Clone, A: Allocator + Copy> Receiver<T, P, R, A> {
+    /// A handle that knows the channel and is none of its receivers. It changes no count. Refused for want of memory.
+    pub fn downgrade(&self) -> Result<WeakReceiver<T, P, R, A>, AllocError>
+        ensures { IfOk result (λ weak. SameChannel self.now weak) }
+    {
+        let handle = self.handle.share()?;
+        Ok(WeakReceiver { handle })
+    }
+}
+
+/// A further weak handle of the channel.
+impl<T: Drop, P: Ord + Drop, R: Wait + Clone, A: Allocator + Copy> Clone
+    for WeakReceiver<T, P, R, A> {
+    ghost use Rattle.async_priority_channel.specs.Handles.{SameChannel};
+
+    ghost is_clone = { SameChannel };
+
+    fn clone(&self) -> Result<Self, AllocError> {
+        let handle = self.handle.share()?;
+        Ok(WeakReceiver { handle })
+    }
+}
+
+impl<T, P: Ord, R: Wait + Clone, A: Allocator + Copy> fmt::Debug for WeakReceiver<T, P, R, A> {
+    ghost use Rattle.std.specs.Prelude.{Some, codes};
+
+    ghost debug_output = { λ _. Some (codes "WeakReceiver { .. }") };
+
+    fn fmt<W: fmt::Write>(&self, f: &mut fmt::Formatter<W>) -> fmt::Result {
+        f.write_str("WeakReceiver { .. }")
+    }
+}

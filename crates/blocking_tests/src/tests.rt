@@ -1,0 +1,8 @@
+mod calls;
+mod ends;
+mod errors;
+mod happy;
+mod limits;
+mod loops;
+mod memory;
+mod mixed;

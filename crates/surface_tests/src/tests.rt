@@ -1,0 +1,6 @@
+mod batches;
+mod guards;
+mod peeks;
+mod streams;
+mod wakers;
+mod weak;
