@@ -13,9 +13,9 @@ use Rattle.priority_channel_core.specs.declared.calls.CorePoll.TheVariants.{Read
 use Rattle.priority_channel_core.specs.declared.errors.SendFault.{SendFault}
 use Rattle.priority_channel_core.specs.declared.errors.SendFault.TheVariants as send_fault
 use Rattle.priority_channel_core.specs.State.{State, Handed}
-use Rattle.async_priority_channel.specs.Future.{polled}
-use Rattle.async_priority_channel.specs.Future.Task.{Sendv}
-use Rattle.async_priority_channel.specs.States.{Holding, told_by, handed_back, HoldsTail, IsKeptOf, PollsKept}
+use Rattle.priority_channel_laws.specs.Future.{polled}
+use Rattle.priority_channel_laws.specs.Future.Task.{Sendv}
+use Rattle.priority_channel_laws.specs.States.{Holding, told_by, handed_back, HoldsTail, IsKeptOf, PollsKept}
 use Rattle.async_priority_channel.specs.Handles.{Underway, HandsBackTail}
 use Rattle.async_priority_channel.specs.Tails.{tail_of_itself, tail_of_tail}
 

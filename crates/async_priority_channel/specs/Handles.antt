@@ -2,7 +2,7 @@
 use Rattle.std.specs.Prelude.{◌≡◌, ℕ, Bool, List, IfErr, IfSome, Some, Result}
 use Rattle.priority_channel_core.specs.declared.errors.SendFault.{SendFault}
 use Rattle.priority_channel_core.specs.Errors.{unsent}
-use Rattle.async_priority_channel.specs.States.{Holding, HoldsTail}
+use Rattle.priority_channel_laws.specs.States.{Holding, HoldsTail}
 
 -- what never changes of a channel: its capacity, and the sources at which tasks wait for room and for a message
 pub record Channel : Type 0 where

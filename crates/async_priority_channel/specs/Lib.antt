@@ -1,13 +1,4 @@
-pub mod Accepted
-pub mod Alike
-pub mod Future
-pub mod World
-pub mod WaitingLaw
-pub mod States
 pub mod Handles
-pub mod History
-pub mod Log
-pub mod Passes
 pub mod Waits
 pub mod Tails
 pub mod Batches

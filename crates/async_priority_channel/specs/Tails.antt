@@ -1,7 +1,7 @@
 -- The rest of a bulk send's list, over any number of attempts.
 use Rattle.std.specs.Prelude.{◌+◌, List, drop}
 use Rattle.std.proofs.Common.{drop-drop, subst}
-use Rattle.async_priority_channel.specs.States.{HoldsTail}
+use Rattle.priority_channel_laws.specs.States.{HoldsTail}
 
 module _ {X M : Type 0} (holds : M → List X → Type 0) where
   pub tail_of_itself : (msgs : M) → HoldsTail holds msgs msgs

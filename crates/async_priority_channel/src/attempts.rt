@@ -5,7 +5,7 @@ ghost use Rattle.std.specs.Iterator.Adapters.{peekable_can};
 ghost use Rattle.priority_channel_core.specs.Lists.{HasList};
 ghost use Rattle.priority_channel_core.specs.Step.{Step};
 ghost use Rattle.priority_channel_core.specs.Bulk.{Performs};
-ghost use Rattle.async_priority_channel.specs.States.{HoldsTail};
+ghost use Rattle.priority_channel_laws.specs.States.{HoldsTail};
 ghost use Rattle.async_priority_channel.specs.Waits.{left_over, waits_under, outcome_of_try, outcome_of_poll, recv_tried, recv_polled};
 ghost use Rattle.async_priority_channel.specs.Tails.{tail_of_itself, tail_of_tail};
 

@@ -10,13 +10,11 @@ mod blocking;
 mod close_on_drop;
 mod iter;
 mod kept_waker;
-pub mod laws;
 mod making;
 mod many;
 mod parked;
 mod peek;
 mod receiver;
-pub mod recorded;
 mod sender;
 mod shared;
 mod stream;
@@ -32,6 +30,8 @@ pub use many::RecvMany;
 pub use priority_channel_core::errors::{
     RecvError, RecvFault, SendError, SendFault, TryRecvError, TryRecvManyError, TrySendError,
 };
+pub use priority_channel_laws::laws;
+pub use priority_channel_recorded as recorded;
 pub use receiver::Receiver;
 pub use sender::Sender;
 pub use stream::{IntoStream, RecvStream};

@@ -1,7 +1,7 @@
 //! The handle that receives.
 ghost use Rattle.std.specs.Prelude.{◌≡◌};
 ghost use Rattle.priority_channel_core.specs.Receives.{capacity_told};
-ghost use Rattle.async_priority_channel.specs.States.{unpolled};
+ghost use Rattle.priority_channel_laws.specs.States.{unpolled};
 
 use crate::shared::Handle;
 use crate::waiting::Recv;

@@ -4,7 +4,7 @@ ghost use Rattle.std.specs.Iterator.Adapters.{peekable_can};
 ghost use Rattle.priority_channel_core.specs.Lists.{HasList};
 ghost use Rattle.priority_channel_core.specs.Errors.{refused};
 ghost use Rattle.priority_channel_core.specs.Receives.{capacity_told};
-ghost use Rattle.async_priority_channel.specs.States.{HoldsTail, unpolled};
+ghost use Rattle.priority_channel_laws.specs.States.{HoldsTail, unpolled};
 
 use crate::shared::Handle;
 use crate::waiting::{Send, Sendv};

@@ -2,7 +2,7 @@
 ghost use Rattle.std.specs.Prelude.{◌≡◌, ⊤, None};
 ghost use Rattle.futures.specs.Task.{Covers, Keeps};
 ghost use Rattle.futures.specs.Poll.{IfReady, OnPending};
-ghost use Rattle.async_priority_channel.specs.States.{unpolled};
+ghost use Rattle.priority_channel_laws.specs.States.{unpolled};
 ghost use Rattle.async_priority_channel.specs.Handles.{HandsBack};
 
 use crate::kept_waker::KeptWaker;

@@ -1,6 +1,6 @@
 //! Passes, on one thread.
 ghost use Rattle.std.specs.Prelude.{◌≡◌};
-ghost use Rattle.async_priority_channel.specs.Log.{names};
+ghost use Rattle.priority_channel_recorded.specs.Log.{names};
 
 use super::{SEVEN, Told};
 use async_priority_channel::recorded::{

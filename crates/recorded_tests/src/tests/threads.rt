@@ -1,6 +1,6 @@
 //! Passes on many threads.
 ghost use Rattle.std.specs.Prelude.{◌≡◌};
-ghost use Rattle.async_priority_channel.specs.Log.{names};
+ghost use Rattle.priority_channel_recorded.specs.Log.{names};
 
 use super::Told;
 use async_priority_channel::recorded::{

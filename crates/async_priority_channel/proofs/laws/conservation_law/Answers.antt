@@ -1,8 +1,0 @@
-use Rattle.async_priority_channel.proofs.Runs.{run_conserves, run_closed}
-use Rattle.async_priority_channel.proofs.laws.conservation_law.Goals as goal
-
-pub returns-clause-conserved : goal.returns-clause-conserved
-returns-clause-conserved g c = run_conserves g.P.Ord.cmp g.W.Clone.is_clone
-
-pub returns-clause-closed : goal.returns-clause-closed
-returns-clause-closed g c = run_closed g.P.Ord.cmp g.W.Clone.is_clone

@@ -1,0 +1,15 @@
+pub mod AlikeCalls
+pub mod AlikeLists
+pub mod AlikePolls
+pub mod AlikeSteps
+pub mod Callings
+pub mod Effects
+pub mod Events
+pub mod Hands
+pub mod Lookups
+pub mod Places
+pub mod PollEnds
+pub mod Runs
+pub mod Standings
+pub mod StateLemmas
+pub mod Worlds

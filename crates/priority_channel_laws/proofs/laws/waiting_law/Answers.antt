@@ -1,0 +1,11 @@
+use Rattle.priority_channel_laws.proofs.Events.{nobody_is_forgotten, given_once, called_by}
+use Rattle.priority_channel_laws.proofs.laws.waiting_law.Goals as goal
+
+pub returns-clause-forgotten : goal.returns-clause-forgotten
+returns-clause-forgotten g c = nobody_is_forgotten g.W.Clone.is_clone g.P.Ord.cmp
+
+pub returns-clause-once : goal.returns-clause-once
+returns-clause-once g c = given_once g.W.Clone.is_clone g.P.Ord.cmp
+
+pub returns-clause-called : goal.returns-clause-called
+returns-clause-called g c = called_by g.W.Clone.is_clone g.P.Ord.cmp

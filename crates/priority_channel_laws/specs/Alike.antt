@@ -1,0 +1,53 @@
+-- Runs that are the same but for which value the wakers' Clone gave.
+use Rattle.std.specs.Prelude.{◌≡◌, ℕ, ◌⊎◌, Bool, true, false, length, Err}
+use Rattle.std.specs.List.{AllZip}
+use Rattle.priority_channel_core.specs.declared.calls.Answer.TheVariants as answer
+use Rattle.priority_channel_core.specs.declared.calls.CorePoll.TheVariants.{Ready}
+use Rattle.priority_channel_core.specs.declared.errors.TrySendError.TheVariants as send_error
+use Rattle.priority_channel_core.specs.declared.errors.SendFault.TheVariants as send_fault
+use Rattle.priority_channel_core.specs.declared.errors.RecvFault.TheVariants as recv_fault
+use Rattle.priority_channel_core.specs.State.{State, Handed}
+use Rattle.priority_channel_core.specs.Step.{Answers}
+use Rattle.priority_channel_core.specs.Run.{Made}
+use Rattle.priority_channel_laws.specs.Accepted.{accepted_by}
+
+-- whether an answer is Memory
+abbrev pub is_memory : {T P : Type 0} → Answers T P → Bool
+is_memory (answer.TrySend (Err (send_error.Memory pair))) = true
+is_memory (answer.TrySendv (Err (send_error.Memory rest))) = true
+is_memory (answer.PollSend (Ready (Err (send_fault.Memory pair)))) = true
+is_memory (answer.PollSendv (Ready (Err (send_fault.Memory rest)))) = true
+is_memory (answer.PollRecv (Ready (Err recv_fault.Memory))) = true
+is_memory _ = false
+
+-- the same call, which accepted as many pairs and answered Memory or not alike
+pub record IsAlike {T P W : Type 0} (one other : Made T P W) : Type 0 where
+  pub same_call : other.call ≡ one.call
+  pub as_many : length (accepted_by other.call other.answer) ≡ length (accepted_by one.call one.answer)
+  pub memory : is_memory other.answer ≡ is_memory one.answer
+
+module _ {W : Type 0} (is_clone : W → W → Type 0) where
+  -- the same ticket, with the same waker or another clone of one waker
+  abbrev pub SameWaiter : ℕ × W → ℕ × W → Type 0
+  SameWaiter a b = (b.0 ≡ a.0) × ((b.1 ≡ a.1) ⊎ ((waker : W) × is_clone waker a.1 × is_clone waker b.1))
+
+  pub record SameHanded (one other : Handed W) : Type 0 where
+    pub room : AllZip SameWaiter one.room other.room
+    pub message : AllZip SameWaiter one.message other.message
+
+  pub record SameState {T P : Type 0} (one other : State T P W) : Type 0 where
+    pub pending : other.pending ≡ one.pending
+    pub accepted : other.accepted ≡ one.accepted
+    pub is_closed : other.is_closed ≡ one.is_closed
+    pub capacity : other.capacity ≡ one.capacity
+    pub is_reserved : other.is_reserved ≡ one.is_reserved
+    pub sender_count : other.sender_count ≡ one.sender_count
+    pub receiver_count : other.receiver_count ≡ one.receiver_count
+    pub room_waiters : AllZip SameWaiter one.room_waiters other.room_waiters
+    pub message_waiters : AllZip SameWaiter one.message_waiters other.message_waiters
+    pub next_ticket : other.next_ticket ≡ one.next_ticket
+
+  -- the same answer, and the same parties handed out
+  pub record SameOutcome {T P : Type 0} (one other : Made T P W) : Type 0 where
+    pub answer : other.answer ≡ one.answer
+    pub handed : SameHanded one.handed other.handed

@@ -1,0 +1,85 @@
+-- What holds of each world that events reach from an opening one.
+use Rattle.std.specs.Prelude.{◌≡◌, ◌≢◌, ℕ, ◌<◌, true, List, [], ◌∷◌, ◌==◌, if◌then◌else◌, length, slice_get, Option, Some, None, ◌⊎◌}
+use Rattle.priority_channel_core.specs.State.{State, Handed}
+use Rattle.priority_channel_core.specs.Good.{IsGood}
+use Rattle.priority_channel_laws.specs.Future.{Tasks, Futures, ticket_of}
+use Rattle.priority_channel_laws.specs.World.{World}
+use Rattle.priority_channel_laws.specs.Future.Task.{Send, Sendv, Recv}
+use Rattle.priority_channel_laws.specs.Future.Standing.{New, Waiting, Called, Done}
+
+-- the waker kept under a ticket
+abbrev pub waker_of : {W : Type 0} → ℕ → List (ℕ × W) → Option W
+waker_of ticket [] = None
+waker_of ticket (a ∷ waiters) = if a.0 == ticket then Some a.1 else waker_of ticket waiters
+
+-- what a party waits for
+pub data Side : Type 0 where
+  Room : Side
+  Message : Side
+
+-- sends wait for room, receives wait for a message
+abbrev pub side_of : {T P : Type 0} → Tasks T P → Side
+side_of (Send msg priority) = Room
+side_of (Sendv pairs) = Room
+side_of Recv = Message
+
+abbrev pub waiters_of : {T P W : Type 0} → Side → State T P W → List (ℕ × W)
+waiters_of Room s = s.room_waiters
+waiters_of Message s = s.message_waiters
+
+-- a send can go on where the channel is closed or not full, and a receive where it is closed or not empty
+abbrev pub CanGoOn : {T P W : Type 0} → State T P W → Side → Type 0
+CanGoOn s Room = (s.is_closed ≡ true) ⊎ (length s.pending ≢ s.capacity)
+CanGoOn s Message = (s.is_closed ≡ true) ⊎ (s.pending ≢ [])
+
+module _ {T P W : Type 0} (is_clone : W → W → Type 0) where
+  -- a future that waits under this ticket, on this side, whose waker has `kept` as a clone
+  pub record HasWaiting (futures : List (Futures T P W)) (side : Side) (ticket : ℕ) (kept : W) : Type 0 where
+    pub which : ℕ
+    pub future : Futures T P W
+    pub waker : W
+    pub there : slice_get futures which ≡ Some future
+    pub on_side : side_of future.task ≡ side
+    pub waits : future.standing ≡ Waiting ticket waker
+    pub clone : is_clone waker kept
+
+  pub record NobodyIsForgotten (world : World T P W) : Type 0 where
+    pub good : IsGood world.state
+    -- the two waiting lists have exactly the waiting futures, each with a clone of its waker
+    pub waiting_is_listed : (which : ℕ) (future : Futures T P W) (ticket : ℕ) (waker : W)
+        → slice_get world.futures which ≡ Some future → future.standing ≡ Waiting ticket waker
+        → (kept : W) × is_clone waker kept × (waker_of ticket (waiters_of (side_of future.task) world.state) ≡ Some kept)
+    pub listed_is_waiting : (side : Side) (ticket : ℕ) (kept : W)
+        → waker_of ticket (waiters_of side world.state) ≡ Some kept → HasWaiting world.futures side ticket kept
+    -- no waiting future can go on
+    pub waiting_cannot_go_on : (which : ℕ) (future : Futures T P W) (ticket : ℕ) (waker : W)
+        → slice_get world.futures which ≡ Some future → future.standing ≡ Waiting ticket waker
+        → CanGoOn world.state (side_of future.task) → ⊥
+    -- a future that was polled, has not answered and can go on has been called since
+    pub called_if_can_go_on : (which : ℕ) (future : Futures T P W)
+        → slice_get world.futures which ≡ Some future → future.standing ≢ New → future.standing ≢ Done
+        → CanGoOn world.state (side_of future.task) → (ticket : ℕ) × (waker : W) × (future.standing ≡ Called ticket waker)
+    -- each ticket that a future has was given
+    pub tickets_were_given : (which : ℕ) (future : Futures T P W) (ticket : ℕ)
+        → slice_get world.futures which ≡ Some future → ticket_of future.standing ≡ Some ticket → ticket < world.state.next_ticket
+    -- different futures have different tickets
+    pub tickets_differ : (first second : ℕ) (one other : Futures T P W) (ticket : ℕ)
+        → slice_get world.futures first ≡ Some one → slice_get world.futures second ≡ Some other
+        → ticket_of one.standing ≡ Some ticket → ticket_of other.standing ≡ Some ticket → first ≡ second
+
+-- a ticket that had been given by then, and is held now, was held by the same future then: no number is given twice
+abbrev pub GivenOnce : {T P W : Type 0} → World T P W → World T P W → Type 0
+GivenOnce {T} {P} {W} past now =
+    (which : ℕ) (future : Futures T P W) (ticket : ℕ)
+    → slice_get now.futures which ≡ Some future → ticket_of future.standing ≡ Some ticket → ticket < past.state.next_ticket
+    → (earlier : Futures T P W) × (slice_get past.futures which ≡ Some earlier) × (ticket_of earlier.standing ≡ Some ticket)
+
+-- a future is called by an event that hands out its ticket, with a clone of the waker of its last poll
+abbrev pub CalledBy : {T P W : Type 0} → (W → W → Type 0) → World T P W → Handed W → World T P W → Type 0
+CalledBy {T} {P} {W} is_clone old handed new =
+    (which : ℕ) (future : Futures T P W) (ticket : ℕ) (waker : W)
+    → slice_get new.futures which ≡ Some future → future.standing ≡ Called ticket waker
+    → (earlier : Futures T P W) × (slice_get old.futures which ≡ Some earlier)
+    × ((earlier.standing ≡ Called ticket waker)
+    ⊎ ((earlier.standing ≡ Waiting ticket waker) × (kept : W) × is_clone waker kept
+    × ((waker_of ticket handed.room ≡ Some kept) ⊎ (waker_of ticket handed.message ≡ Some kept))))

@@ -1,0 +1,52 @@
+-- A history that grows by an entry.
+use Rattle.std.proofs.Common.{◌≡◌, ℕ, true, false, List, [], ◌∷◌, ◌++◌, refl, sym, subst, Ok, Err}
+use Rattle.std.specs.declared.cmp.Ordering.{Ordering}
+use Rattle.priority_channel_core.specs.declared.calls.Answer.TheVariants as answer
+use Rattle.priority_channel_core.specs.declared.errors.TrySendError.TheVariants as send_error
+use Rattle.priority_channel_core.specs.declared.errors.TryRecvError.TheVariants as recv_error
+use Rattle.priority_channel_core.specs.State.{Handed, opening}
+use Rattle.priority_channel_core.specs.Step.{Moves, Answers}
+use Rattle.priority_channel_core.specs.Run.{Made}
+use Rattle.priority_channel_core.proofs.RunLemmas.{zip_push, Run-more}
+use Rattle.priority_channel_recorded.specs.declared.book.Call.{Call}
+use Rattle.priority_channel_recorded.specs.declared.book.Call.TheVariants.{TrySend, TryRecv, Close, IsClosed, IsEmpty, IsFull, Len}
+use Rattle.priority_channel_recorded.specs.declared.book.Entry.{Entry}
+use Rattle.priority_channel_recorded.specs.History.{Machine, call_of, Records, IsStep, IsHistory}
+use Rattle.priority_channel_recorded.specs.Log.{IsLegal}
+
+module _ {T P : Type 0} (cmp : P → P → Ordering) where
+  same_capacity : (old new : Machine T P) (handed : Handed (Unit {0})) (call : Call T P) (told : Answers T P)
+      → Moves cmp (λ waker kept. kept ≡ waker) old (call_of call) told handed new → new.capacity ≡ old.capacity
+  same_capacity old new handed (TrySend msg priority) (answer.TrySend (Ok sent)) m = cc
+  same_capacity old new handed (TrySend msg priority) (answer.TrySend (Err (send_error.Closed pair))) m = cc
+  same_capacity old new handed (TrySend msg priority) (answer.TrySend (Err (send_error.Full pair))) m = cc
+  same_capacity old new handed (TrySend msg priority) (answer.TrySend (Err (send_error.Memory pair))) m = cc
+  same_capacity old new handed TryRecv (answer.TryRecv (Ok pair)) m = let n = m.2 in cc
+  same_capacity old new handed TryRecv (answer.TryRecv (Err recv_error.Closed)) m = cc
+  same_capacity old new handed TryRecv (answer.TryRecv (Err recv_error.Empty)) m = cc
+  same_capacity old new handed Close (answer.Close true) m = cc
+  same_capacity old new handed Close (answer.Close false) m = cc
+  same_capacity old new handed IsClosed (answer.IsClosed told) m = cc
+  same_capacity old new handed IsEmpty (answer.IsEmpty told) m = cc
+  same_capacity old new handed IsFull (answer.IsFull told) m = cc
+  same_capacity old new handed Len (answer.Len told) m = cc
+  same_capacity old new handed _ _ m = absurd m
+
+  pub history_more : (old new : Machine T P) (history : List (Entry T P)) (last : Entry T P)
+      → IsHistory cmp old.capacity history old → IsStep cmp old last.call last.reply new
+      → IsHistory cmp new.capacity (history ++ last ∷ []) new
+  history_more old new history last legal step =
+      let made : Made T P (Unit {0}) = record { call = call_of last.call; answer = step.answer; handed = step.handed } in
+      subst (λ (k : ℕ). IsHistory cmp k (history ++ last ∷ []) new)
+      (sym (same_capacity old new step.handed last.call step.answer step.step.moves)) (record {
+        run = legal.run ++ made ∷ [];
+        records = zip_push Records history legal.run last made legal.records (refl, step.replies);
+        leads = Run-more cmp _ (opening old.capacity true) old new legal.run made legal.leads step.step;
+      })
+
+  -- nothing was recorded yet
+  pub history_none : (capacity : ℕ) → IsHistory {T = T} cmp capacity [] (opening capacity true)
+  history_none capacity = record { run = []; records = tt; leads = refl }
+
+  pub legal_none : IsLegal {T = T} cmp []
+  legal_none = record { capacity = 1; state = opening 1 true; run = history_none 1 }

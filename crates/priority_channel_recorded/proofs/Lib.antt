@@ -1,0 +1,4 @@
+pub mod Accounts
+pub mod Adding
+pub mod Fronts
+pub mod Histories

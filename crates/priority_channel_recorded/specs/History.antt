@@ -1,0 +1,67 @@
+-- Histories of calls: who called, what, and what was answered.
+use Rattle.std.specs.Prelude.{◌≡◌, ℕ, true, List, Option, Some, None}
+use Rattle.std.specs.List.{AllZip}
+use Rattle.std.specs.declared.cmp.Ordering.{Ordering}
+use Rattle.priority_channel_core.specs.declared.calls.Call.TheVariants as call
+use Rattle.priority_channel_core.specs.declared.calls.Answer.TheVariants as answer
+use Rattle.priority_channel_core.specs.State.{State, Handed, opening}
+use Rattle.priority_channel_core.specs.Step.{Step, Calls, Answers}
+use Rattle.priority_channel_core.specs.Run.{Made, Run}
+use Rattle.priority_channel_recorded.specs.declared.book.Call.{Call}
+use Rattle.priority_channel_recorded.specs.declared.book.Call.TheVariants.{TrySend, TryRecv, Close, IsClosed, IsEmpty, IsFull, Len}
+use Rattle.priority_channel_recorded.specs.declared.book.Reply.{Reply}
+use Rattle.priority_channel_recorded.specs.declared.book.Reply.TheVariants.{Sent, Received, Bool as Truth, Len as Count}
+use Rattle.priority_channel_recorded.specs.declared.book.Entry.{Entry}
+
+-- the state of a recorded channel, for which nobody waits
+abbrev pub Machine : Type 0 → Type 0 → Type 0
+Machine T P = State T P (Unit {0})
+
+-- a channel's state, the history of its calls, and for how many entries there is place
+pub record Chronicle (T P : Type 0) : Type 0 where
+  pub state : Machine T P
+  pub history : List (Entry T P)
+  pub place : ℕ
+
+module _ {T P : Type 0} where
+  abbrev pub entry : ℕ → Call T P → Reply T P → Entry T P
+  entry who made reply = record { who = who; call = made; reply = reply }
+
+  -- a recorded call is the machine's call of the same name
+  abbrev pub call_of : Call T P → Calls T P (Unit {0})
+  call_of (TrySend msg priority) = call.TrySend msg priority
+  call_of TryRecv = call.TryRecv
+  call_of Close = call.Close
+  call_of IsClosed = call.IsClosed
+  call_of IsEmpty = call.IsEmpty
+  call_of IsFull = call.IsFull
+  call_of Len = call.Len
+
+  -- what is recorded of the machine's answer
+  abbrev pub reply_of : Answers T P → Option (Reply T P)
+  reply_of (answer.TrySend reply) = Some (Sent reply)
+  reply_of (answer.TryRecv reply) = Some (Received reply)
+  reply_of (answer.Close was_open) = Some (Truth was_open)
+  reply_of (answer.IsClosed told) = Some (Truth told)
+  reply_of (answer.IsEmpty told) = Some (Truth told)
+  reply_of (answer.IsFull told) = Some (Truth told)
+  reply_of (answer.Len told) = Some (Count told)
+  reply_of other = None
+
+  -- the entry is of this call of a run
+  abbrev pub Records : Entry T P → Made T P (Unit {0}) → Type 0
+  Records entry made = (made.call ≡ call_of entry.call) × (reply_of made.answer ≡ Some entry.reply)
+
+  module _ (cmp : P → P → Ordering) where
+    -- the call is a step of the machine, of whose answer this is recorded
+    pub record IsStep (old : Machine T P) (made : Call T P) (reply : Reply T P) (new : Machine T P) : Type 0 where
+      pub answer : Answers T P
+      pub handed : Handed (Unit {0})
+      pub replies : reply_of answer ≡ Some reply
+      pub step : Step cmp (λ waker kept. kept ≡ waker) old (call_of made) answer handed new
+
+    -- the entries are those of a run of the machine, from the opening of a reserved channel of this capacity to this state
+    pub record IsHistory (capacity : ℕ) (history : List (Entry T P)) (state : Machine T P) : Type 0 where
+      pub run : List (Made T P (Unit {0}))
+      pub records : AllZip Records history run
+      pub leads : Run cmp (λ waker kept. kept ≡ waker) (opening capacity true) run state

@@ -1,0 +1,277 @@
+//! A channel whose calls many threads make, with the history of them all.
+ghost use Rattle.std.specs.Prelude.{◌≡◌, ◌+◌, ◌<◌, ◌≤◌, ◌^◌, [], ◌∷◌, ◌++◌, length, vec_len, All, IfOk, OnErr};
+ghost use mathlib.Core.List.{IsPrefix};
+ghost use Rattle.priority_channel_recorded.specs.History.{entry, IsStep};
+ghost use Rattle.priority_channel_recorded.specs.Log.{IsLegal, names};
+ghost use Rattle.priority_channel_recorded.specs.Passes.{calls_made, AreNew, AreApart, Accounts, IsTold};
+
+use crate::book::{Book, Call, Entry, NoPlace, Reply};
+use crate::log::{Fresh, Log, Recording, Seen};
+use crate::pass::{Pass, gather, new_passes};
+use std::alloc::{AllocError, Allocator, Global};
+use std::marker::{Model, PhantomData};
+use std::sync::ledger::Share;
+use std::sync::{Mutex, Wait, ledger};
+
+// What the lock guards: a book, whose history is the log, and a ledger in which the calls of all passes are counted.
+#[derive(Drop)]
+struct Guarded<T, P: Ord, J: Recording, A: Allocator> {
+    book: Book<T, P, A>,
+    calls: ledger::Book<J>,
+    // For `end` to merge the passes' shares into.
+    none: Share<J>,
+    seen: Seen<T, P, J>,
+}
+
+impl<T, P: Ord, J: Recording, A: Allocator> Model for Guarded<T, P, J, A> {
+    ghost use Rattle.std.specs.Prelude.{◌≡◌, length};
+    ghost use Rattle.priority_channel_recorded.specs.History.{Chronicle};
+
+    ghost Value = { Chronicle T P };
+
+    ghost view = { λ g. g.book };
+
+    ghost invariant = { λ g. (g.seen ≡ g.book.history) × (g.calls.total ≡ length g.book.history) × (g.none.parts ≡ 0) × (g.none.amount ≡ 0) };
+}
+
+impl<T: Copy, P: Copy + Ord, J: Recording, A: Allocator + Copy> Guarded<T, P, J, A> {
+    fn call<R: Wait>(
+        &mut self,
+        rt: &R,
+        log: &Log<T, P, J>,
+        pass: &mut Pass<T, P, J>,
+        call: Call<T, P>,
+    ) -> Result<Reply<T, P>, NoPlace>
+        ensures number { pass.new.number ≡ pass.old.number }
+        ensures counted { IfOk result (λ _. pass.new.count ≡ pass.old.count + 1) }
+        ensures told { IfOk result (λ reply. IsTold P.cmp pass.old (entry pass.old.number call reply) pass.new) }
+        ensures step { IfOk result (λ reply. IsStep P.cmp self.old.state call reply self.new.state) }
+        ensures entered { IfOk result (λ reply. self.new.history ≡ self.old.history ++ entry pass.old.number call reply ∷ []) }
+        ensures refused { OnErr result ((pass.new ≡ pass.old) × (self.new ≡ self.old)) }
+        ensures full { OnErr result (self.old.place ≤ length self.old.history) }
+    {
+        let number = pass.number;
+        let reply = self.book.record(number, call)?;
+        let entry = Entry {
+            who: number,
+            call,
+            reply,
+        };
+        let count = self.book.count() - 1;
+        let seen = append(rt, log, &self.seen, &pass.seen, count, &entry);
+        // What the passes have is at most the ledger's total, so no count overflows.
+        self.calls.audit(&mut pass.share);
+        self.calls.add(&mut pass.share, 1);
+        pass.count += 1;
+        pass.seen = seen.again();
+        self.seen = seen;
+        Ok(reply)
+    }
+}
+
+// Adds an entry behind all that was kept, of which what `other` has seen is a front. No one else adds one meanwhile, so
+// the first try succeeds, but no contract can say so.
+fn append<T: Copy, P: Copy + Ord, J: Recording, R: Wait>(
+    rt: &R,
+    log: &Log<T, P, J>,
+    kept: &Seen<T, P, J>,
+    other: &Seen<T, P, J>,
+    count: u64,
+    entry: &Entry<T, P>,
+) -> Seen<T, P, J>
+    requires room { count + 1 < 2 ^ 64 }
+    requires whole { length kept.now ≡ count }
+    requires legal { IsLegal P.cmp (kept.now ++ entry.now ∷ []) }
+    ensures seen { result ≡ kept.now ++ entry.now ∷ [] }
+    ensures before { IsPrefix other.now kept.now }
+    ensures legal { IsLegal P.cmp result }
+{
+    for _ in rt.forever() {
+        let mut seen = kept.again();
+        seen.learn(other);
+        if seen.append(log, count, entry) {
+            return seen;
+        }
+    }
+    unreachable!()
+}
+
+/// A channel in reserved place that many threads call, each with its pass, and the history of their calls.
+///
+/// Each call is one step, in one hold of the recorder's lock. A pass learns the history up to its own call, so what its
+/// holder has seen begins what it sees later, what it sees when it meets another, and what is told at the end.
+///
+/// ```
+/// ghost use Rattle.std.specs.Prelude.{◌≡◌, IfOk};
+/// ghost use Rattle.std.specs.Ordering.{nat_cmp};
+/// ghost use Rattle.priority_channel_recorded.specs.Log.{names, IsLegal};
+///
+/// fn audited<J: Recording, R: Wait>(rt: &R, alloc: Global, fresh: Fresh<u64, u8>) -> Result<History<u64, u8>, AllocError>
+///     requires names { fresh ≡ names J.log J.name J.parts }
+///     requires passes { fresh.passes ≡ 2 }
+///     ensures legal { IfOk result (λ history. IsLegal nat_cmp history) }
+/// {
+///     let (recorder, mut passes) = Recorded::<u64, u8, J>::new(alloc, fresh, 4, 100, 2)?;
+///     for pass in passes.iter_mut() {
+///         let _ = recorder.call(rt, pass, Call::TrySend(pass.number(), 0));
+///     }
+///     Ok(recorder.end(rt, passes))
+/// }
+///
+/// let history = audited::<Brand, _>(&rt, rt.alloc(), Fresh::new(2))?;
+/// assert_eq!(rt; history.entries().len(), 2);
+/// ```
+#[derive(Drop)]
+pub struct Recorded<T, P: Ord, J: Recording, A: Allocator = Global> {
+    log: Log<T, P, J>,
+    guarded: Mutex<Guarded<T, P, J, A>>,
+}
+
+impl<T: Copy, P: Copy + Ord, J: Recording, A: Allocator + Copy> Recorded<T, P, J, A> {
+    /// A recorder over an open and empty channel with place for `cap` pairs, with place for `entries` entries, and its
+    /// passes. The error is that memory was refused.
+    #[tactic(auto, using(crate::proofs::Histories::legal_none))]
+    pub fn new(
+        alloc: A,
+        fresh: Fresh<T, P>,
+        cap: u64,
+        entries: usize,
+        passes: usize,
+    ) -> Result<(Self, Vec<Pass<T, P, J>, A>), AllocError>
+        requires positive { 0 < cap }
+        requires fits { cap < 2 ^ 63 }
+        requires names { fresh ≡ names J.log J.name J.parts }
+        requires passes { fresh.passes ≡ passes }
+        ensures count { IfOk result (λ made. vec_len made.1 ≡ passes) }
+        ensures new { IfOk result (λ made. AreNew made.1.items) }
+    {
+        let Fresh { word, seen, ledger } = fresh;
+        let (calls, mut rest) = ledger.open::<J>();
+        let none = rest.empty();
+        let seen = Seen {
+            token: seen,
+            of: PhantomData,
+        };
+        let passes = new_passes(alloc, &seen, rest, passes)?;
+        let book = Book::new(alloc, cap, entries)?;
+        let guarded = Guarded {
+            book,
+            calls,
+            none,
+            seen,
+        };
+        let log = Log {
+            word,
+            of: PhantomData,
+        };
+        Ok((
+            Recorded {
+                log,
+                guarded: Mutex::new(guarded),
+            },
+            passes,
+        ))
+    }
+
+    /// Makes a call under the pass's number, and enters it with what it answered. Where there is no place for the entry
+    /// the call is not made; that never comes before there are as many entries as place was made for.
+    pub fn call<R: Wait>(
+        &self,
+        rt: &R,
+        pass: &mut Pass<T, P, J>,
+        call: Call<T, P>,
+    ) -> Result<Reply<T, P>, NoPlace>
+        ensures number { pass.new.number ≡ pass.old.number }
+        ensures counted { IfOk result (λ _. pass.new.count ≡ pass.old.count + 1) }
+        ensures told { IfOk result (λ reply. IsTold P.cmp pass.old (entry pass.old.number call reply) pass.new) }
+        ensures refused { OnErr result (pass.new ≡ pass.old) }
+    {
+        self.guarded.lock(rt).call(rt, &self.log, pass, call)
+    }
+
+    /// Lets both passes see what either has seen, and the history as it is. It takes no lock and waits for nobody.
+    #[tactic(auto, using(crate::proofs::Fronts::prefix_trans))]
+    pub fn meet(&self, one: &mut Pass<T, P, J>, other: &mut Pass<T, P, J>)
+        ensures one_number { one.new.number ≡ one.old.number }
+        ensures one_count { one.new.count ≡ one.old.count }
+        ensures one_begins { IsPrefix one.old.seen one.new.seen }
+        ensures other_number { other.new.number ≡ other.old.number }
+        ensures other_count { other.new.count ≡ other.old.count }
+        ensures other_begins { IsPrefix other.old.seen other.new.seen }
+        ensures same { one.new.seen ≡ other.new.seen }
+        ensures legal { IsLegal P.cmp one.new.seen }
+    {
+        let mut seen = one.seen.again();
+        seen.learn(&other.seen);
+        let _length = seen.look(&self.log);
+        one.seen = seen.again();
+        other.seen = seen;
+    }
+
+    /// Ends the recording, once all passes have come back, and tells the history, which nothing shows before. So no pass
+    /// may be lost.
+    #[tactic(auto, using(crate::proofs::Accounts::account, crate::proofs::Fronts::prefix_whole))]
+    pub fn end<R: Wait>(self, rt: &R, passes: Vec<Pass<T, P, J>, A>) -> History<T, P, A>
+        requires all { vec_len passes ≡ J.parts }
+        ensures length { length result ≡ calls_made passes.items }
+        ensures legal { IsLegal P.cmp result }
+        ensures seen { All (λ pass. IsPrefix pass.seen result) passes.items }
+        ensures accounts { AreApart passes.items → Accounts passes.items result }
+    {
+        let Recorded { log, guarded } = self;
+        let Guarded {
+            book,
+            mut calls,
+            none,
+            seen,
+        } = guarded.into_inner();
+        let (mut all, met) = gather(none, seen, passes);
+        calls.audit(&mut all);
+        look_until(rt, &log, &met, book.count());
+        History {
+            entries: book.into_history(),
+        }
+    }
+}
+
+// Looks until the log's length is `count`, so that nothing longer was seen.
+fn look_until<T, P: Ord, J: Recording, R: Wait>(
+    rt: &R,
+    log: &Log<T, P, J>,
+    seen: &Seen<T, P, J>,
+    count: u64,
+)
+    ensures { length seen.now ≤ count }
+{
+    for _ in rt.forever() {
+        let mut now = seen.again();
+        if now.look(log) == count {
+            return;
+        }
+    }
+    unreachable!()
+}
+
+/// What a recorder has told: the history of all calls.
+#[derive(Drop)]
+pub struct History<T, P, A: Allocator = Global> {
+    entries: Vec<Entry<T, P>, A>,
+}
+
+impl<T, P, A: Allocator> Model for History<T, P, A> {
+    ghost use Rattle.std.specs.Prelude.{List};
+    ghost use Rattle.priority_channel_recorded.specs.declared.book.Entry.{Entry};
+
+    ghost Value = { List (Entry T P) };
+
+    ghost view = { λ h. h.entries.items };
+}
+
+impl<T, P, A: Allocator> History<T, P, A> {
+    /// The entries, in the order of the calls.
+    pub fn entries(&self) -> &[Entry<T, P>]
+        ensures { result.now ≡ self.now }
+    {
+        self.entries.as_slice()
+    }
+}
