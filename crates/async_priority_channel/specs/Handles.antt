@@ -1,7 +1,7 @@
 -- What handles and futures show of their channel. What is behind its lock, no value shows.
 use Rattle.std.specs.Prelude.{◌≡◌, ℕ, Bool, List, IfErr, IfSome, Some, Result}
-use Rattle.priority_channel_core.specs.declared.errors.SendFault.{SendFault}
-use Rattle.priority_channel_core.specs.Errors.{unsent}
+use Rattle.priority_channel_parts.specs.declared.errors.SendFault.{SendFault}
+use Rattle.priority_channel_parts.specs.Errors.{unsent}
 use Rattle.priority_channel_laws.specs.States.{Holding, HoldsTail}
 
 -- what never changes of a channel: its capacity, and the sources at which tasks wait for room and for a message

@@ -2,7 +2,7 @@
 ghost use Rattle.std.specs.Prelude.{◌≡◌, IfErr};
 ghost use Rattle.std.specs.Iterator.Adapters.{peekable_can};
 ghost use Rattle.priority_channel_core.specs.Lists.{HasList};
-ghost use Rattle.priority_channel_core.specs.Errors.{refused};
+ghost use Rattle.priority_channel_parts.specs.Errors.{refused};
 ghost use Rattle.priority_channel_core.specs.Receives.{capacity_told};
 ghost use Rattle.priority_channel_laws.specs.States.{HoldsTail, unpolled};
 

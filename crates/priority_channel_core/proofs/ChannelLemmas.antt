@@ -3,12 +3,12 @@ use Rattle.std.proofs.Common.{◌≡◌, ℕ, ◌+◌, ◌-◌, ◌<◌, ◌≤�
 use Rattle.std.specs.Prelude.{◌==◌, if◌then◌else◌}
 use Rattle.priority_channel_core.specs.State.{State, Handed, nobody}
 use Rattle.priority_channel_core.specs.Sends.{AddsFront}
-use Rattle.priority_channel_core.specs.Bag.{Contents}
-use Rattle.priority_channel_core.specs.Word.{Word, IsOrderly}
+use Rattle.priority_channel_parts.specs.Bag.{Contents}
+use Rattle.priority_channel_parts.specs.Word.{Word, IsOrderly}
 use Rattle.priority_channel_core.specs.Channel.{state_of, IsSound}
 use Rattle.std.proofs.lemmas.Bool.{cases_lt}
-use Rattle.priority_channel_core.specs.Digits.{digits}
-use Rattle.priority_channel_core.proofs.DigitsLemmas.{digits-mono}
+use Rattle.priority_channel_parts.specs.Digits.{digits}
+use Rattle.priority_channel_parts.proofs.DigitsLemmas.{digits-mono}
 use Rattle.priority_channel_core.proofs.SendLemmas.{good_adds}
 
 module _ {T P W : Type 0} (bag bag' : Contents T P) (word word' : Word W) (handed : Handed W) (capacity : ℕ) (is_reserved : Bool)

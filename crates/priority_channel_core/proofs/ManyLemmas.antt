@@ -7,15 +7,15 @@ use Rattle.std.proofs.lemmas.Nat.{mul-le}
 use Rattle.std.specs.declared.cmp.Ordering.{Ordering}
 use Rattle.priority_channel_core.specs.declared.calls.Call.TheVariants as call
 use Rattle.priority_channel_core.specs.declared.calls.Answer.TheVariants as answer
-use Rattle.priority_channel_core.specs.declared.errors.TryRecvError.{TryRecvError}
-use Rattle.priority_channel_core.specs.declared.errors.TryRecvError.TheVariants.{Empty, Closed}
+use Rattle.priority_channel_parts.specs.declared.errors.TryRecvError.{TryRecvError}
+use Rattle.priority_channel_parts.specs.declared.errors.TryRecvError.TheVariants.{Empty, Closed}
 use Rattle.priority_channel_core.specs.State.{State, Handed, nobody}
-use Rattle.priority_channel_core.specs.Digits.{digits}
-use Rattle.priority_channel_core.specs.Greatest.{TakesGreatest}
+use Rattle.priority_channel_parts.specs.Digits.{digits}
+use Rattle.priority_channel_parts.specs.Greatest.{TakesGreatest}
 use Rattle.priority_channel_core.specs.Step.{Step}
 use Rattle.priority_channel_core.specs.Run.{Made, Run}
 use Rattle.priority_channel_core.specs.Many.{receives, ReceivesInTurn}
-use Rattle.priority_channel_core.proofs.DigitsLemmas.{digits-mono}
+use Rattle.priority_channel_parts.proofs.DigitsLemmas.{digits-mono}
 use Rattle.priority_channel_core.proofs.RunLemmas.{Run-more}
 
 taken_length : {T P : Type 0} (cmp : P → P → Ordering) (pending rest : List (T × P)) (pair : T × P) → TakesGreatest cmp pending pair rest

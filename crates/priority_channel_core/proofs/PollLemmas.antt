@@ -7,14 +7,14 @@ use Rattle.priority_channel_core.specs.declared.calls.Call.TheVariants as call
 use Rattle.priority_channel_core.specs.declared.calls.Answer.TheVariants as answer
 use Rattle.priority_channel_core.specs.declared.calls.CorePoll.{CorePoll}
 use Rattle.priority_channel_core.specs.declared.calls.CorePoll.TheVariants.{Ready, Pending}
-use Rattle.priority_channel_core.specs.declared.errors.TrySendError.{TrySendError}
-use Rattle.priority_channel_core.specs.declared.errors.TrySendError.TheVariants as send_error
-use Rattle.priority_channel_core.specs.declared.errors.SendFault.{SendFault}
-use Rattle.priority_channel_core.specs.declared.errors.SendFault.TheVariants as send_fault
+use Rattle.priority_channel_parts.specs.declared.errors.TrySendError.{TrySendError}
+use Rattle.priority_channel_parts.specs.declared.errors.TrySendError.TheVariants as send_error
+use Rattle.priority_channel_parts.specs.declared.errors.SendFault.{SendFault}
+use Rattle.priority_channel_parts.specs.declared.errors.SendFault.TheVariants as send_fault
 use Rattle.priority_channel_core.specs.State.{State, Handed}
 use Rattle.priority_channel_core.specs.Good.{IsGood}
 use Rattle.priority_channel_core.specs.Sends.{AddsFront, Sends}
-use Rattle.priority_channel_core.specs.Digits.{digits}
+use Rattle.priority_channel_parts.specs.Digits.{digits}
 use Rattle.priority_channel_core.specs.Channel.{CountedState, ComparesAtMost, search_bound}
 use Rattle.priority_channel_core.specs.Polls.{poll_as_list, unlisted, WaitsForRoom, KeepsWaiting, PollsFront, PollsSend}
 use Rattle.priority_channel_core.specs.Bulk.{kept_by, SameReply, SamePoll, Performs}

@@ -4,9 +4,9 @@ use Rattle.std.specs.Prelude.{Ok, Err}
 use Rattle.std.proofs.lemmas.Bool.Decides.{eqb_tells}
 use Rattle.std.proofs.lemmas.List.{append-nil}
 use Rattle.std.proofs.Math.Seq.{take-append_seam, drop-append_seam}
-use Rattle.priority_channel_core.specs.declared.errors.TrySendError.TheVariants.{Full, Memory}
+use Rattle.priority_channel_parts.specs.declared.errors.TrySendError.TheVariants.{Full, Memory}
 use Rattle.priority_channel_core.specs.State.{State, Handed, nobody, room}
-use Rattle.priority_channel_core.specs.Waiting.{HasOwnTickets}
+use Rattle.priority_channel_parts.specs.Waiting.{HasOwnTickets}
 use Rattle.priority_channel_core.specs.Good.{IsGood}
 use Rattle.priority_channel_core.specs.Sends.{Accepts, AddsFront, Sends}
 

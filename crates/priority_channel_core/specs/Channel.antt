@@ -1,10 +1,10 @@
 -- What callers see of a channel, and how its parts agree.
 use Rattle.std.specs.Prelude.{◌≡◌, ℕ, ◌+◌, ◌≤◌, Bool, true, length}
-use Rattle.priority_channel_core.specs.Digits.{digits}
+use Rattle.priority_channel_parts.specs.Digits.{digits}
 use Rattle.priority_channel_core.specs.State.{State}
 use Rattle.priority_channel_core.specs.Good.{IsGood}
-use Rattle.priority_channel_core.specs.Bag.{Contents}
-use Rattle.priority_channel_core.specs.Word.{Word}
+use Rattle.priority_channel_parts.specs.Bag.{Contents}
+use Rattle.priority_channel_parts.specs.Word.{Word}
 
 -- a state, and how many comparisons of two priorities and of two tickets were made
 pub record CountedState (T P W : Type 0) : Type 0 where

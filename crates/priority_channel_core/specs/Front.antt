@@ -5,7 +5,7 @@ use Rattle.priority_channel_core.specs.declared.channel.bulk.Stop.{Stop}
 use Rattle.priority_channel_core.specs.declared.channel.bulk.Stop.TheVariants.{Ended, Filled, Memory}
 use Rattle.priority_channel_core.specs.State.{State, Handed}
 use Rattle.priority_channel_core.specs.Sends.{AddsFront}
-use Rattle.priority_channel_core.specs.Bag.{Contents}
+use Rattle.priority_channel_parts.specs.Bag.{Contents}
 use Rattle.priority_channel_core.specs.Lists.{HasList}
 
 -- how many pairs were sent before the stop

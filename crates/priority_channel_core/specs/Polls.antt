@@ -3,14 +3,14 @@ use Rattle.std.specs.Prelude.{◌≡◌, ℕ, ◌⊎◌, List, [], ◌∷◌, Op
 use Rattle.std.specs.declared.cmp.Ordering.{Ordering}
 use Rattle.priority_channel_core.specs.declared.calls.CorePoll.{CorePoll}
 use Rattle.priority_channel_core.specs.declared.calls.CorePoll.TheVariants.{Ready, Pending}
-use Rattle.priority_channel_core.specs.declared.errors.TrySendError.TheVariants as send_error
-use Rattle.priority_channel_core.specs.declared.errors.TryRecvError.TheVariants as recv_error
-use Rattle.priority_channel_core.specs.declared.errors.SendFault.{SendFault}
-use Rattle.priority_channel_core.specs.declared.errors.SendFault.TheVariants as send_fault
-use Rattle.priority_channel_core.specs.declared.errors.RecvFault.{RecvFault}
-use Rattle.priority_channel_core.specs.declared.errors.RecvFault.TheVariants as recv_fault
+use Rattle.priority_channel_parts.specs.declared.errors.TrySendError.TheVariants as send_error
+use Rattle.priority_channel_parts.specs.declared.errors.TryRecvError.TheVariants as recv_error
+use Rattle.priority_channel_parts.specs.declared.errors.SendFault.{SendFault}
+use Rattle.priority_channel_parts.specs.declared.errors.SendFault.TheVariants as send_fault
+use Rattle.priority_channel_parts.specs.declared.errors.RecvFault.{RecvFault}
+use Rattle.priority_channel_parts.specs.declared.errors.RecvFault.TheVariants as recv_fault
 use Rattle.priority_channel_core.specs.State.{State, Handed}
-use Rattle.priority_channel_core.specs.Waiting.{without_given, listing}
+use Rattle.priority_channel_parts.specs.Waiting.{without_given, listing}
 use Rattle.priority_channel_core.specs.Sends.{AddsFront, Sends}
 use Rattle.priority_channel_core.specs.Receives.{Receives}
 

@@ -5,13 +5,7 @@
 //! in words.
 #![tactic(auto)]
 
-pub mod awaitable_atomics;
-pub mod bag;
 pub mod calls;
 pub mod channel;
-pub mod comparisons;
-pub mod errors;
-pub mod item;
-pub mod laws;
-mod sift;
-mod waiting_list;
+
+pub use priority_channel_parts::{awaitable_atomics, bag, comparisons, errors, item, laws};

@@ -4,19 +4,19 @@ use Rattle.std.specs.Prelude.{Option, Result, Ok, Err, ◌==◌, if◌then◌els
 use Rattle.std.proofs.lemmas.List.{length-take-le}
 use Rattle.std.specs.Cmp.{IsTotalOrder}
 use Rattle.std.specs.declared.cmp.Ordering.{Ordering}
-use Rattle.priority_channel_core.specs.declared.errors.TrySendError.{TrySendError}
-use Rattle.priority_channel_core.specs.declared.errors.TrySendError.TheVariants as send_error
-use Rattle.priority_channel_core.specs.declared.errors.TryRecvError.{TryRecvError}
-use Rattle.priority_channel_core.specs.declared.errors.TryRecvError.TheVariants as recv_error
+use Rattle.priority_channel_parts.specs.declared.errors.TrySendError.{TrySendError}
+use Rattle.priority_channel_parts.specs.declared.errors.TrySendError.TheVariants as send_error
+use Rattle.priority_channel_parts.specs.declared.errors.TryRecvError.{TryRecvError}
+use Rattle.priority_channel_parts.specs.declared.errors.TryRecvError.TheVariants as recv_error
 use Rattle.priority_channel_core.specs.State.{State, Handed, nobody, room}
-use Rattle.priority_channel_core.specs.Waiting.{listing}
+use Rattle.priority_channel_parts.specs.Waiting.{listing}
 use Rattle.priority_channel_core.specs.Sends.{Refuses, Accepts, Sends}
 use Rattle.priority_channel_core.specs.Receives.{Receives, Shuts, Closes, Looks, Clones, Drops}
 use Rattle.priority_channel_core.specs.Polls.{WaitsForRoom, WaitsForMessage}
 use Rattle.priority_channel_laws.specs.Accepted.{all_but, sent}
 use Rattle.priority_channel_laws.specs.Alike.{SameHanded, SameState}
 use Rattle.priority_channel_laws.proofs.Effects.{all_but-drop}
-use Rattle.priority_channel_core.proofs.GreatestLemmas.{one_greatest}
+use Rattle.priority_channel_parts.proofs.GreatestLemmas.{one_greatest}
 use Rattle.priority_channel_laws.proofs.AlikeLists.{SameList, same_after, same_listing, handed_same, nobody_same}
 
 count_drop : {A : Type 0} (n : ℕ) (pairs rest : List A) → n ≤ length pairs → rest ≡ drop n pairs → length (all_but rest pairs) ≡ n

@@ -4,7 +4,7 @@ use Rattle.std.specs.Prelude.{Option, Some, None, ◌==◌, if◌then◌else◌}
 use Rattle.std.specs.List.{AllZip}
 use Rattle.std.proofs.lemmas.List.Elements.{AllZip-push}
 use Rattle.priority_channel_core.specs.State.{State, Handed, nobody}
-use Rattle.priority_channel_core.specs.Waiting.{is_listed, without, without_given, with_waker, listing, Listing, fresh}
+use Rattle.priority_channel_parts.specs.Waiting.{is_listed, without, without_given, with_waker, listing, Listing, fresh}
 use Rattle.priority_channel_core.specs.Polls.{unlisted}
 use Rattle.priority_channel_laws.specs.Alike.{SameWaiter, SameHanded, SameState}
 

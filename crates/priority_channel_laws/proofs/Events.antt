@@ -4,7 +4,7 @@ use Rattle.std.specs.Prelude.{Option, Some, None, slice_get}
 use Rattle.std.proofs.lemmas.Option.{slice_get_within, get_or_from_slice_get}
 use Rattle.std.specs.declared.cmp.Ordering.{Ordering}
 use Rattle.priority_channel_core.specs.State.{State, Handed, nobody}
-use Rattle.priority_channel_core.specs.Waiting.{without_given}
+use Rattle.priority_channel_parts.specs.Waiting.{without_given}
 use Rattle.priority_channel_laws.specs.WaitingLaw.{waker_of}
 use Rattle.priority_channel_core.specs.Good.{IsGood}
 use Rattle.priority_channel_core.specs.Polls.{unlisted}

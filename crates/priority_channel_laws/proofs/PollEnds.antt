@@ -6,12 +6,12 @@ use Rattle.std.proofs.lemmas.List.Elements.{All-nil}
 use Rattle.std.specs.declared.cmp.Ordering.{Ordering}
 use Rattle.priority_channel_core.specs.declared.calls.Answer.TheVariants as answer
 use Rattle.priority_channel_core.specs.declared.calls.CorePoll.TheVariants.{Ready, Pending}
-use Rattle.priority_channel_core.specs.declared.errors.TrySendError.TheVariants as send_error
-use Rattle.priority_channel_core.specs.declared.errors.TryRecvError.TheVariants as recv_error
-use Rattle.priority_channel_core.specs.declared.errors.SendFault.TheVariants as send_fault
-use Rattle.priority_channel_core.specs.declared.errors.RecvFault.TheVariants as recv_fault
+use Rattle.priority_channel_parts.specs.declared.errors.TrySendError.TheVariants as send_error
+use Rattle.priority_channel_parts.specs.declared.errors.TryRecvError.TheVariants as recv_error
+use Rattle.priority_channel_parts.specs.declared.errors.SendFault.TheVariants as send_fault
+use Rattle.priority_channel_parts.specs.declared.errors.RecvFault.TheVariants as recv_fault
 use Rattle.priority_channel_core.specs.State.{State, Handed}
-use Rattle.priority_channel_core.specs.Waiting.{listing}
+use Rattle.priority_channel_parts.specs.Waiting.{listing}
 use Rattle.priority_channel_core.specs.Good.{IsGood}
 use Rattle.priority_channel_core.specs.Polls.{unlisted, WaitsForRoom, WaitsForMessage}
 use Rattle.priority_channel_core.specs.Step.{Moves, Answers}

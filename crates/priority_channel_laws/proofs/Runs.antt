@@ -12,13 +12,13 @@ use Rattle.std.specs.Ordering.{is_gt}
 use Rattle.std.specs.declared.cmp.Ordering.{Ordering}
 use Rattle.priority_channel_core.specs.declared.calls.Call.TheVariants as call
 use Rattle.priority_channel_core.specs.declared.calls.Answer.TheVariants as answer
-use Rattle.priority_channel_core.specs.declared.errors.TryRecvError.{TryRecvError}
-use Rattle.priority_channel_core.specs.declared.errors.TryRecvError.TheVariants as recv_error
+use Rattle.priority_channel_parts.specs.declared.errors.TryRecvError.{TryRecvError}
+use Rattle.priority_channel_parts.specs.declared.errors.TryRecvError.TheVariants as recv_error
 use Rattle.priority_channel_core.specs.State.{State, Handed}
 use Rattle.priority_channel_core.specs.Receives.{Receives}
 use Rattle.priority_channel_core.specs.Step.{Moves, Step, Answers}
 use Rattle.priority_channel_core.specs.Run.{Made, Run}
-use Rattle.priority_channel_core.proofs.HeapLemmas.{every_part}
+use Rattle.priority_channel_parts.proofs.HeapLemmas.{every_part}
 use Rattle.priority_channel_laws.specs.Accepted.{accepted_by, received_by, accepted_in, received_in, NeverRise}
 use Rattle.priority_channel_laws.proofs.Effects.{Effect, effect}
 

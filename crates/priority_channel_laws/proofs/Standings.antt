@@ -4,7 +4,7 @@ use Rattle.std.specs.Prelude.{Option, Some, None, slice_get, ◌==◌}
 use Rattle.std.specs.List.{All}
 use Rattle.std.proofs.lemmas.Bool.{ne_eqb}
 use Rattle.std.proofs.lemmas.Bool.Decides.{eqb_tells}
-use Rattle.priority_channel_core.specs.Waiting.{without_given, listing}
+use Rattle.priority_channel_parts.specs.Waiting.{without_given, listing}
 use Rattle.priority_channel_laws.specs.WaitingLaw.{waker_of}
 use Rattle.priority_channel_laws.specs.Future.{Futures, ticket_of}
 use Rattle.priority_channel_laws.specs.Future.Standing.{Waiting, Done}

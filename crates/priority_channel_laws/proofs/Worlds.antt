@@ -3,7 +3,7 @@ use Rattle.std.proofs.Common.{◌≡◌, ◌≢◌, ℕ, ◌<◌, ◌≤◌, ◌
 use Rattle.std.specs.Prelude.{Some, None, slice_get}
 use Rattle.std.proofs.lemmas.Bool.Decides.{eqb_tells}
 use Rattle.priority_channel_core.specs.State.{Handed}
-use Rattle.priority_channel_core.specs.Waiting.{is_listed}
+use Rattle.priority_channel_parts.specs.Waiting.{is_listed}
 use Rattle.priority_channel_laws.specs.WaitingLaw.{waker_of}
 use Rattle.priority_channel_laws.specs.Future.{Futures, ticket_of}
 use Rattle.priority_channel_laws.specs.World.{is_handed, called, call_out}

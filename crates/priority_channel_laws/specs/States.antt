@@ -7,8 +7,8 @@ use Rattle.priority_channel_core.specs.declared.calls.Call.{Call}
 use Rattle.priority_channel_core.specs.declared.calls.Answer.{Answer}
 use Rattle.priority_channel_core.specs.declared.calls.CorePoll.{CorePoll}
 use Rattle.priority_channel_core.specs.declared.calls.CorePoll.TheVariants.{Ready, Pending}
-use Rattle.priority_channel_core.specs.declared.errors.SendFault.{SendFault}
-use Rattle.priority_channel_core.specs.Errors.{unsent}
+use Rattle.priority_channel_parts.specs.declared.errors.SendFault.{SendFault}
+use Rattle.priority_channel_parts.specs.Errors.{unsent}
 use Rattle.priority_channel_core.specs.State.{State, Handed}
 use Rattle.priority_channel_laws.specs.Future.{Task, Tasks, Standing, Future, ticket_of, poll_of, polled}
 use Rattle.priority_channel_laws.specs.Future.Task.{Send, Recv}

@@ -3,7 +3,7 @@
 ghost use Rattle.std.specs.Prelude.{◌≡◌, ◌↔◌, ◌*◌, List, length, IsTrue, IfSome, MatchOption, Some, None};
 ghost use Rattle.std.specs.Option.{ForSome};
 ghost use Rattle.std.specs.Iterator.Adapters.{peekable_can};
-ghost use Rattle.priority_channel_core.specs.Digits.{digits};
+ghost use Rattle.priority_channel_parts.specs.Digits.{digits};
 ghost use Rattle.priority_channel_core.specs.State.{nobody};
 ghost use Rattle.priority_channel_core.specs.Good.{IsGood};
 ghost use Rattle.priority_channel_core.specs.Lists.{HasList};

@@ -1,7 +1,7 @@
 //! Sending many pairs in one step.
 ghost use Rattle.std.specs.Prelude.{◌≡◌, ◌+◌, ◌*◌, ◌-◌, ◌<◌, ◌≤◌, ◌^◌, ◌↔◌, ◌⊎◌, List, length, Err, IfErr, IsTrue, true, false, Option, Some, is_some};
 ghost use Rattle.std.specs.Iterator.Adapters.{peekable_can, peekable_peeked};
-ghost use Rattle.priority_channel_core.specs.Digits.{digits};
+ghost use Rattle.priority_channel_parts.specs.Digits.{digits};
 ghost use Rattle.priority_channel_core.specs.Lists.{HasList};
 ghost use Rattle.priority_channel_core.specs.Front.{MovesFront, SendsFront, StopsFor, sent_before};
 
@@ -83,7 +83,7 @@ fn send_front<T: Drop, P: Ord + Drop, A: Allocator, I: Iterator<Item = (T, P)>>(
 impl<T: Drop, P: Ord + Drop, W: Clone, A: Allocator + Copy> PriorityQueueChannel<T, P, W, A> {
     ghost use Rattle.priority_channel_core.specs.State.{room as room_of};
     ghost use Rattle.priority_channel_core.specs.Good.{IsGood};
-    ghost use Rattle.priority_channel_core.specs.Errors.{refused};
+    ghost use Rattle.priority_channel_parts.specs.Errors.{refused};
     ghost use Rattle.priority_channel_core.specs.Sends.{OnFull, AddsFront};
     ghost use Rattle.priority_channel_core.specs.Bulk.{Performs};
     ghost use Rattle.priority_channel_core.specs.Channel.{ComparesAtMost};

@@ -1,7 +1,7 @@
 //! The calls that wait: a send or a receive, and then a place in a waiting list where the channel was full or empty.
 ghost use Rattle.std.specs.Prelude.{◌≡◌, ◌+◌, ◌*◌, List, [], length, false, Some, IfSome};
 ghost use Rattle.std.specs.Iterator.Adapters.{peekable_can};
-ghost use Rattle.priority_channel_core.specs.Digits.{digits};
+ghost use Rattle.priority_channel_parts.specs.Digits.{digits};
 ghost use Rattle.priority_channel_core.specs.Lists.{HasList};
 ghost use Rattle.priority_channel_core.specs.Polls.{unlisted, KeepsWaiting, PollsFront};
 

@@ -1,5 +1,5 @@
 use Rattle.std.proofs.Common.{length, ap, arith}
-use Rattle.priority_channel_core.specs.Digits.{digits}
+use Rattle.priority_channel_parts.specs.Digits.{digits}
 use Rattle.priority_channel_core.specs.State.{State}
 use Rattle.priority_channel_core.proofs.ChannelLemmas.{digits_shorter}
 use Rattle.priority_channel_core.proofs.PollLemmas.{polls_full}

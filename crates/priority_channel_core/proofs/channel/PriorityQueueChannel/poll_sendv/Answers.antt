@@ -1,6 +1,6 @@
 use Rattle.std.proofs.Common.{Ok, Err, refl, inl}
 use Rattle.std.specs.Iterator.Adapters.{peekable_can}
-use Rattle.priority_channel_core.specs.declared.errors.TrySendError.TheVariants.{Full, Closed, Memory}
+use Rattle.priority_channel_parts.specs.declared.errors.TrySendError.TheVariants.{Full, Closed, Memory}
 use Rattle.priority_channel_core.specs.Lists.{HasList}
 use Rattle.priority_channel_core.proofs.PollLemmas.{performs_poll, kept_callable, waits_ends, polls_front}
 use Rattle.priority_channel_core.proofs.channel.PriorityQueueChannel.poll_sendv.Goals as goal

@@ -1,6 +1,6 @@
 use Rattle.std.proofs.Common.{[], ◌∷◌, length, length-append, ap, arith, rules}
-use Rattle.priority_channel_core.specs.Bag.{Contents}
-use Rattle.priority_channel_core.proofs.DigitsLemmas.{push_costs}
+use Rattle.priority_channel_parts.specs.Bag.{Contents}
+use Rattle.priority_channel_parts.proofs.DigitsLemmas.{push_costs}
 use Rattle.priority_channel_core.proofs.FrontLemmas.{moved_more}
 use Rattle.priority_channel_core.proofs.channel.bulk.send_front.Goals as goal
 

@@ -1,7 +1,0 @@
-use Rattle.std.proofs.Common.{refl}
-use Rattle.priority_channel_core.specs.Digits.{digits}
-use Rattle.priority_channel_core.proofs.laws.digits_law.Goals as goal
-
-pub returns : goal.returns
-unfolding digits
-returns c = (refl, refl, refl, refl, refl, refl, refl)

@@ -1,0 +1,9 @@
+pub mod ByKey
+pub mod DigitsLemmas
+pub mod Exchange
+pub mod GreatestLemmas
+pub mod HeapLemmas
+pub mod ItemOrder
+pub mod Packed
+pub mod Tickets
+pub mod WaitingLemmas

@@ -1,0 +1,7 @@
+pub mod Digits
+pub mod Waiting
+pub mod Word
+pub mod Greatest
+pub mod Heap
+pub mod Bag
+pub mod Errors

@@ -1,0 +1,230 @@
+//! A count with a closed bit in one word, and the parties that wait for the count to change.
+ghost use Rattle.std.specs.Prelude.{◌≡◌, ◌+◌, ◌-◌, ◌<◌, ◌≤◌, ◌^◌, ◌==◌, if◌then◌else◌, [], IfSome, IsSome, true, false, IfNone, Some};
+ghost use Rattle.priority_channel_parts.specs.Word.{nobody};
+ghost use Rattle.priority_channel_parts.specs.Waiting.{is_given_listed};
+ghost use Rattle.priority_channel_parts.specs.Word.{closed_bit, count_below, IsOrderly, word_without, ListensForRoom, ListensForMessage, both_lists_bound};
+
+use crate::comparisons::Comparisons;
+use crate::waiting_list::WaitingList;
+use std::alloc::{Allocator, Global};
+use std::marker::Model;
+
+const CLOSED_BIT: u64 = 1 << 63;
+
+/// Whom a step hands out: those who waited for room, and those who waited for a message. It must be spent, by
+/// `into_lists`.
+pub struct Wakes<W, A: Allocator = Global> {
+    room: Vec<(u64, W), A>,
+    message: Vec<(u64, W), A>,
+}
+
+impl<W, A: Allocator> Model for Wakes<W, A> {
+    ghost use Rattle.priority_channel_parts.specs.Word.{Handed};
+
+    ghost Value = { Handed W };
+
+    ghost view = { λ w. record { room = w.room.items; message = w.message.items } };
+}
+
+impl<W, A: Allocator> Wakes<W, A> {
+    /// First those who waited for room, then those who waited for a message, each under its ticket.
+    pub fn into_lists(self) -> (Vec<(u64, W), A>, Vec<(u64, W), A>)
+        ensures room { result.0.items ≡ self.room }
+        ensures message { result.1.items ≡ self.message }
+    {
+        let Wakes { room, message } = self;
+        (room, message)
+    }
+}
+
+impl<W, A: Allocator + Copy> Wakes<W, A> {
+    /// Nobody is handed out, which takes no memory.
+    pub fn nobody(alloc: A) -> Self
+        ensures { result ≡ nobody }
+    {
+        Wakes {
+            room: Vec::new(alloc),
+            message: Vec::new(alloc),
+        }
+    }
+}
+
+/// A count below 2^63 and a closed bit, in one word, and the parties that wait: for the count to fall, so that there
+/// is room, or to rise, so that there is a message.
+///
+/// A waiting party is known by its ticket, a number that is given once. Whom a call hands out is moved out as whole
+/// lists, so no call that hands out takes memory.
+///
+/// ```
+/// let mut length: AwaitableAtomicCounterAndBit<Waker> = AwaitableAtomicCounterAndBit::new(alloc, 5);
+/// let (before, wakes) = length.incr(2);
+/// assert_eq!(rt; before, (false, 5));
+/// let (_for_room, _for_message) = wakes.into_lists();
+/// ```
+#[derive(Drop)]
+pub struct AwaitableAtomicCounterAndBit<W, A: Allocator = Global> {
+    alloc: A,
+    packed: u64,
+    room_waiters: WaitingList<W, A>,
+    message_waiters: WaitingList<W, A>,
+    next_ticket: u64,
+    comparisons: Comparisons,
+}
+
+impl<W, A: Allocator> Model for AwaitableAtomicCounterAndBit<W, A> {
+    ghost use Rattle.priority_channel_parts.specs.Waiting.{HasOwnTickets};
+    ghost use Rattle.priority_channel_parts.specs.Word.{CountedWord, closed_bit, count_below};
+
+    ghost Value = { CountedWord W };
+
+    ghost view = { λ a. record { word = record { is_closed = closed_bit a.packed; count = count_below a.packed; room_waiters = a.room_waiters; message_waiters = a.message_waiters; next_ticket = a.next_ticket }; comparisons = a.comparisons.count } };
+
+    ghost invariant = { λ a. HasOwnTickets a.room_waiters a.message_waiters a.next_ticket };
+}
+
+fn unpack(packed: u64) -> (bool, u64)
+    ensures bit { result.0 ≡ closed_bit packed }
+    ensures count { result.1 ≡ count_below packed }
+{
+    (packed & CLOSED_BIT > 0, packed & !CLOSED_BIT)
+}
+
+impl<W, A: Allocator + Copy> AwaitableAtomicCounterAndBit<W, A> {
+    /// An open word of this count, for which nobody waits. It takes no memory.
+    pub fn new(alloc: A, value: u64) -> Self
+        requires { value < 2 ^ 63 }
+        ensures word { result.word ≡ record { is_closed = false; count = value; room_waiters = []; message_waiters = []; next_ticket = 0 } }
+        ensures tickets { IsOrderly result.word }
+    {
+        AwaitableAtomicCounterAndBit {
+            alloc,
+            packed: value,
+            room_waiters: WaitingList::new(alloc),
+            message_waiters: WaitingList::new(alloc),
+            next_ticket: 0,
+            comparisons: Comparisons::new(),
+        }
+    }
+
+    /// The bit and the count.
+    pub fn load(&self) -> (bool, u64)
+        ensures bit { result.0 ≡ self.now.word.is_closed }
+        ensures count { result.1 ≡ self.now.word.count }
+    {
+        unpack(self.packed)
+    }
+
+    /// Sets the bit, answers the bit before, and hands out everybody.
+    pub fn set_bit(&mut self) -> (bool, Wakes<W, A>)
+        ensures bit { result.0 ≡ self.old.word.is_closed }
+        ensures handed { result.1 ≡ record { room = self.old.word.room_waiters; message = self.old.word.message_waiters } }
+        ensures word { self.new.word ≡ record self.old.word { is_closed = true; room_waiters = []; message_waiters = [] } }
+        ensures tickets { IsOrderly self.new.word }
+        ensures comparisons { self.new.comparisons ≡ self.old.comparisons }
+    {
+        let (was_closed, _) = unpack(self.packed);
+        self.packed |= CLOSED_BIT;
+        let room = self.room_waiters.take(self.alloc);
+        let message = self.message_waiters.take(self.alloc);
+        (was_closed, Wakes { room, message })
+    }
+
+    /// Adds to the count, and answers the bit and the count before. Where the count rises, those who wait for a
+    /// message are handed out.
+    pub fn incr(&mut self, n: u64) -> ((bool, u64), Wakes<W, A>)
+        requires { self.old.word.count + n < 2 ^ 63 }
+        ensures bit { result.0.0 ≡ self.old.word.is_closed }
+        ensures count { result.0.1 ≡ self.old.word.count }
+        ensures handed { result.1 ≡ (if n == 0 then nobody else record { room = []; message = self.old.word.message_waiters }) }
+        ensures word { self.new.word ≡ record self.old.word { count = self.old.word.count + n; message_waiters = if n == 0 then self.old.word.message_waiters else [] } }
+        ensures tickets { IsOrderly self.new.word }
+        ensures comparisons { self.new.comparisons ≡ self.old.comparisons }
+    {
+        let before = unpack(self.packed);
+        self.packed += n;
+        if n == 0 {
+            return (before, Wakes::nobody(self.alloc));
+        }
+        let room = Vec::new(self.alloc);
+        let message = self.message_waiters.take(self.alloc);
+        (before, Wakes { room, message })
+    }
+
+    /// Takes one from the count, answers the bit and the count before, and hands out those who wait for room.
+    pub fn decr(&mut self) -> ((bool, u64), Wakes<W, A>)
+        requires { 0 < self.old.word.count }
+        ensures bit { result.0.0 ≡ self.old.word.is_closed }
+        ensures count { result.0.1 ≡ self.old.word.count }
+        ensures handed { result.1 ≡ record { room = self.old.word.room_waiters; message = [] } }
+        ensures word { self.new.word ≡ record self.old.word { count = self.old.word.count - 1; room_waiters = [] } }
+        ensures tickets { IsOrderly self.new.word }
+        ensures comparisons { self.new.comparisons ≡ self.old.comparisons }
+    {
+        let before = unpack(self.packed);
+        self.packed -= 1;
+        let room = self.room_waiters.take(self.alloc);
+        let message = Vec::new(self.alloc);
+        (before, Wakes { room, message })
+    }
+
+    /// The party of this ticket waits no more. An unknown ticket changes nothing.
+    pub fn unlisten(&mut self, ticket: u64)
+    where
+        W: Drop,
+        ensures word { self.new.word ≡ word_without (Some ticket) self.old.word }
+        ensures tickets { IsOrderly self.new.word }
+        ensures cost { self.new.comparisons ≤ self.old.comparisons + both_lists_bound self.old.word }
+    {
+        self.room_waiters.remove(ticket, &mut self.comparisons);
+        self.message_waiters.remove(ticket, &mut self.comparisons);
+    }
+}
+
+impl<W: Clone, A: Allocator + Copy> AwaitableAtomicCounterAndBit<W, A> {
+    /// Lists a party that waits for a message, under its own ticket where that stands in the list, and else under
+    /// the next one. None where the clone of the waker or its place was refused, or where the numbers ran out.
+    pub fn listen_incr(&mut self, ticket: Option<u64>, waker: &W) -> Option<u64>
+        ensures listed { IfSome result (λ listed. ListensForMessage W.is_clone ticket waker.now self.old.word listed self.new.word) }
+        ensures refused { IfNone result (self.new.word ≡ word_without ticket self.old.word) }
+        ensures renewed { is_given_listed ticket self.old.word.message_waiters ≡ true → W.is_infallible waker.now → IsSome result }
+        ensures tickets { IsOrderly self.new.word }
+        ensures fits { self.new.word.next_ticket < 2 ^ 64 }
+        ensures cost { self.new.comparisons ≤ self.old.comparisons + both_lists_bound self.old.word }
+    {
+        let Some(listed) = self.message_waiters.listen(
+            ticket,
+            waker,
+            &mut self.next_ticket,
+            &mut self.comparisons,
+        )
+        else {
+            self.room_waiters
+                .remove_given(ticket, &mut self.comparisons);
+            return None;
+        };
+        Some(listed)
+    }
+
+    /// Lists a party that waits for room, as `listen_incr` does one that waits for a message.
+    pub fn listen_decr(&mut self, ticket: Option<u64>, waker: &W) -> Option<u64>
+        ensures listed { IfSome result (λ listed. ListensForRoom W.is_clone ticket waker.now self.old.word listed self.new.word) }
+        ensures refused { IfNone result (self.new.word ≡ word_without ticket self.old.word) }
+        ensures renewed { is_given_listed ticket self.old.word.room_waiters ≡ true → W.is_infallible waker.now → IsSome result }
+        ensures tickets { IsOrderly self.new.word }
+        ensures fits { self.new.word.next_ticket < 2 ^ 64 }
+        ensures cost { self.new.comparisons ≤ self.old.comparisons + both_lists_bound self.old.word }
+    {
+        let Some(listed) = self.room_waiters.listen(
+            ticket,
+            waker,
+            &mut self.next_ticket,
+            &mut self.comparisons,
+        )
+        else {
+            self.message_waiters
+                .remove_given(ticket, &mut self.comparisons);
+            return None;
+        };
+        Some(listed)
+    }
+}

@@ -1,0 +1,16 @@
+//! What follows from the definitions alone.
+ghost use Rattle.std.specs.Prelude.{◌≡◌, List};
+ghost use Rattle.priority_channel_parts.specs.Digits.{digits};
+ghost use Rattle.priority_channel_parts.specs.Greatest.{TakesGreatest};
+
+/// A list of pairs has at most one first greatest pair, and leaves one rest. So which pair a receive gives is
+/// decided by what is pending.
+pub fn one_greatest_law<T, P: Ord>()
+    ensures { (pending : List (T × P)) (pair other : T × P) (rest others : List (T × P))
+        → TakesGreatest P.cmp pending pair rest → TakesGreatest P.cmp pending other others → (pair ≡ other) × (rest ≡ others) }
+{}
+
+/// How many binary digits some lengths have: what the bounds on comparisons come to.
+pub fn digits_law()
+    ensures { (digits 0 ≡ 0) × (digits 1 ≡ 1) × (digits 2 ≡ 2) × (digits 3 ≡ 2) × (digits 4 ≡ 3) × (digits 1000 ≡ 10) × (digits 1024 ≡ 11) }
+{}
