@@ -4,6 +4,7 @@ ghost use Rattle.futures.specs.Task.{Hears, IsArmed, Keeps};
 use futures::task::{Context, Poll, Source, Waker};
 use priority_channel_core::awaitable_atomics::Wakes;
 use std::alloc::{AllocError, Allocator};
+use std::marker::Model;
 use std::sync::{Arc, Mutex, Wait};
 use std::thread::Parker;
 use std::time::Duration;
@@ -18,16 +19,36 @@ pub struct KeptWaker<A: Allocator> {
     place: Arc<Place, A>,
 }
 
+impl<A: Allocator> Model for KeptWaker<A> {
+    ghost use Rattle.std.specs.Prelude.{ℕ};
+    ghost use Rattle.std.specs.Arc.{arc_value};
+
+    ghost Value = { ℕ };
+
+    ghost view = { λ k. arc_value k.place };
+}
+
 // Of a task that waits there is a waker, and a thread that waits is parked.
 #[derive(Drop)]
 struct Place {
+    // Which place it is, for contracts.
+    identity: Source,
     waker: Mutex<Option<Waker>>,
     parker: Parker,
+}
+
+impl Model for Place {
+    ghost use Rattle.std.specs.Prelude.{ℕ};
+
+    ghost Value = { ℕ };
+
+    ghost view = { λ p. p.identity.id };
 }
 
 impl<A: Allocator + Copy> KeptWaker<A> {
     pub fn new(alloc: A) -> Result<Self, AllocError> {
         let place = Place {
+            identity: Source::new(),
             waker: Mutex::new(None),
             parker: Parker::new(),
         };
@@ -67,6 +88,10 @@ impl<A: Allocator> KeptWaker<A> {
 
 // Dropping a clone drops no waker while another is there, so a list can let one go under the channel's lock.
 impl<A: Allocator> Clone for KeptWaker<A> {
+    ghost use Rattle.std.specs.Prelude.{◌≡◌};
+
+    ghost is_clone = { λ place other. other ≡ place };
+
     fn clone(&self) -> Result<Self, AllocError> {
         let place = Arc::try_clone(&self.place)?;
         Ok(KeptWaker { place })

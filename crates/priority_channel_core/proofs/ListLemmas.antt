@@ -2,6 +2,7 @@
 use Rattle.std.proofs.Common.{◌≡◌, ◌<◌, ◌↔◌, IsTrue, is_some, List, [], ◌∷◌, length, refl, sym, ap, subst, arith, Option, Some, None, MatchOption, Bor}
 use Rattle.std.specs.Option.{option_copied}
 use Rattle.std.specs.Iterator.Adapters.{peekable_source, peekable_peeked, peekable_steps, PeeksNext, PeekedOrNext}
+use Rattle.std.specs.Iterator.{AlwaysYields}
 use Rattle.std.specs.declared.iter.Ahead.{Ahead}
 use Rattle.priority_channel_core.specs.Lists.{HasList}
 
@@ -50,3 +51,16 @@ module _ {S A : Type 0} {steps : S → Option A → S → Type 0} where
   pub list_at_peeked : {t : Ahead S A} {list : List A} (r : Option (Bor A)) → HasList steps t list → peekable_peeked t ≡ Some (option_copied r) → (IsTrue (is_some r) ↔ (0 < length list))
   list_at_peeked {t} None h e = rw (list_at_none (taken steps t) h (peeked-step steps t None e)) ((λ k. absurd (cc)), (λ k. absurd (omega arith)))
   list_at_peeked {t} (Some x) h e = let k = list_at_some (taken steps t) x.now h (peeked-step steps t (Some x.now) e) in rw k.1 ((λ _. omega arith), (λ _. refl))
+
+module _ {S A : Type 0} (steps : S → Option A → S → Type 0) where
+  at_source : (s j : Ahead S A) (r : Option A) → peekable_peeked s ≡ None → peekable_steps steps s r j → steps (peekable_source s) r (peekable_source j)
+  at_source s j r e q = let P : Option (Option A) → Type 0 = (λ z. MatchOption z (steps (peekable_source s) r (peekable_source j)) (λ k. (r ≡ k) × (peekable_source j ≡ peekable_source s))) in subst P e q.1
+
+  -- the list of an iterator that was not peeked at
+  pub list_from_source : (s : Ahead S A) (list : List A) → peekable_peeked s ≡ None → AlwaysYields steps (λ x. x) (peekable_source s) list → HasList steps s list
+  list_from_source s [] e h = record { runs = λ x j q. h x (peekable_source j) (at_source s j (Some x) e q) }
+  list_from_source s (y ∷ ys) e h = record {
+    runs = (
+        (λ j q. h.0 (peekable_source j) (at_source s j None e q)),
+        λ x j q. let k = h.1 x (peekable_source j) (at_source s j (Some x) e q) in (k.0, (list_from_source j ys q.0 k.1).runs));
+  }

@@ -1,6 +1,7 @@
 -- Polls of a send, by what the send left and how the poll ended.
-use Rattle.std.proofs.Common.{◌≡◌, ℕ, ◌*◌, ◌≤◌, ◌⊎◌, List, [], ◌∷◌, length, refl, ap, arith, inl, inr}
-use Rattle.std.specs.Prelude.{Result, Ok, Err, Option, IfSome, ◌==◌, if◌then◌else◌}
+use Rattle.std.proofs.Common.{◌≡◌, ℕ, ◌*◌, ◌≤◌, ◌⊎◌, Bool, true, false, List, [], ◌∷◌, length, refl, ap, arith, inl, inr}
+use Rattle.std.specs.Prelude.{Result, Ok, Err, Option, None, Some, IfSome, ◌==◌, if◌then◌else◌}
+use Rattle.std.proofs.lemmas.Bool.{cases_lt}
 use Rattle.std.proofs.lemmas.Bool.Decides.{eqb_tells}
 use Rattle.std.specs.declared.cmp.Ordering.{Ordering}
 use Rattle.priority_channel_core.specs.declared.calls.Call.TheVariants as call
@@ -11,7 +12,8 @@ use Rattle.priority_channel_parts.specs.declared.errors.TrySendError.{TrySendErr
 use Rattle.priority_channel_parts.specs.declared.errors.TrySendError.TheVariants as send_error
 use Rattle.priority_channel_parts.specs.declared.errors.SendFault.{SendFault}
 use Rattle.priority_channel_parts.specs.declared.errors.SendFault.TheVariants as send_fault
-use Rattle.priority_channel_core.specs.State.{State, Handed}
+use Rattle.priority_channel_core.specs.State.{State, Handed, room}
+use Rattle.priority_channel_parts.specs.Waiting.{is_given_listed}
 use Rattle.priority_channel_core.specs.Good.{IsGood}
 use Rattle.priority_channel_core.specs.Sends.{AddsFront, Sends}
 use Rattle.priority_channel_parts.specs.Digits.{digits}
@@ -118,3 +120,22 @@ module _ {T P W M : Type 0} (holds : M → List (T × P) → Type 0) (is_clone :
         let p = polled old mid new handed same.0 given waker reply k.1.0 poll k.1.2 (rw k.1.1 at k.2.moves) ends in
         (answer.PollSendv p.0, (p.0, refl, p.1), rw same.1 (record { moves = p.2; good = good }));
   }
+
+nobody_listed : {W : Type 0} (given : Option ℕ) (waiters : List (ℕ × W)) → waiters ≡ [] → is_given_listed given waiters ≡ true → ⊥
+nobody_listed None waiters e h = absurd (cc)
+nobody_listed (Some ticket) waiters e h = let k = rw e at h in absurd (cc)
+
+false_if : (b : Bool) → (b ≡ true → ⊥) → b ≡ false
+false_if true h = absurd (h refl)
+false_if false h = refl
+
+-- who is listed for room waits at an open and full channel
+pub listed_for_room : {T P W : Type 0} (s : State T P W) → IsGood s → (given : Option ℕ) → is_given_listed given s.room_waiters ≡ true
+    → (s.is_closed ≡ false) × (room s ≡ 0)
+listed_for_room s good given listed =
+    (
+    false_if s.is_closed (λ closed. nobody_listed given s.room_waiters (good.no_waiters_if_closed closed).0 listed),
+    elim (cases_lt (length s.pending) s.capacity) [
+      inl less ↦ absurd (nobody_listed given s.room_waiters (good.room_waiters_if_full less) listed)
+    | inr full ↦ omega (arith, full)
+    ])

@@ -1,5 +1,5 @@
 -- Polls: a send or a receive, and then a place in a waiting list where the channel was full or empty.
-use Rattle.std.specs.Prelude.{◌≡◌, ℕ, ◌⊎◌, List, [], ◌∷◌, Option, Result, Ok, Err}
+use Rattle.std.specs.Prelude.{◌≡◌, ℕ, ◌⊎◌, List, [], ◌∷◌, ⊤, Option, Result, Ok, Err}
 use Rattle.std.specs.declared.cmp.Ordering.{Ordering}
 use Rattle.priority_channel_core.specs.declared.calls.CorePoll.{CorePoll}
 use Rattle.priority_channel_core.specs.declared.calls.CorePoll.TheVariants.{Ready, Pending}
@@ -21,6 +21,11 @@ poll_as_list (Ready (Ok done)) = Ready (Ok done)
 poll_as_list (Ready (Err (send_fault.Closed e))) = Ready (Err (send_fault.Closed (record { 0 = e.0 ∷ [] })))
 poll_as_list (Ready (Err (send_fault.Memory pair))) = Ready (Err (send_fault.Memory (pair ∷ [])))
 poll_as_list (Pending pair ticket) = Pending (pair ∷ []) ticket
+
+-- a fact for the answer Memory of a send's poll alone
+abbrev pub OnMemoryFault : {A : Type 0} → CorePoll (Result (Unit {0}) (SendFault A)) A → Type 0 → Type 0
+OnMemoryFault (Ready (Err (send_fault.Memory held))) fact = fact
+OnMemoryFault answer fact = ⊤
 
 module _ {T P W : Type 0} where
   -- the given ticket, if there is one, in neither list

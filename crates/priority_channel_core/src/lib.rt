@@ -7,5 +7,6 @@
 
 pub mod calls;
 pub mod channel;
+pub mod laws;
 
-pub use priority_channel_parts::{awaitable_atomics, bag, comparisons, errors, item, laws};
+pub use priority_channel_parts::{awaitable_atomics, bag, comparisons, errors, item};

@@ -227,6 +227,12 @@ module _ {T P W : Type 0} where
         let first = (leads_kept cmp opening earlier before h (opening_kept opening o)).0 in
         (leads_kept cmp earlier later after k first).1.held
 
+    pub numbers_rise : (cmp : P → P → Ordering) (opening earlier later : World T P W) (before after : List (Event T P W)) → IsOpening opening
+        → Leads cmp is_clone opening before earlier → Leads cmp is_clone earlier after later → earlier.state.next_ticket ≤ later.state.next_ticket
+    numbers_rise cmp opening earlier later before after o h k =
+        let first = (leads_kept cmp opening earlier before h (opening_kept opening o)).0 in
+        (leads_kept cmp earlier later after k first).1.grows
+
     -- the event's own future is not called
     changed_called : (old new : World T P W) (mid : State T P W) (handed : Handed W) → Hands old.state mid handed → IsKept old → (i : ℕ) (g : Futures T P W)
         → ((t : ℕ) (w : W) → g.standing ≡ Called t w → ⊥) → new.futures ≡ set (call_out handed old.futures) i g → CalledBy is_clone old handed new

@@ -1,5 +1,5 @@
 //! What follows from the definitions alone.
-ghost use Rattle.std.specs.Prelude.{◌≡◌, ◌+◌, true, List, [], ◌∷◌, ◌++◌, length, map, replicate, Ok, Err};
+ghost use Rattle.std.specs.Prelude.{◌≡◌, ◌+◌, ◌≤◌, true, List, [], ◌∷◌, ◌++◌, length, map, replicate, Ok, Err};
 ghost use Rattle.std.specs.List.{AllZip};
 ghost use Rattle.std.specs.List.Sorted.{IsPermutation};
 ghost use Rattle.priority_channel_laws.specs.Alike.{IsAlike, SameOutcome, SameState};
@@ -42,6 +42,8 @@ pub fn waiting_law<T, P: Ord, W: Clone>()
         → Leads P.cmp W.is_clone opening events world → NobodyIsForgotten W.is_clone world }
     ensures once { (opening earlier later : World T P W) (before after : List (Event T P W)) → IsOpening opening
         → Leads P.cmp W.is_clone opening before earlier → Leads P.cmp W.is_clone earlier after later → GivenOnce earlier later }
+    ensures rising { (opening earlier later : World T P W) (before after : List (Event T P W)) → IsOpening opening
+        → Leads P.cmp W.is_clone opening before earlier → Leads P.cmp W.is_clone earlier after later → earlier.state.next_ticket ≤ later.state.next_ticket }
     ensures called { (opening old new : World T P W) (events : List (Event T P W)) (event : Event T P W) (handed : Handed W)
         → IsOpening opening → Leads P.cmp W.is_clone opening events old
         → Happens P.cmp W.is_clone old event handed new → CalledBy W.is_clone old handed new }

@@ -1,6 +1,6 @@
 //! What a future keeps between its polls: a send its pair, a bulk send the pairs that were not sent yet, and each its
 //! ticket. A poll is made on the core, in one hold of what guards it.
-ghost use Rattle.std.specs.Prelude.{◌≡◌, ◌↔◌, ◌*◌, List, length, IsTrue, IfSome, MatchOption, Some, None};
+ghost use Rattle.std.specs.Prelude.{◌≡◌, ◌↔◌, ◌*◌, List, length, IsTrue, IfSome, MatchOption, Some, None, is_some};
 ghost use Rattle.std.specs.Option.{ForSome};
 ghost use Rattle.std.specs.Iterator.Adapters.{peekable_can};
 ghost use Rattle.priority_channel_parts.specs.Digits.{digits};
@@ -14,6 +14,7 @@ ghost use Rattle.priority_channel_core.specs.Channel.{ComparesAtMost, search_bou
 ghost use Rattle.priority_channel_laws.specs.Future.Task.{Sendv as sendv_of};
 ghost use Rattle.priority_channel_laws.specs.World.{GivesUpTicket};
 ghost use Rattle.priority_channel_laws.specs.States.{unpolled, done, told_by, left_by, handed_back, HoldsTail, send_of, recv_of, PollsKept};
+ghost use Rattle.futures.specs.Poll.{IfReady, OnPending};
 
 use futures::task::Poll;
 use priority_channel_core::awaitable_atomics::Wakes;
@@ -167,6 +168,8 @@ impl<T: Drop, P: Ord + Drop> SendState<T, P> {
         ensures done { self.old.kept ≡ None → (result.0 ≡ Poll.Pending) × (result.1 ≡ nobody) × (self.new ≡ self.old) × (core.new ≡ core.old) }
         ensures unsent { IfSome (handed_back result.0) (λ pair. self.old.kept ≡ Some pair) }
         ensures kept { IfSome self.new.kept (λ pair. self.old.kept ≡ Some pair) }
+        ensures answered { IfReady result.0 (λ _. self.new ≡ done) }
+        ensures waits { OnPending result.0 (self.new.kept ≡ self.old.kept) }
         ensures cost { ComparesAtMost (digits (length core.new.state.pending)) (search_bound core.old.state) core.old core.new }
     {
         let Some(((msg, priority), ticket)) = self.pair.take() else {
@@ -259,6 +262,8 @@ impl<T: Drop, P: Ord + Drop, I: Iterator<Item = (T, P)>> SendvState<Peekable<I>>
         ensures done { self.old.kept ≡ None → (result.0 ≡ Poll.Pending) × (result.1 ≡ nobody) × (self.new ≡ self.old) × (core.new ≡ core.old) }
         ensures unsent { IfSome self.old.kept (λ msgs. IfSome (handed_back result.0) (HoldsTail (HasList I.next_gives) msgs)) }
         ensures kept { IfSome self.old.kept (λ msgs. IfSome self.new.kept (HoldsTail (HasList I.next_gives) msgs)) }
+        ensures answered { IfReady result.0 (λ _. self.new ≡ done) }
+        ensures waits { OnPending result.0 (is_some self.new.kept ≡ is_some self.old.kept) }
 
         // Whether or not the iterator has one list.
         ensures unsent_callable { IfSome (handed_back result.0) (peekable_can I.can_next) }
@@ -322,6 +327,8 @@ impl RecvState {
     ) -> (Poll<Result<(T, P), RecvFault>>, Wakes<W, A>)
         ensures step { IfSome self.old.kept (λ kept. PollsKept (Step P.cmp W.is_clone) recv_of (λ reply. Answer.PollRecv reply)
             kept self.old.ticket waker.now core.old.state result.0 result.1 core.new.state self.new) }
+        ensures answered { IfReady result.0 (λ _. self.new ≡ done) }
+        ensures waits { OnPending result.0 (self.new.kept ≡ self.old.kept) }
         ensures done { self.old.kept ≡ None → (result.0 ≡ Poll.Pending) × (result.1 ≡ nobody) × (self.new ≡ self.old) × (core.new ≡ core.old) }
         ensures cost { ComparesAtMost (2 * digits (length core.old.state.pending)) (search_bound core.old.state) core.old core.new }
     {

@@ -3,7 +3,7 @@ ghost use Rattle.std.specs.Prelude.{◌≡◌, ⊤, None, Result};
 ghost use Rattle.futures.specs.Task.{Covers, Keeps};
 ghost use Rattle.futures.specs.Poll.{IfReady, OnPending};
 ghost use Rattle.priority_channel_parts.specs.declared.errors.RecvFault.{RecvFault};
-ghost use Rattle.priority_channel_laws.specs.States.{unpolled};
+ghost use Rattle.priority_channel_laws.specs.States.{unpolled, done};
 
 use crate::kept_waker::KeptWaker;
 use crate::receiver::Receiver;
@@ -58,6 +58,9 @@ impl<T: Drop, P: Ord + Drop, R: Wait + Clone, A: Allocator + Copy> Future for Re
         ensures same { OnPending result ((x : Result (T × P) RecvFault) → ⊤ → ⊤) }
         ensures registered { OnPending result (Covers cx.new (λ source. source ≡ self.new.channel.message)) }
         ensures kept { Keeps cx.old cx.new }
+        ensures channel { self.new.channel ≡ self.old.channel }
+        ensures answered { IfReady result (λ _. self.new.state ≡ done) }
+        ensures waits { OnPending result (self.new.state.kept ≡ self.old.state.kept) }
         ensures done { self.old.state.kept ≡ None → (result ≡ Poll.Pending) × (self.new ≡ self.old) }
     {
         if self.state.is_done() {

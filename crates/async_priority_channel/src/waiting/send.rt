@@ -2,7 +2,7 @@
 ghost use Rattle.std.specs.Prelude.{◌≡◌, ⊤, None};
 ghost use Rattle.futures.specs.Task.{Covers, Keeps};
 ghost use Rattle.futures.specs.Poll.{IfReady, OnPending};
-ghost use Rattle.priority_channel_laws.specs.States.{unpolled};
+ghost use Rattle.priority_channel_laws.specs.States.{unpolled, done};
 ghost use Rattle.async_priority_channel.specs.Handles.{HandsBack};
 
 use crate::kept_waker::KeptWaker;
@@ -60,6 +60,9 @@ impl<T: Drop, P: Ord + Drop, R: Wait + Clone, A: Allocator + Copy> Future for Se
         ensures same { OnPending result ((x : _) → HandsBack self.new x → HandsBack self.old x) }
         ensures registered { OnPending result (Covers cx.new (λ source. source ≡ self.new.channel.room)) }
         ensures kept { Keeps cx.old cx.new }
+        ensures channel { self.new.channel ≡ self.old.channel }
+        ensures answered { IfReady result (λ _. self.new.state ≡ done) }
+        ensures waits { OnPending result (self.new.state.kept ≡ self.old.state.kept) }
         ensures done { self.old.state.kept ≡ None → (result ≡ Poll.Pending) × (self.new ≡ self.old) }
     {
         if self.state.is_done() {

@@ -1,11 +1,11 @@
 //! The future that sends many messages.
-ghost use Rattle.std.specs.Prelude.{◌≡◌, None};
+ghost use Rattle.std.specs.Prelude.{◌≡◌, None, is_some};
 ghost use Rattle.std.specs.Option.{ForSome};
 ghost use Rattle.std.specs.Iterator.Adapters.{peekable_can};
 ghost use Rattle.futures.specs.Task.{Covers, Keeps};
 ghost use Rattle.futures.specs.Poll.{IfReady, OnPending};
 ghost use Rattle.priority_channel_core.specs.Lists.{HasList};
-ghost use Rattle.priority_channel_laws.specs.States.{unpolled};
+ghost use Rattle.priority_channel_laws.specs.States.{unpolled, done};
 ghost use Rattle.async_priority_channel.specs.Handles.{HandsBackTail};
 
 use crate::kept_waker::KeptWaker;
@@ -80,6 +80,9 @@ impl<
         ensures same { OnPending result ((x : _) → HandsBackTail (HasList I.next_gives) (peekable_can I.can_next) self.new x → HandsBackTail (HasList I.next_gives) (peekable_can I.can_next) self.old x) }
         ensures registered { OnPending result (Covers cx.new (λ source. source ≡ self.new.channel.room)) }
         ensures kept { Keeps cx.old cx.new }
+        ensures channel { self.new.channel ≡ self.old.channel }
+        ensures answered { IfReady result (λ _. self.new.state ≡ done) }
+        ensures waits { OnPending result (is_some self.new.state.kept ≡ is_some self.old.state.kept) }
         ensures done { self.old.state.kept ≡ None → (result ≡ Poll.Pending) × (self.new ≡ self.old) }
     {
         if self.state.is_done() {

@@ -84,7 +84,7 @@ impl<T: Drop, P: Ord + Drop, W: Clone, A: Allocator + Copy> PriorityQueueChannel
     ghost use Rattle.priority_channel_core.specs.State.{room as room_of};
     ghost use Rattle.priority_channel_core.specs.Good.{IsGood};
     ghost use Rattle.priority_channel_parts.specs.Errors.{refused};
-    ghost use Rattle.priority_channel_core.specs.Sends.{OnFull, AddsFront};
+    ghost use Rattle.priority_channel_core.specs.Sends.{OnFull, OnMemory, AddsFront};
     ghost use Rattle.priority_channel_core.specs.Bulk.{Performs};
     ghost use Rattle.priority_channel_core.specs.Channel.{ComparesAtMost};
 
@@ -128,6 +128,7 @@ impl<T: Drop, P: Ord + Drop, W: Clone, A: Allocator + Copy> PriorityQueueChannel
 
         // Whether or not the iterator has one list.
         ensures full { OnFull result.0 ((self.new.state.is_closed ≡ false) × (room_of self.new.state ≡ 0)) }
+        ensures memory { OnMemory result.0 ((self.old.state.is_reserved ≡ false) ⊎ (self.new.state.accepted ≡ 2 ^ 64 - 1)) }
         ensures front { (front : List (T × P)) × AddsFront self.old.state front result.1 self.new.state × ComparesAtMost (length front * digits (length self.new.state.pending)) 0 self.old self.new }
         ensures good { IsGood self.new.state }
     {

@@ -1,9 +1,11 @@
 //! The calls that wait: a send or a receive, and then a place in a waiting list where the channel was full or empty.
-ghost use Rattle.std.specs.Prelude.{◌≡◌, ◌+◌, ◌*◌, List, [], length, false, Some, IfSome};
+ghost use Rattle.std.specs.Prelude.{◌≡◌, ◌≢◌, ◌⊎◌, ◌+◌, ◌-◌, ◌*◌, ◌^◌, ℕ, List, [], length, false, true, Some, IfSome, Err};
 ghost use Rattle.std.specs.Iterator.Adapters.{peekable_can};
+ghost use Rattle.std.specs.declared.iter.Ahead.{Ahead};
 ghost use Rattle.priority_channel_parts.specs.Digits.{digits};
 ghost use Rattle.priority_channel_core.specs.Lists.{HasList};
-ghost use Rattle.priority_channel_core.specs.Polls.{unlisted, KeepsWaiting, PollsFront};
+ghost use Rattle.priority_channel_parts.specs.Waiting.{is_given_listed};
+ghost use Rattle.priority_channel_core.specs.Polls.{unlisted, KeepsWaiting, PollsFront, OnMemoryFault};
 
 use crate::awaitable_atomics::Wakes;
 use crate::calls::{Answer, Call, CorePoll};
@@ -46,6 +48,7 @@ impl<T, P: Ord, W: Clone, A: Allocator + Copy> PriorityQueueChannel<T, P, W, A> 
         requires empty { self.old.state.pending ≡ [] }
         requires opened { self.old.state.is_closed ≡ false }
         ensures step { Step P.cmp W.is_clone self.old.state (Call.PollRecv ticket waker.now) (Answer.PollRecv result) nobody self.new.state }
+        ensures renewed { is_given_listed ticket self.old.state.message_waiters ≡ true → W.is_infallible waker.now → (given : ℕ) × (result ≡ CorePoll.Pending tt given) }
         ensures cost { ComparesAtMost 0 (search_bound self.old.state) self.old self.new }
     {
         match self.length.listen_incr(ticket, waker) {
@@ -75,6 +78,7 @@ impl<T, P: Ord, W: Clone, A: Allocator + Copy> PriorityQueueChannel<T, P, W, A> 
         waker: &W,
     ) -> (CorePoll<Result<(T, P), RecvFault>, ()>, Wakes<W, A>)
         ensures step { Step P.cmp W.is_clone self.old.state (Call.PollRecv ticket waker.now) (Answer.PollRecv result.0) result.1 self.new.state }
+        ensures renewed { is_given_listed ticket self.old.state.message_waiters ≡ true → W.is_infallible waker.now → result.0 ≢ CorePoll.Ready (Err RecvFault.Memory) }
         ensures cost { ComparesAtMost (2 * digits (length self.old.state.pending)) (search_bound self.old.state) self.old self.new }
     {
         let (answer, wakes) = self.try_recv();
@@ -100,6 +104,7 @@ impl<T, P: Ord, W: Clone, A: Allocator + Copy> PriorityQueueChannel<T, P, W, A> 
         requires full { room self.old.state ≡ 0 }
         requires opened { self.old.state.is_closed ≡ false }
         ensures waits { KeepsWaiting W.is_clone ticket waker.now kept self.old.state result self.new.state }
+        ensures renewed { is_given_listed ticket self.old.state.room_waiters ≡ true → W.is_infallible waker.now → (given : ℕ) × (result ≡ CorePoll.Pending kept given) }
         ensures good { IsGood self.new.state }
         ensures cost { ComparesAtMost 0 (search_bound self.old.state) self.old self.new }
     {
@@ -119,6 +124,7 @@ impl<T, P: Ord, W: Clone, A: Allocator + Copy> PriorityQueueChannel<T, P, W, A> 
         waker: &W,
     ) -> (CorePoll<Result<(), SendFault<(T, P)>>, (T, P)>, Wakes<W, A>)
         ensures step { Step P.cmp W.is_clone self.old.state (Call.PollSend msg priority ticket waker.now) (Answer.PollSend result.0) result.1 self.new.state }
+        ensures renewed { is_given_listed ticket self.old.state.room_waiters ≡ true → W.is_infallible waker.now → (pair : T × P) → result.0 ≢ CorePoll.Ready (Err (SendFault.Memory pair)) }
         ensures cost { ComparesAtMost (digits (length self.new.state.pending)) (search_bound self.old.state) self.old self.new }
     {
         let (answer, wakes) = self.try_send(msg, priority);
@@ -144,6 +150,7 @@ impl<T, P: Ord, W: Clone, A: Allocator + Copy> PriorityQueueChannel<T, P, W, A> 
 }
 
 impl<T: Drop, P: Ord + Drop, W: Clone, A: Allocator + Copy> PriorityQueueChannel<T, P, W, A> {
+    ghost use Rattle.priority_channel_core.specs.State.{room};
     ghost use Rattle.priority_channel_core.specs.Good.{IsGood};
     ghost use Rattle.priority_channel_core.specs.Bulk.{Performs, kept_by};
     ghost use Rattle.priority_channel_core.specs.Channel.{ComparesAtMost, search_bound};
@@ -162,12 +169,17 @@ impl<T: Drop, P: Ord + Drop, W: Clone, A: Allocator + Copy> PriorityQueueChannel
         requires { peekable_can I.can_next msgs }
         ensures step { Performs (HasList I.next_gives) P.cmp W.is_clone self.old.state (Call.PollSendv msgs ticket waker.now) (Answer.PollSendv result.0) result.1 self.new.state }
         ensures callable { IfSome (kept_by result.0) (peekable_can I.can_next) }
+        ensures closed { self.old.state.is_closed ≡ true → result.0 ≡ CorePoll.Ready (Err (SendFault.Closed (record { 0 = msgs }))) }
+        ensures renewed { is_given_listed ticket self.old.state.room_waiters ≡ true → W.is_infallible waker.now → (rest : Ahead I (T × P)) → result.0 ≢ CorePoll.Ready (Err (SendFault.Memory rest)) }
 
         // Whether or not the iterator has one list.
         ensures front { (front : List (T × P)) × PollsFront W.is_clone self.old.state ticket waker.now front result.1 self.new.state
             × ComparesAtMost (length front * digits (length self.new.state.pending)) (search_bound self.old.state) self.old self.new }
+        ensures memory { OnMemoryFault result.0 ((self.old.state.is_reserved ≡ false) ⊎ (self.new.state.accepted ≡ 2 ^ 64 - 1) ⊎ (room self.new.state ≡ 0)) }
         ensures good { IsGood self.new.state }
     {
+        // For the proof, which needs what holds of the parts.
+        let _ = &self.length;
         let (answer, wakes) = self.try_sendv(msgs);
         match answer {
             Ok(()) => {

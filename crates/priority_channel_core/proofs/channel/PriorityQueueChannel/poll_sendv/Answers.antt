@@ -2,7 +2,7 @@ use Rattle.std.proofs.Common.{Ok, Err, refl, inl}
 use Rattle.std.specs.Iterator.Adapters.{peekable_can}
 use Rattle.priority_channel_parts.specs.declared.errors.TrySendError.TheVariants.{Full, Closed, Memory}
 use Rattle.priority_channel_core.specs.Lists.{HasList}
-use Rattle.priority_channel_core.proofs.PollLemmas.{performs_poll, kept_callable, waits_ends, polls_front}
+use Rattle.priority_channel_core.proofs.PollLemmas.{performs_poll, kept_callable, waits_ends, polls_front, listed_for_room}
 use Rattle.priority_channel_core.proofs.channel.PriorityQueueChannel.poll_sendv.Goals as goal
 
 pub returns-in-Ok-clause-step : goal.returns-in-Ok-clause-step
@@ -63,3 +63,11 @@ returns-in-Err-Full-clause-front g c =
     polls_front g.W.Clone.is_clone c.args.self.now c.try_sendv-answer.new.self waited.new.self c.args.ticket c.args.waker.now tried.0
     c.try_sendv-answer.result.1 tried.1 tried.2 waited.ensures.cost
     (waits_ends g.W.Clone.is_clone c.args.ticket c.args.waker.now c.in-Err-Full.rest c.try_sendv-answer.new.self.state waited.new.self.state waited.result waited.ensures.waits)
+
+pub returns-in-Err-Memory-clause-renewed : goal.returns-in-Err-Memory-clause-renewed
+returns-in-Err-Memory-clause-renewed g c = λ listed infallible rest told.
+    let found = listed_for_room c.args.self.now.state (rw (← c.self.view_is) c.self.invariant.good) c.args.ticket listed in
+    let full = (c.try_sendv-answer.ensures.no_room found.0 found.1).0 in
+    let memory = c.in-Err-Memory.is in
+    let is = c.in-Err-Memory.field-0-is in
+    absurd (cc)
