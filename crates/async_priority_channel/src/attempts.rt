@@ -93,17 +93,28 @@ impl<T, P: Ord, A: Allocator + Copy> Attempt<T, P, A> for Receive {
             × Step P.cmp ⟦<KeptWaker<A> as Clone>⟧.is_clone core.old.state
             (Call.PollRecv ticket.old place.now) (Answer.PollRecv reply) result.1 core.new.state }
     {
-        let (received, wakes) = core.poll_recv(ticket.take(), place);
-        let outcome = match received {
-            CorePoll::Ready(Ok(pair)) => Outcome::Done(pair),
-            CorePoll::Ready(Err(RecvFault::Closed(_))) => Outcome::Closed(Receive),
-            CorePoll::Ready(Err(RecvFault::Memory)) => Outcome::Memory(Receive),
-            CorePoll::Pending((), given) => {
-                *ticket = Some(given);
-                Outcome::Blocked(Receive)
-            }
-        };
-        (outcome, wakes)
+        let (received, wakes) = core.poll_recv(*ticket, place);
+        (receive_polled(self, received, ticket), wakes)
+    }
+}
+
+fn receive_polled<D>(
+    receive: Receive,
+    received: CorePoll<Result<D, RecvFault>, ()>,
+    ticket: &mut Option<u64>,
+) -> Outcome<D, Receive>
+    ensures outcome { result ≡ recv_polled receive received }
+    ensures ticket { ticket.new ≡ waits_under received }
+{
+    *ticket = None;
+    match received {
+        CorePoll::Ready(Ok(done)) => Outcome::Done(done),
+        CorePoll::Ready(Err(RecvFault::Closed(_))) => Outcome::Closed(receive),
+        CorePoll::Ready(Err(RecvFault::Memory)) => Outcome::Memory(receive),
+        CorePoll::Pending((), given) => {
+            *ticket = Some(given);
+            Outcome::Blocked(receive)
+        }
     }
 }
 

@@ -75,7 +75,8 @@ impl<T, P: Ord, R: Wait + Clone, A: Allocator + Copy> Receiver<T, P, R, A> {
     /// Receives a message at once, with its priority. The error is `Empty` where none is pending, and `Closed` where
     /// none can come any more; what is pending in a closed channel is still received.
     ///
-    /// It compares priorities at most twice as often as the number of pending messages has binary digits.
+    /// It compares priorities as often as the core's call does: at most twice as often as the number of pending messages
+    /// has binary digits.
     ///
     /// ```
     /// match rx.try_recv() {
@@ -198,6 +199,10 @@ fn let_go<T: Drop, P: Ord + Drop, R: Wait + Clone, A: Allocator + Copy>(
 }
 
 impl<T, P: Ord, R: Wait + Clone, A: Allocator + Copy> fmt::Debug for Receiver<T, P, R, A> {
+    ghost use Rattle.std.specs.Prelude.{Some, codes};
+
+    ghost debug_output = { λ _. Some (codes "Receiver { .. }") };
+
     fn fmt<W: fmt::Write>(&self, f: &mut fmt::Formatter<W>) -> fmt::Result {
         f.write_str("Receiver { .. }")
     }

@@ -116,7 +116,8 @@ impl<T, P: Ord, R: Wait + Clone, A: Allocator + Copy> Sender<T, P, R, A> {
     /// Sends a message at once, or gives it back: `Closed` where the channel is closed, `Full` where it has no room,
     /// and `Memory` where none could be made.
     ///
-    /// It compares priorities at most as often as the number of pending messages, with this one, has binary digits.
+    /// It compares priorities as often as the core's call does: at most as often as the number of pending messages, with
+    /// this one, has binary digits.
     ///
     /// ```
     /// if let Err(TrySendError::Full((job, priority))) = tx.try_send(job, 7) {
@@ -224,6 +225,10 @@ impl<T: Drop, P: Ord + Drop, R: Wait + Clone, A: Allocator + Copy> Drop for Send
 }
 
 impl<T, P: Ord, R: Wait + Clone, A: Allocator + Copy> fmt::Debug for Sender<T, P, R, A> {
+    ghost use Rattle.std.specs.Prelude.{Some, codes};
+
+    ghost debug_output = { λ _. Some (codes "Sender { .. }") };
+
     fn fmt<W: fmt::Write>(&self, f: &mut fmt::Formatter<W>) -> fmt::Result {
         f.write_str("Sender { .. }")
     }

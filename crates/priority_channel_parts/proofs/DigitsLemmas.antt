@@ -1,11 +1,13 @@
 -- How the number of binary digits grows.
-use Rattle.std.proofs.Common.{◌≡◌, ℕ, ◌+◌, ◌-◌, ◌*◌, ◌/◌, ◌^◌, ◌<◌, ◌≤◌, length, subst, arith}
+use Rattle.std.proofs.Common.{◌≡◌, ℕ, ◌+◌, ◌-◌, ◌*◌, ◌/◌, ◌^◌, ◌<◌, ◌≤◌, length, subst, arith, inl, inr}
 use Rattle.std.specs.Int.Digits.{digits_of}
+use Rattle.std.proofs.lemmas.Bool.{cases_lt}
 use Rattle.std.proofs.lemmas.Nat.{mul-le}
 use Rattle.std.proofs.lemmas.Int.Digits.{length-digits_of_step, length-digits_of-le, number_lt, all_below_base_digits_of, number_digits_of}
 use Rattle.priority_channel_parts.specs.Digits.{digits}
 
-lt-digits : (n : ℕ) → n < 2 ^ digits n
+-- a number is below this power of two
+pub lt-digits : (n : ℕ) → n < 2 ^ digits n
 unfolding digits
 lt-digits n =
     let P : ℕ → Type 0 = λ m. m < 2 ^ length (digits_of 2 n) in
@@ -22,6 +24,18 @@ pub digits-half : (m n : ℕ) → 0 < n → m ≤ n / 2 → digits m + 1 ≤ dig
 unfolding digits
 digits-half m n positive le =
     let h = digits-mono m (n / 2) le in let e = length-digits_of_step 2 n (omega arith) positive in omega arith
+
+-- and at least the power before it
+pub digits-least : (n : ℕ) → 0 < n → 2 ^ (digits n - 1) ≤ n
+unfolding digits
+digits-least n positive =
+    elim (cases_lt n (2 ^ (digits n - 1))) [
+      inl less ↦
+        let le = length-digits_of-le 2 (digits n - 1) n (omega arith) less in
+        let some = digits-half 0 n positive (omega arith) in
+        absurd (omega (arith, le, some))
+    | inr least ↦ least
+    ]
 
 -- from a child's place to its parent's
 pub digits_parent : (at : ℕ) → 0 < at → digits ((at - 1) / 2 + 1) + 1 ≤ digits (at + 1)

@@ -1,5 +1,5 @@
 //! What follows from the definitions alone.
-ghost use Rattle.std.specs.Prelude.{◌≡◌, List};
+ghost use Rattle.std.specs.Prelude.{◌≡◌, ◌-◌, ◌<◌, ◌≤◌, ◌^◌, ℕ, List};
 ghost use Rattle.priority_channel_parts.specs.Digits.{digits};
 ghost use Rattle.priority_channel_parts.specs.Greatest.{TakesGreatest};
 
@@ -10,7 +10,10 @@ pub fn one_greatest_law<T, P: Ord>()
         → TakesGreatest P.cmp pending pair rest → TakesGreatest P.cmp pending other others → (pair ≡ other) × (rest ≡ others) }
 {}
 
-/// How many binary digits some lengths have: what the bounds on comparisons come to.
+/// How many binary digits a length has, in which the bounds on comparisons are: one more than its logarithm, rounded
+/// down.
 pub fn digits_law()
-    ensures { (digits 0 ≡ 0) × (digits 1 ≡ 1) × (digits 2 ≡ 2) × (digits 3 ≡ 2) × (digits 4 ≡ 3) × (digits 1000 ≡ 10) × (digits 1024 ≡ 11) }
+    ensures above { (n : ℕ) → n < 2 ^ digits n }
+    ensures least { (n : ℕ) → 0 < n → 2 ^ (digits n - 1) ≤ n }
+    ensures samples { (digits 0 ≡ 0) × (digits 1 ≡ 1) × (digits 2 ≡ 2) × (digits 3 ≡ 2) × (digits 4 ≡ 3) × (digits 1000 ≡ 10) × (digits 1024 ≡ 11) }
 {}

@@ -3,6 +3,7 @@ use async_priority_channel::{RecvError, RecvFault, Sender, TryRecvManyError, bou
 use futures::executor::block_on;
 use futures::task::Poll;
 use futures::test::MockTask;
+use refusing::Refusing;
 use std::sync::Wait;
 use std::test::Fail;
 use std::thread;
@@ -130,5 +131,156 @@ fn a_dropped_batch_takes_nothing(rt: HostRuntime) -> Result<(), Fail> {
     assert!(rt; batch.is_empty());
     assert_eq!(rt; rx.len(), 2);
     assert_eq!(rt; rx.recv_many_blocking(&mut batch, 3), Ok(2));
+    Ok(())
+}
+
+#[test]
+fn an_open_channel_with_nothing_gives_no_batch(rt: HostRuntime) -> Result<(), Fail> {
+    let (tx, rx) = unbounded::<u64, u64, _, _>(&rt, rt.alloc())?;
+    let mut batch = Vec::new(rt.alloc());
+    for limit in [0usize, 1, 5] {
+        assert_eq!(rt;
+            rx.try_recv_many(&mut batch, limit),
+            Err(TryRecvManyError::Empty),
+            "at {limit}"
+        );
+    }
+    // Of none there is nothing to wait for.
+    assert_eq!(rt; rx.recv_many_blocking(&mut batch, 0), Ok(0));
+    assert_eq!(rt; block_on(&rt, rx.recv_many(&mut batch, 0))?, Ok(0));
+    assert!(rt; batch.is_empty());
+    assert!(rt; !tx.is_closed());
+    Ok(())
+}
+
+#[test]
+fn a_closed_channel_with_nothing_gives_no_batch(rt: HostRuntime) -> Result<(), Fail> {
+    let (tx, rx) = unbounded::<u64, u64, _, _>(&rt, rt.alloc())?;
+    drop(tx);
+    let mut batch = Vec::new(rt.alloc());
+    for limit in [0usize, 1, 5] {
+        let tried = rx.try_recv_many(&mut batch, limit);
+        assert_eq!(rt; tried, Err(TryRecvManyError::Closed), "at {limit}");
+        let received = rx.recv_many_blocking(&mut batch, limit);
+        assert_eq!(rt; received, Err(RecvFault::Closed(RecvError)), "at {limit}");
+        let received = block_on(&rt, rx.recv_many(&mut batch, limit))?;
+        assert_eq!(rt; received, Err(RecvFault::Closed(RecvError)), "at {limit}");
+    }
+    assert!(rt; batch.is_empty());
+    Ok(())
+}
+
+// Of two that are sent one after the other a wait brings the first, and the second where that has
+// come by then.
+
+#[test]
+fn a_thread_waits_for_the_first_of_a_batch(rt: HostRuntime) -> Result<(), Fail> {
+    let (tx, rx) = unbounded(&rt, rt.alloc())?;
+    let receiving = thread::spawn(&rt, move || {
+        let mut batch = Vec::new(rt.alloc());
+        let received = rx.recv_many_blocking(&mut batch, 4);
+        (received, batch, rx)
+    })?;
+    let_others_wait(&rt);
+    assert!(rt; send_all(&tx, &[2, 1]));
+    let (received, mut batch, rx) = receiving.join(&rt);
+    let count = received?;
+    assert!(rt; matches!(count, 1 | 2), "{count}");
+    assert_eq!(rt; batch.len(), count);
+    let late = rx.try_recv_many(&mut batch, 4).unwrap_or(0);
+    assert_eq!(rt; count.wrapping_add(late), 2);
+    assert_eq!(rt; batch.as_slice(), [(2, 2), (1, 1)].as_slice());
+    Ok(())
+}
+
+#[test]
+fn a_task_waits_for_the_first_of_a_batch(rt: HostRuntime) -> Result<(), Fail> {
+    let (tx, rx) = unbounded(&rt, rt.alloc())?;
+    let receiving = thread::spawn(&rt, move || {
+        let mut batch = Vec::new(rt.alloc());
+        let received = block_on(&rt, rx.recv_many(&mut batch, 4));
+        (received, batch, rx)
+    })?;
+    let_others_wait(&rt);
+    assert!(rt; send_all(&tx, &[2, 1]));
+    let (received, mut batch, rx) = receiving.join(&rt);
+    let count = received??;
+    assert!(rt; matches!(count, 1 | 2), "{count}");
+    assert_eq!(rt; batch.len(), count);
+    let late = rx.try_recv_many(&mut batch, 4).unwrap_or(0);
+    assert_eq!(rt; count.wrapping_add(late), 2);
+    assert_eq!(rt; batch.as_slice(), [(2, 2), (1, 1)].as_slice());
+    Ok(())
+}
+
+// What comes in one step comes at once, the greatest first.
+
+#[test]
+fn a_thread_that_waits_gets_all_of_one_step(rt: HostRuntime) -> Result<(), Fail> {
+    let (tx, rx) = unbounded(&rt, rt.alloc())?;
+    let receiving = thread::spawn(&rt, move || {
+        let mut batch = Vec::new(rt.alloc());
+        let received = rx.recv_many_blocking(&mut batch, 4);
+        (received, batch)
+    })?;
+    let_others_wait(&rt);
+    assert!(rt;
+        tx.try_sendv([(1u64, 1u64), (2, 2)].into_iter().peekable())
+            .is_ok()
+    );
+    let (received, batch) = receiving.join(&rt);
+    assert_eq!(rt; received, Ok(2));
+    assert_eq!(rt; batch.as_slice(), [(2, 2), (1, 1)].as_slice());
+    Ok(())
+}
+
+#[test]
+fn a_task_that_waits_gets_all_of_one_step(rt: HostRuntime) -> Result<(), Fail> {
+    let (tx, rx) = unbounded(&rt, rt.alloc())?;
+    let receiving = thread::spawn(&rt, move || {
+        let mut batch = Vec::new(rt.alloc());
+        let received = block_on(&rt, rx.recv_many(&mut batch, 4));
+        (received, batch)
+    })?;
+    let_others_wait(&rt);
+    assert!(rt;
+        tx.try_sendv([(1u64, 1u64), (2, 2)].into_iter().peekable())
+            .is_ok()
+    );
+    let (received, batch) = receiving.join(&rt);
+    assert_eq!(rt; received?, Ok(2));
+    assert_eq!(rt; batch.as_slice(), [(2, 2), (1, 1)].as_slice());
+    Ok(())
+}
+
+#[test]
+fn without_place_a_batch_takes_nothing(rt: HostRuntime) -> Result<(), Fail> {
+    let alloc = Refusing::new(rt.alloc());
+    let (tx, rx) = unbounded(&rt, rt.alloc())?;
+    assert!(rt; send_all(&tx, &[3, 1, 7]));
+    let mut batch = Vec::with_capacity(&alloc, 1)?;
+    batch.push((9u64, 9u64))?;
+    alloc.refuse_all();
+    assert_eq!(rt;
+        rx.try_recv_many(&mut batch, 3),
+        Err(TryRecvManyError::Memory)
+    );
+    assert_eq!(rt; rx.try_recv_many(&mut batch, 0), Ok(0));
+    assert_eq!(rt; batch.as_slice(), [(9, 9)].as_slice());
+    assert_eq!(rt; rx.len(), 3);
+    Ok(())
+}
+
+#[test]
+fn a_batch_takes_what_there_is_place_for(rt: HostRuntime) -> Result<(), Fail> {
+    let alloc = Refusing::new(rt.alloc());
+    let (tx, rx) = unbounded(&rt, rt.alloc())?;
+    assert!(rt; send_all(&tx, &[3, 1, 7]));
+    let mut batch = Vec::with_capacity(&alloc, 2)?;
+    alloc.refuse_all();
+    assert_eq!(rt; rx.try_recv_many(&mut batch, 3), Ok(2));
+    assert_eq!(rt; batch.as_slice(), [(7, 7), (3, 3)].as_slice());
+    assert_eq!(rt; rx.try_recv(), Ok((1, 1)));
+    assert!(rt; rx.is_empty());
     Ok(())
 }
