@@ -61,6 +61,7 @@ module _ {S A : Type 0} (steps : S → Option A → S → Type 0) where
   list_from_source s [] e h = record { runs = λ x j q. h x (peekable_source j) (at_source s j (Some x) e q) }
   list_from_source s (y ∷ ys) e h = record {
     runs = (
-        (λ j q. h.0 (peekable_source j) (at_source s j None e q)),
-        λ x j q. let k = h.1 x (peekable_source j) (at_source s j (Some x) e q) in (k.0, (list_from_source j ys q.0 k.1).runs));
+      (λ j q. h.0 (peekable_source j) (at_source s j None e q)),
+      λ x j q. let k = h.1 x (peekable_source j) (at_source s j (Some x) e q) in (k.0, (list_from_source j ys q.0 k.1).runs),
+    );
   }

@@ -132,10 +132,10 @@ false_if false h = refl
 -- who is listed for room waits at an open and full channel
 pub listed_for_room : {T P W : Type 0} (s : State T P W) → IsGood s → (given : Option ℕ) → is_given_listed given s.room_waiters ≡ true
     → (s.is_closed ≡ false) × (room s ≡ 0)
-listed_for_room s good given listed =
-    (
-    false_if s.is_closed (λ closed. nobody_listed given s.room_waiters (good.no_waiters_if_closed closed).0 listed),
-    elim (cases_lt (length s.pending) s.capacity) [
-      inl less ↦ absurd (nobody_listed given s.room_waiters (good.room_waiters_if_full less) listed)
+listed_for_room s good given listed = (
+  false_if s.is_closed (λ closed. nobody_listed given s.room_waiters (good.no_waiters_if_closed closed).0 listed),
+  elim (cases_lt (length s.pending) s.capacity) [
+    | inl less ↦ absurd (nobody_listed given s.room_waiters (good.room_waiters_if_full less) listed)
     | inr full ↦ omega (arith, full)
-    ])
+  ],
+)

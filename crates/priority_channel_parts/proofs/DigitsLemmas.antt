@@ -30,11 +30,11 @@ pub digits-least : (n : ℕ) → 0 < n → 2 ^ (digits n - 1) ≤ n
 unfolding digits
 digits-least n positive =
     elim (cases_lt n (2 ^ (digits n - 1))) [
-      inl less ↦
-        let le = length-digits_of-le 2 (digits n - 1) n (omega arith) less in
-        let some = digits-half 0 n positive (omega arith) in
-        absurd (omega (arith, le, some))
-    | inr least ↦ least
+      | inl less ↦
+          let le = length-digits_of-le 2 (digits n - 1) n (omega arith) less in
+          let some = digits-half 0 n positive (omega arith) in
+          absurd (omega (arith, le, some))
+      | inr least ↦ least
     ]
 
 -- from a child's place to its parent's
