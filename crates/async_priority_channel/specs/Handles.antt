@@ -1,5 +1,5 @@
 -- What handles and futures show of their channel. What is behind its lock, no value shows.
-use Rattle.std.specs.Prelude.{◌≡◌, ℕ, Bool, List, IfErr, IfSome, Some, Result}
+use Rattle.std.specs.Prelude.{◌≡◌, ℕ, Bool, true, List, [], IfErr, IfSome, Option, Some, None, Result}
 use Rattle.priority_channel_parts.specs.declared.errors.SendFault.{SendFault}
 use Rattle.priority_channel_parts.specs.Errors.{unsent}
 use Rattle.priority_channel_laws.specs.States.{Holding, HoldsTail}
@@ -23,6 +23,10 @@ pub record Underway (K : Type 0) : Type 0 where
 pub record Streaming : Type 0 where
   pub channel : Channel
   pub has_ended : Bool
+
+-- what a stream may yield: nothing more once it has ended
+abbrev pub MayYield : {X : Type 0} → Streaming → List X → Option X → Type 0
+MayYield stream pairs next = stream.has_ended ≡ true → (pairs ≡ []) × (next ≡ None)
 
 -- a future that receives up to so many messages, and whether it has answered
 pub record Batching : Type 0 where

@@ -2,6 +2,8 @@
 ghost use Rattle.std.specs.Prelude.{◌≡◌, ⊤, ℕ, List, [], Option, None, true, false, IfSome, OnSome};
 ghost use Rattle.futures.specs.Task.{Covers, Keeps};
 ghost use Rattle.futures.specs.Poll.{IfReady, OnPending};
+ghost use Rattle.futures.specs.Runs.{After, Within};
+ghost use Rattle.async_priority_channel.specs.Handles.{MayYield};
 ghost use Rattle.async_priority_channel.specs.Waits.{OnBlocked};
 
 use crate::attempts::{Attempt, Outcome, Receive};
@@ -41,6 +43,8 @@ impl<A: Allocator + Copy> Receives<A> {
         ensures registered { OnPending result (Covers cx.new (λ source. source ≡ handle.now.message)) }
         ensures kept { Keeps cx.old cx.new }
         ensures ended { IfReady result (λ next. next ≡ None → self.new.has_ended ≡ true) }
+        ensures goes_on { IfReady result (λ next. OnSome next (self.new.has_ended ≡ self.old.has_ended)) }
+        ensures waits { OnPending result (self.new.has_ended ≡ self.old.has_ended) }
         ensures stays_ended { self.old.has_ended ≡ true → result ≡ Poll.Ready None }
     {
         if self.has_ended {
@@ -152,9 +156,21 @@ impl<T, P: Ord, R: Wait + Clone, A: Allocator + Copy> Stream for RecvStream<'_, 
 
     ghost needs = { λ s source. source ≡ s.channel.message };
 
-    ghost yields = { λ s pairs next. s.has_ended ≡ true → (pairs ≡ []) × (next ≡ None) };
+    ghost yields = { MayYield };
 
-    fn poll_next(&mut self, cx: &mut Context<'_>) -> Poll<Option<(T, P)>> {
+    fn poll_next(&mut self, cx: &mut Context<'_>) -> Poll<Option<(T, P)>>
+        ensures value { IfReady result (MayYield self.old []) }
+        ensures rest { IfReady result (λ next. IfSome next (λ pair. After (MayYield self.old) pair (MayYield self.new))) }
+        ensures goes { IfReady result (λ next. OnSome next ⊤) }
+        ensures again { OnPending result ⊤ }
+        ensures same { OnPending result (Within (MayYield {X = T × P} self.old) (MayYield self.new)) }
+        ensures registered { OnPending result (Covers cx.new (λ source. source ≡ self.new.channel.message)) }
+        ensures kept { Keeps cx.old cx.new }
+        ensures channel { self.new.channel ≡ self.old.channel }
+        ensures ended { IfReady result (λ next. next ≡ None → self.new.has_ended ≡ true) }
+        ensures goes_on { IfReady result (λ next. OnSome next (self.new ≡ self.old)) }
+        ensures waits { OnPending result (self.new ≡ self.old) }
+    {
         let receiver = self.receiver;
         self.receives.poll_next_on(&receiver.handle, cx)
     }
@@ -188,9 +204,21 @@ impl<T: Drop, P: Ord + Drop, R: Wait + Clone, A: Allocator + Copy> Stream
 
     ghost needs = { λ s source. source ≡ s.channel.message };
 
-    ghost yields = { λ s pairs next. s.has_ended ≡ true → (pairs ≡ []) × (next ≡ None) };
+    ghost yields = { MayYield };
 
-    fn poll_next(&mut self, cx: &mut Context<'_>) -> Poll<Option<(T, P)>> {
+    fn poll_next(&mut self, cx: &mut Context<'_>) -> Poll<Option<(T, P)>>
+        ensures value { IfReady result (MayYield self.old []) }
+        ensures rest { IfReady result (λ next. IfSome next (λ pair. After (MayYield self.old) pair (MayYield self.new))) }
+        ensures goes { IfReady result (λ next. OnSome next ⊤) }
+        ensures again { OnPending result ⊤ }
+        ensures same { OnPending result (Within (MayYield {X = T × P} self.old) (MayYield self.new)) }
+        ensures registered { OnPending result (Covers cx.new (λ source. source ≡ self.new.channel.message)) }
+        ensures kept { Keeps cx.old cx.new }
+        ensures channel { self.new.channel ≡ self.old.channel }
+        ensures ended { IfReady result (λ next. next ≡ None → self.new.has_ended ≡ true) }
+        ensures goes_on { IfReady result (λ next. OnSome next (self.new ≡ self.old)) }
+        ensures waits { OnPending result (self.new ≡ self.old) }
+    {
         self.receives.poll_next_on(&self.receiver.handle, cx)
     }
 }

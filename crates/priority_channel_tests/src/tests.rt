@@ -9,6 +9,7 @@ mod batches;
 mod bulk;
 mod errors;
 mod handles;
+mod lists;
 mod polls;
 mod refused;
 mod runs;

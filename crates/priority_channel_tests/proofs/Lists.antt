@@ -1,0 +1,33 @@
+-- What a bulk send into reserved place accepts, where its list is known.
+use Rattle.std.proofs.Common.{◌≡◌, ◌+◌, ◌<◌, ◌^◌, true, false, List, ◌++◌, length, refl, sym, ap, ◌∙◌, arith, inl, inr, true≢false}
+use Rattle.std.specs.Prelude.{Result, Ok, Err, take}
+use Rattle.std.specs.declared.cmp.Ordering.{Ordering}
+use Rattle.std.proofs.lemmas.List.{take_all}
+use Rattle.priority_channel_parts.specs.declared.errors.TrySendError.{TrySendError}
+use Rattle.priority_channel_parts.specs.declared.errors.TrySendError.TheVariants.{Full, Closed, Memory}
+use Rattle.priority_channel_core.specs.declared.calls.Call.TheVariants as call
+use Rattle.priority_channel_core.specs.declared.calls.Answer.TheVariants as answer
+use Rattle.priority_channel_core.specs.State.{State, Handed, room}
+use Rattle.priority_channel_core.specs.Sends.{Sends}
+use Rattle.priority_channel_core.specs.Bulk.{Performs}
+
+module _ {T P W : Type 0} where
+  accepted_in_place : (old new : State T P W) (pairs : List (T × P)) (reply : Result (Unit {0}) (TrySendError (List (T × P)))) (handed : Handed W)
+      → old.is_closed ≡ false → old.is_reserved ≡ true → old.accepted + length pairs < 2 ^ 64
+      → Sends old pairs reply handed new → new.pending ≡ old.pending ++ take (room old) pairs
+  accepted_in_place old new pairs (Ok done) handed opened reserved numbers sends =
+      ap (λ s. s.pending) sends.2.1.new_is
+      ∙ ap (λ front. old.pending ++ front) (take_all (length pairs) pairs (omega arith) ∙ sym (take_all (room old) pairs sends.1))
+  accepted_in_place old new pairs (Err (Closed rest)) handed opened reserved numbers sends = absurd (cc)
+  accepted_in_place old new pairs (Err (Full rest)) handed opened reserved numbers sends = ap (λ s. s.pending) sends.2.1.new_is
+  accepted_in_place old new pairs (Err (Memory rest)) handed opened reserved numbers (n, some, more, rest_is, accepts, cause) =
+      absurd (elim cause [ inl plain ↦ (true≢false (sym reserved ∙ plain)) | inr last ↦ omega (arith, some, last, numbers) ])
+
+  pub accepted_of_list : {M : Type 0} (holds : M → List (T × P) → Type 0) (cmp : P → P → Ordering) (is_clone : W → W → Type 0)
+      (old new : State T P W) (msgs : M) (pairs : List (T × P)) (reply : Result (Unit {0}) (TrySendError M)) (handed : Handed W)
+      → holds msgs pairs → Performs holds cmp is_clone old (call.TrySendv msgs) (answer.TrySendv reply) handed new
+      → old.is_closed ≡ false → old.is_reserved ≡ true → old.accepted + length pairs < 2 ^ 64
+      → new.pending ≡ old.pending ++ take (room old) pairs
+  accepted_of_list holds cmp is_clone old new msgs pairs reply handed list performs opened reserved numbers =
+      let (told, same, step) = performs.at (call.TrySendv pairs) (pairs, refl, list) in
+      accepted_in_place old new pairs same.0 handed opened reserved numbers (rw same.1 at step.moves)

@@ -1,0 +1,28 @@
+//! What a caller concludes from the contract of a bulk send, where it knows the list.
+ghost use Rattle.std.specs.Prelude.{◌≡◌, ◌+◌, ◌≤◌, ◌<◌, ◌^◌, ◌++◌, true, false, take, vec_len};
+ghost use Rattle.priority_channel_core.specs.State.{room};
+
+use crate::tests::{Core, receive, spend};
+use priority_channel_core::laws::list_law;
+use std::alloc::AllocError;
+use std::vec::IntoIter;
+
+// Into reserved place, so that no memory is refused. What there is no room for is let go.
+fn send_vec(core: &mut Core<&'static str>, pairs: Vec<(&'static str, u64)>)
+    requires opened { core.old.state.is_closed ≡ false }
+    requires reserved { core.old.state.is_reserved ≡ true }
+    requires numbers { core.old.state.accepted + vec_len pairs < 2 ^ 64 }
+    ensures { core.new.state.pending ≡ core.old.state.pending ++ take (room core.old.state) pairs.entry.items }
+{
+    list_law::<IntoIter<(&'static str, u64)>>();
+    let (_, wakes) = core.try_sendv(pairs.into_iter().peekable());
+    spend(wakes);
+}
+
+#[test]
+fn the_caller_knows_how_many_of_a_vector_were_accepted(rt: HostRuntime) -> Result<(), AllocError> {
+    let mut core: Core<&str> = Core::bounded_reserved(rt.alloc(), 2)?;
+    send_vec(&mut core, vec![in rt.alloc(); ("a", 0), ("b", 1), ("c", 2)]?);
+    assert_eq!(rt; receive(&mut core), Ok(("b", 1)));
+    Ok(())
+}
