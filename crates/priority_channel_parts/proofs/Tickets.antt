@@ -1,15 +1,13 @@
 -- Listing a party and taking a ticket off keep each ticket one of the word's own, in one list alone.
-use Rattle.std.proofs.Common.{length, ◌≡◌, ℕ, ◌+◌, ◌<◌, ◌≤◌, ◌≢◌, true, false, not, List, [], ◌∷◌, ◌++◌, get_or, map, refl, sym, subst, arith, inl, inr}
+use Rattle.std.proofs.Common.{◌≡◌, ℕ, ◌+◌, ◌<◌, ◌≤◌, ◌≢◌, true, false, not, List, [], ◌∷◌, ◌++◌, get_or, map, refl, sym, subst, arith, inl, inr}
 use Rattle.std.specs.Prelude.{◌==◌, if◌then◌else◌, Option, Some, None, IfSome, IfNone}
 use Rattle.std.specs.List.{All}
 use Rattle.std.proofs.lemmas.Bool.{cases_lt, ne_eqb}
-use Rattle.std.proofs.lemmas.Bool.Decides.{eqb_tells}
 use Rattle.std.proofs.lemmas.List.Elements.{All-filter, All-map, All-push, All-weaker}
 use Rattle.std.proofs.lemmas.List.Folds.{list_any_none}
 use Rattle.priority_channel_parts.specs.Waiting.{IsRising, is_listed, without, with_waker, without_given, listing, fresh, Listing, HasOwnTickets}
-use Rattle.priority_channel_parts.proofs.WaitingLemmas.{all_from_unlisted, rising-without}
+use Rattle.priority_channel_parts.proofs.WaitingLemmas.{all_from_unlisted, rising-with_waker, rising-without, same_ticket}
 use Rattle.std.proofs.lemmas.List.Quantifiers.{all_pairs_push}
-use Rattle.std.proofs.lemmas.List.{get_or-map, length-map}
 
 module _ {W : Type 0} where
   pub unlisted_above : (xs : List (ℕ × W)) (n t : ℕ) → All (λ a. a.0 < n) xs → n ≤ t → is_listed t xs ≡ false
@@ -47,12 +45,9 @@ module _ {W : Type 0} where
   follows-renewed : (xs : List (ℕ × W)) (u n : ℕ) (w : W) → IsRising xs → All (λ a. a.0 < n) xs → Follows xs (with_waker u w xs) n n
   follows-renewed xs u n w rises below =
       let f : ℕ × W → ℕ × W = λ a. if a.0 == u then (u, w) else a in
-      let same : (a : ℕ × W) → (f a).0 ≡ a.0 = λ a. elim (eqb_tells a.0 u) [ inl h ↦ let e = h.0 in rw e (sym h.1) | inr h ↦ let e = h.0 in rw e refl ] in
+      let same : (a : ℕ × W) → (f a).0 ≡ a.0 = same_ticket u w in
       record {
-        rises = λ i j d l m.
-            let k : j < length xs = omega (arith, length-map xs f) in let r = rises i j d l k in
-            let p = same (get_or xs i d) in let q = same (get_or xs j d) in
-            rw (get_or-map f xs i d d (omega arith), get_or-map f xs j d d k) (omega arith);
+        rises = rising-with_waker xs u w rises;
         below = All-map (λ a. a.0 < n) f xs (λ k d l. let b = below k d l in let e = same (get_or xs k d) in omega arith);
         grows = omega arith;
         no_others = λ t ne h. list_any_none (λ a. a.0 == t) (map f xs) (All-map (λ a. (a.0 == t) ≡ false) f xs (λ k d l. let e = same (get_or xs k d) in rw e (all_from_unlisted xs t h k d l)));

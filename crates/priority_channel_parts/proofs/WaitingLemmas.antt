@@ -68,6 +68,17 @@ module _ {W : Type 0} where
         ]
       ])
 
+  -- no ticket changes where a waker does
+  pub same_ticket : (t : ℕ) (w : W) (a : ℕ × W) → (if a.0 == t then (t, w) else a).0 ≡ a.0
+  same_ticket t w a = elim (eqb_tells a.0 t) [ inl h ↦ let e = h.0 in rw e (sym h.1) | inr h ↦ let e = h.0 in rw e refl ]
+
+  pub rising-with_waker : (xs : List (ℕ × W)) (t : ℕ) (w : W) → IsRising xs → IsRising (with_waker t w xs)
+  rising-with_waker xs t w rising = λ i j d l m.
+      let f : ℕ × W → ℕ × W = λ a. if a.0 == t then (t, w) else a in
+      let k : j < length xs = omega (arith, length-map xs f) in let r = rising i j d l k in
+      let p = same_ticket t w (get_or xs i d) in let q = same_ticket t w (get_or xs j d) in
+      rw (get_or-map f xs i d d (omega arith), get_or-map f xs j d d k) (omega arith)
+
   tail_rising : (x : ℕ × W) (xs : List (ℕ × W)) → IsRising (x ∷ xs) → IsRising xs
   tail_rising x xs rising = λ i j d l m. rising (suc i) (suc j) d (omega arith) (omega arith)
 

@@ -4,16 +4,18 @@ ghost use Rattle.std.specs.List.{All, HoldsAt};
 ghost use Rattle.priority_channel_parts.specs.Digits.{digits};
 ghost use Rattle.priority_channel_parts.specs.Waiting.{is_listed, is_given_listed, without, with_waker, without_given, TakesPlace};
 
+mod entries;
+
 use crate::comparisons::Comparisons;
+use entries::Entries;
 use std::alloc::{Allocator, Global};
 use std::cmp::Ordering;
 use std::marker::Model;
-use std::mem;
 
 /// The tickets that wait, each with the waker kept under it, in rising order.
 #[derive(Drop)]
 pub struct WaitingList<W, A: Allocator = Global> {
-    entries: Vec<(u64, W), A>,
+    entries: Entries<W, A>,
 }
 
 impl<W, A: Allocator> Model for WaitingList<W, A> {
@@ -22,9 +24,9 @@ impl<W, A: Allocator> Model for WaitingList<W, A> {
 
     ghost Value = { List (ℕ × W) };
 
-    ghost view = { λ l. l.entries.items };
+    ghost view = { λ l. l.entries };
 
-    ghost invariant = { λ l. IsRising l.entries.items };
+    ghost invariant = { λ l. IsRising l.entries };
 }
 
 impl<W, A: Allocator> WaitingList<W, A> {
@@ -32,7 +34,7 @@ impl<W, A: Allocator> WaitingList<W, A> {
         ensures { result ≡ [] }
     {
         WaitingList {
-            entries: Vec::new(alloc),
+            entries: Entries::new(alloc),
         }
     }
 
@@ -46,7 +48,7 @@ impl<W, A: Allocator> WaitingList<W, A> {
         let mut high = self.entries.len();
         while low < high {
             let middle = low + (high - low) / 2;
-            match comparisons.compare(&self.entries[middle].0, &ticket) {
+            match self.entries.compare(middle, ticket, comparisons) {
                 Ordering::Less => low = middle + 1,
                 Ordering::Equal => return Some(middle),
                 Ordering::Greater => high = middle,
@@ -63,7 +65,7 @@ impl<W, A: Allocator> WaitingList<W, A> {
         ensures cost { comparisons.new.count ≤ comparisons.old.count + digits (length self.old) }
     {
         if let Some(place) = self.place_of(ticket, comparisons) {
-            let _entry = self.entries.remove(place);
+            self.entries.remove(place);
         }
     }
 
@@ -84,7 +86,7 @@ impl<W, A: Allocator> WaitingList<W, A> {
         ensures taken { result.items ≡ self.old }
         ensures empty { self.new ≡ [] }
     {
-        mem::replace(&mut self.entries, Vec::new(alloc))
+        self.entries.take(alloc)
     }
 }
 
@@ -125,11 +127,11 @@ impl<W: Clone, A: Allocator> WaitingList<W, A> {
     {
         match waker.clone() {
             Ok(waker) => {
-                self.entries[place] = (ticket, waker);
+                self.entries.set(place, ticket, waker);
                 Some(ticket)
             }
             Err(_) => {
-                let _entry = self.entries.remove(place);
+                self.entries.remove(place);
                 None
             }
         }
@@ -148,7 +150,7 @@ impl<W: Clone, A: Allocator> WaitingList<W, A> {
             return None;
         }
         let waker = waker.clone().ok()?;
-        self.entries.push((ticket, waker)).ok()?;
+        self.entries.push(ticket, waker).ok()?;
         *next_ticket = ticket + 1;
         Some(ticket)
     }

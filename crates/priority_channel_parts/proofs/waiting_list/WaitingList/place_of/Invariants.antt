@@ -5,7 +5,7 @@ use Rattle.priority_channel_parts.proofs.waiting_list.WaitingList.place_of.Given
 
 abbrev pub invariant-loop-low : goal.invariant-loop-low
 invariant-loop-low g l =
-    let xs = l.self-inside.entries.items in
+    let xs = l.self-inside.entries in
     record {
       in_order : l.low ≤ l.high;
       in_list : l.high ≤ length xs;

@@ -1,0 +1,88 @@
+//! The entries of a waiting list. Their tickets are seen in this file alone, so who looks for one has to count.
+ghost use Rattle.std.specs.Prelude.{◌≡◌, ◌+◌, ◌<◌, OnErr, OnOk, [], ◌∷◌, ◌++◌, length, set};
+ghost use Rattle.std.specs.List.{HoldsAt, remove};
+ghost use Rattle.std.specs.Ordering.{nat_cmp};
+
+use crate::comparisons::Comparisons;
+use std::alloc::{AllocError, Allocator, Global};
+use std::cmp::Ordering;
+use std::marker::Model;
+use std::mem;
+
+/// Tickets, each with the waker kept under it. `compare` alone tells anything of a listed ticket.
+#[derive(Drop)]
+pub struct Entries<W, A: Allocator = Global> {
+    listed: Vec<(u64, W), A>,
+}
+
+impl<W, A: Allocator> Model for Entries<W, A> {
+    ghost use Rattle.std.specs.Prelude.{ℕ, List};
+
+    ghost Value = { List (ℕ × W) };
+
+    ghost view = { λ e. e.listed.items };
+}
+
+impl<W, A: Allocator> Entries<W, A> {
+    pub fn new(alloc: A) -> Self
+        ensures { result ≡ [] }
+    {
+        Entries {
+            listed: Vec::new(alloc),
+        }
+    }
+
+    pub fn len(&self) -> usize
+        ensures { result ≡ length self.now }
+    {
+        self.listed.len()
+    }
+
+    /// Compares the ticket that is listed at a place with the given one, and counts that.
+    pub fn compare(&self, place: usize, ticket: u64, comparisons: &mut Comparisons) -> Ordering
+        requires { place < length self.now }
+        ensures order { HoldsAt (λ a. result ≡ nat_cmp a.0 ticket) self.now place }
+        ensures count { comparisons.new.count ≡ comparisons.old.count + 1 }
+    {
+        comparisons.compare(&self.listed[place].0, &ticket)
+    }
+
+    /// Lists a ticket behind the others.
+    pub fn push(&mut self, ticket: u64, waker: W) -> Result<(), AllocError>
+    where
+        W: Drop,
+        ensures pushed { OnOk result (self.new ≡ self.old ++ (ticket, waker) ∷ []) }
+        ensures refused { OnErr result (self.new ≡ self.old) }
+    {
+        self.listed.push((ticket, waker))?;
+        Ok(())
+    }
+
+    /// Lists this ticket and this waker in place of those at a place.
+    pub fn set(&mut self, place: usize, ticket: u64, waker: W)
+    where
+        W: Drop,
+        requires { place < length self.old }
+        ensures { self.new ≡ set self.old place (ticket, waker) }
+    {
+        self.listed[place] = (ticket, waker);
+    }
+
+    /// Takes off what is listed at a place.
+    pub fn remove(&mut self, place: usize)
+    where
+        W: Drop,
+        requires { place < length self.old }
+        ensures { self.new ≡ remove self.old place }
+    {
+        let _entry = self.listed.remove(place);
+    }
+
+    /// Takes the whole list. Takes no memory.
+    pub fn take(&mut self, alloc: A) -> Vec<(u64, W), A>
+        ensures taken { result.items ≡ self.old }
+        ensures empty { self.new ≡ [] }
+    {
+        mem::replace(&mut self.listed, Vec::new(alloc))
+    }
+}
