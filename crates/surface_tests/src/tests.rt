@@ -1,5 +1,6 @@
 mod batches;
 mod guards;
+mod nested;
 mod peeks;
 mod streams;
 mod wakers;
