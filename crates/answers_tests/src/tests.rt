@@ -1,0 +1,3 @@
+mod bulk;
+mod mirror;
+mod orders;
