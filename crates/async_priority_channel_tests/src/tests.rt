@@ -1,7 +1,6 @@
 mod counts;
 mod joined;
 mod memory;
-mod mirror;
 mod states;
 mod threads;
 mod tries;

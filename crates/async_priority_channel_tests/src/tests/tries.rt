@@ -3,7 +3,6 @@ use async_priority_channel::{
     Sender, TryRecvError, TrySendError, bounded, bounded_reserved, unbounded,
 };
 use std::alloc::AllocError;
-use std::cmp::Reverse;
 use std::sync::Wait;
 
 // A reply to a bulk send, with how many messages came back.
@@ -176,53 +175,5 @@ fn an_empty_list_is_refused_where_a_pair_would_be(rt: HostRuntime) -> Result<(),
         Err(TrySendError::Closed(0))
     );
     assert!(rt; !tx.close());
-    Ok(())
-}
-
-#[test]
-fn takes_any_ordered_priority(rt: HostRuntime) -> Result<(), AllocError> {
-    let (tx, rx) = unbounded(&rt, rt.alloc())?;
-    for i in [1u64, 3, 2] {
-        assert_eq!(rt; tx.try_send(i, Reverse(i)), Ok(()));
-    }
-    for i in [1u64, 2, 3] {
-        assert_eq!(rt; rx.try_recv(), Ok((i, Reverse(i))));
-    }
-    Ok(())
-}
-
-#[test]
-fn takes_pairs_as_priorities(rt: HostRuntime) -> Result<(), AllocError> {
-    let (tx, rx) = unbounded(&rt, rt.alloc())?;
-    for (msg, priority) in [("a", (1u64, "x")), ("b", (1, "y")), ("c", (0, "z"))] {
-        assert_eq!(rt; tx.try_send(msg, priority), Ok(()));
-    }
-    for msg in ["b", "a", "c"] {
-        assert_eq!(rt; rx.try_recv().map(|(msg, _)| msg), Ok(msg));
-    }
-    Ok(())
-}
-
-#[test]
-fn without_priorities_it_is_a_queue(rt: HostRuntime) -> Result<(), AllocError> {
-    let (tx, rx) = unbounded(&rt, rt.alloc())?;
-    for i in 1..4u64 {
-        assert_eq!(rt; tx.try_send(i, ()), Ok(()));
-    }
-    for i in 1..4u64 {
-        assert_eq!(rt; rx.try_recv(), Ok((i, ())));
-    }
-    Ok(())
-}
-
-#[test]
-fn equal_priorities_come_out_as_they_were_accepted(rt: HostRuntime) -> Result<(), AllocError> {
-    let (tx, rx) = unbounded(&rt, rt.alloc())?;
-    for (msg, priority) in [("a", 1u64), ("b", 1), ("c", 2), ("d", 1)] {
-        assert_eq!(rt; tx.try_send(msg, priority), Ok(()));
-    }
-    for pair in [("c", 2u64), ("a", 1), ("b", 1), ("d", 1)] {
-        assert_eq!(rt; rx.try_recv(), Ok(pair));
-    }
     Ok(())
 }
