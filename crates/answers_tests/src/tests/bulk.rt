@@ -33,6 +33,14 @@ fn counting(left: u64, calls: &Cell<u64>) -> Peekable<CountsCalls<'_>> {
     CountsCalls { left, calls }.peekable()
 }
 
+fn count_pairs(rest: Peekable<CountsCalls<'_>>) -> u64 {
+    let mut count = 0u64;
+    for _ in rest {
+        count = count.wrapping_add(1);
+    }
+    count
+}
+
 #[test]
 fn a_full_channel_leaves_the_iterator_untouched(rt: HostRuntime) -> Result<(), Fail> {
     let calls = Cell::new(0);
@@ -42,7 +50,7 @@ fn a_full_channel_leaves_the_iterator_untouched(rt: HostRuntime) -> Result<(), F
         return Err(Fail::from("it was not refused as by a full channel"));
     };
     assert_eq!(rt; calls.get(), 0);
-    assert_eq!(rt; rest.count(), 5);
+    assert_eq!(rt; count_pairs(rest), 5);
     Ok(())
 }
 
@@ -55,7 +63,7 @@ fn a_closed_channel_leaves_the_iterator_untouched(rt: HostRuntime) -> Result<(),
         return Err(Fail::from("it was not refused as by a closed channel"));
     };
     assert_eq!(rt; calls.get(), 0);
-    assert_eq!(rt; rest.count(), 5);
+    assert_eq!(rt; count_pairs(rest), 5);
     Ok(())
 }
 
@@ -67,7 +75,7 @@ fn one_pair_more_than_there_is_room_for_is_peeked(rt: HostRuntime) -> Result<(),
         return Err(Fail::from("it was not refused for want of room"));
     };
     assert_eq!(rt; calls.get(), 3);
-    assert_eq!(rt; rest.count(), 3);
+    assert_eq!(rt; count_pairs(rest), 3);
     assert_eq!(rt; rx.len(), 2);
     Ok(())
 }

@@ -182,13 +182,15 @@ fn receive_at_once(core: &mut Core) -> Option<Result<(u64, u64), RecvFault>> {
 
 type Pairs<'a> = Peekable<Copied<slice::Iter<'a, (u64, u64)>>>;
 
-// With how many pairs came back.
-fn count_unsent(sent: Result<(), TrySendError<Pairs<'_>>>) -> Result<(), TrySendError<usize>> {
+// With the first pair that came back: as messages are numbered, it tells all that did.
+fn first_unsent(
+    sent: Result<(), TrySendError<Pairs<'_>>>,
+) -> Result<(), TrySendError<Option<(u64, u64)>>> {
     match sent {
         Ok(()) => Ok(()),
-        Err(TrySendError::Full(rest)) => Err(TrySendError::Full(rest.count())),
-        Err(TrySendError::Closed(rest)) => Err(TrySendError::Closed(rest.count())),
-        Err(TrySendError::Memory(rest)) => Err(TrySendError::Memory(rest.count())),
+        Err(TrySendError::Full(mut rest)) => Err(TrySendError::Full(rest.next())),
+        Err(TrySendError::Closed(mut rest)) => Err(TrySendError::Closed(rest.next())),
+        Err(TrySendError::Memory(mut rest)) => Err(TrySendError::Memory(rest.next())),
     }
 }
 
@@ -230,7 +232,7 @@ fn sends_many_alike<R: Wait + Clone>(
 ) -> bool {
     let sent = tx.try_sendv(pairs.iter().copied().peekable());
     let want = answer_of(core.try_sendv(pairs.iter().copied().peekable()));
-    count_unsent(sent) == count_unsent(want)
+    first_unsent(sent) == first_unsent(want)
 }
 
 fn polls_a_send_alike<R: Wait + Clone + RandomSource + AllocGlobal>(
