@@ -1,6 +1,5 @@
 mod counts;
 mod joined;
-mod memory;
 mod states;
 mod threads;
 mod tries;
