@@ -1,1 +1,5 @@
+mod batches;
+mod bulk;
+mod counts;
 mod memory;
+mod wakes;

@@ -1,0 +1,93 @@
+//! Where a handle is refused, the counts are of the handles that there are.
+use async_priority_channel::{TryRecvError, bounded};
+use refusing::Refusing;
+use std::alloc::{AllocError, Global};
+use std::sync::Wait;
+use std::test::Fail;
+
+/// A permission to wait that takes memory, so that each handle asks for some.
+#[derive(Drop)]
+struct Boxed<'a, R> {
+    rt: R,
+    number: Box<u64, &'a Refusing<Global>>,
+    alloc: &'a Refusing<Global>,
+}
+
+impl<'a, R: Clone> Boxed<'a, R> {
+    fn new(rt: &R, alloc: &'a Refusing<Global>, number: u64) -> Result<Self, AllocError> {
+        let number = Box::new(alloc, number)?;
+        Ok(Boxed {
+            rt: rt.clone()?,
+            number,
+            alloc,
+        })
+    }
+}
+
+impl<R: Wait> Wait for Boxed<'_, R> {}
+
+impl<'a, R: Clone> Clone for Boxed<'a, R> {
+    fn clone(&self) -> Result<Boxed<'a, R>, AllocError> {
+        Boxed::new(&self.rt, self.alloc, *self.number)
+    }
+}
+
+fn count<H>(handle: &Option<H>) -> usize {
+    handle.is_some() as usize
+}
+
+// Requests 1 to 3 are those of the making, for two permissions and for what its handles share. Each
+// call after it asks for its handle's permission: 4 and 5 are for weak handles, 6 and 7 for clones,
+// and 8 and 9 for upgrades.
+#[test]
+fn a_refused_handle_is_not_counted(rt: HostRuntime) -> Result<(), Fail> {
+    for n in 1..20u64 {
+        let alloc = Refusing::new(rt.alloc());
+        let permission = Boxed::new(&rt, &alloc, 7)?;
+        alloc.refuse_nth(n);
+        let Ok((tx, rx)) = bounded(&permission, &alloc, 2) else {
+            assert!(rt; n <= 3, "at {n}");
+            continue;
+        };
+        let (weak_tx, weak_rx) = (tx.downgrade().ok(), rx.downgrade().ok());
+        assert_eq!(rt; (tx.sender_count(), tx.receiver_count()), (1, 1), "at {n}");
+        let (other_tx, other_rx) = (tx.clone().ok(), rx.clone().ok());
+        let (senders, receivers) = (1 + count(&other_tx), 1 + count(&other_rx));
+        assert_eq!(rt;
+            (tx.sender_count(), tx.receiver_count()),
+            (senders, receivers),
+            "at {n}"
+        );
+        let third_tx = weak_tx.as_ref().and_then(|weak| weak.upgrade());
+        let third_rx = weak_rx.as_ref().and_then(|weak| weak.upgrade());
+        assert_eq!(rt;
+            (tx.sender_count(), tx.receiver_count()),
+            (senders + count(&third_tx), receivers + count(&third_rx)),
+            "at {n}"
+        );
+        let met_none = alloc.refuse_none();
+        let refused = [
+            weak_tx.is_none(),
+            weak_rx.is_none(),
+            other_tx.is_none(),
+            other_rx.is_none(),
+            weak_tx.is_some() && third_tx.is_none(),
+            weak_rx.is_some() && third_rx.is_none(),
+        ];
+        for (request, is_refused) in (4..10u64).zip(refused) {
+            assert_eq!(rt; is_refused, request == n, "request {request} at {n}");
+        }
+        drop((other_tx, other_rx, third_tx, third_rx));
+        assert_eq!(rt; (tx.sender_count(), tx.receiver_count()), (1, 1), "at {n}");
+        assert_eq!(rt; tx.try_send("x", n), Ok(()));
+        drop(tx);
+        assert_eq!(rt; (rx.sender_count(), rx.receiver_count()), (0, 1), "at {n}");
+        assert_eq!(rt; rx.try_recv(), Ok(("x", n)));
+        assert_eq!(rt; rx.try_recv(), Err(TryRecvError::Closed));
+        if met_none {
+            assert_eq!(rt; n, 10);
+            return Ok(());
+        }
+    }
+    Err(Fail::from("one of each nineteen requests was refused"))
+}
