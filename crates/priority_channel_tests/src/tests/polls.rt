@@ -103,9 +103,11 @@ impl<'a> Clone for BoxedWaker<'a> {
     }
 }
 
+type SendPoll = CorePoll<Result<(), SendFault<(u64, u64)>>, (u64, u64)>;
+
 // A receive waits, and is polled again with a waker whose clone is refused: the two answers, and whether a send then
-// hands out nobody.
-fn poll_with_refused_clone(
+// is taken and hands out nobody.
+fn poll_recv_with_refused_clone(
     rest: Global,
     alloc: &Refusing<Global>,
 ) -> Result<(Received, Received, bool), AllocError> {
@@ -119,17 +121,54 @@ fn poll_with_refused_clone(
     alloc.refuse_nth(1);
     let (refused, wakes) = core.poll_recv(Some(0), &second);
     spend(wakes);
-    let (_, wakes) = core.try_send(7, 1);
-    Ok((waits, refused, hands_out_nobody(wakes)))
+    let (sent, wakes) = core.try_send(7, 1);
+    Ok((waits, refused, hands_out_nobody(wakes) && sent == Ok(())))
 }
 
 #[test]
-fn a_refused_waker_waits_no_more(rt: HostRuntime) -> Result<(), AllocError> {
+fn a_refused_waker_of_a_receive_waits_no_more(rt: HostRuntime) -> Result<(), AllocError> {
     let alloc = Refusing::new(rt.alloc());
-    let (waits, refused, is_unlisted) = poll_with_refused_clone(rt.alloc(), &alloc)?;
+    let (waits, refused, is_unlisted) = poll_recv_with_refused_clone(rt.alloc(), &alloc)?;
     assert!(rt; !alloc.refuse_none());
     assert!(rt; matches!(waits, CorePoll::Pending((), 0)));
     assert!(rt; matches!(refused, CorePoll::Ready(Err(RecvFault::Memory))));
+    assert!(rt; is_unlisted);
+    Ok(())
+}
+
+// A send waits, and is polled again with a waker whose clone is refused: the two answers, and whether a receive then
+// gives what was pending and hands out nobody.
+fn poll_send_with_refused_clone(
+    rest: Global,
+    alloc: &Refusing<Global>,
+) -> Result<(SendPoll, SendPoll, bool), AllocError> {
+    let mut core: PriorityQueueChannel<u64, u64, BoxedWaker<'_>> = PriorityQueueChannel::bounded(
+        rest, 1,
+    );
+    let first = BoxedWaker::new(alloc, 1)?;
+    let second = BoxedWaker::new(alloc, 2)?;
+    let (_, wakes) = core.try_send(7, 1);
+    spend(wakes);
+    let (waits, wakes) = core.poll_send(8, 2, None, &first);
+    spend(wakes);
+    alloc.refuse_nth(1);
+    let (refused, wakes) = core.poll_send(8, 2, Some(0), &second);
+    spend(wakes);
+    let (received, wakes) = core.try_recv();
+    Ok((
+        waits,
+        refused,
+        hands_out_nobody(wakes) && received == Ok((7, 1)),
+    ))
+}
+
+#[test]
+fn a_refused_waker_of_a_send_waits_no_more(rt: HostRuntime) -> Result<(), AllocError> {
+    let alloc = Refusing::new(rt.alloc());
+    let (waits, refused, is_unlisted) = poll_send_with_refused_clone(rt.alloc(), &alloc)?;
+    assert!(rt; !alloc.refuse_none());
+    assert!(rt; matches!(waits, CorePoll::Pending((8, 2), 0)));
+    assert!(rt; matches!(refused, CorePoll::Ready(Err(SendFault::Memory((8, 2))))));
     assert!(rt; is_unlisted);
     Ok(())
 }
