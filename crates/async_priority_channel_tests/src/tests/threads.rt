@@ -1,5 +1,5 @@
 //! Handles on many threads.
-use async_priority_channel::{Ends, Receiver, Sender, bounded, unbounded};
+use async_priority_channel::{Ends, Receiver, RecvError, RecvFault, Sender, bounded, unbounded};
 use futures::executor::block_on;
 use std::alloc::{AllocError, AllocGlobal, Global};
 use std::random::RandomSource;
@@ -170,46 +170,90 @@ fn one_close_is_the_first(rt: HostRuntime) -> Result<(), Fail> {
     Ok(())
 }
 
-// Receives by tries, between which other threads may go on. None after a million of them.
-fn receive_by_tries<R: Threads + Wait + Clone>(rt: &R, rx: &Receiver<u64, u64, R>) -> Option<u64> {
-    for _ in 0..1_000_000u32 {
-        if let Ok((number, _)) = rx.try_recv() {
-            return Some(number);
-        }
-        thread::yield_now();
-    }
-    None
-}
-
-// Sends the numbers from 1 to 10, each once the one before has come back.
-fn ping<R: Threads + Wait + Clone>(
-    rt: &R,
-    tx: &Sender<u64, u64, R>,
-    rx: &Receiver<u64, u64, R>,
-) -> bool {
-    for i in 1..=10u64 {
-        if tx.try_send(i, i).is_err() || receive_by_tries(rt, rx) != Some(i) {
-            return false;
-        }
-    }
-    true
-}
-
-// Sends ten numbers back.
-fn pong<R: Threads + Wait + Clone>(
-    rt: &R,
-    tx: &Sender<u64, u64, R>,
-    rx: &Receiver<u64, u64, R>,
-) -> bool {
-    for _ in 0..10 {
-        let Some(number) = receive_by_tries(rt, rx) else {
+// Receives one by one, and tells whether the numbers below `count` came, the greatest first.
+fn receive_in_order<R>(rt: &R, rx: &Receiver<u64, u64, R>, count: u64) -> bool
+where
+    R: Wait + Copy + RandomSource + AllocGlobal,
+{
+    for number in (0..count).rev() {
+        let Ok(received) = block_on(rt, rx.recv()) else {
             return false;
         };
-        if tx.try_send(number, number).is_err() {
+        if received != Ok((number, number)) {
             return false;
         }
     }
     true
+}
+
+#[test]
+fn what_was_pending_comes_beside_a_close(rt: HostRuntime) -> Result<(), Fail> {
+    let (tx, rx) = bounded(&rt, rt.alloc(), 1000)?;
+    assert!(rt; send_many(&rt, &tx, 1000));
+    let receiving = thread::spawn(&rt, move || {
+        let all_came = receive_in_order(&rt, &rx, 1000);
+        (all_came, block_on(&rt, rx.recv()))
+    })?;
+    let closing = thread::spawn(&rt, move || tx.close())?;
+    assert!(rt; closing.join(&rt));
+    let (all_came, last) = receiving.join(&rt);
+    assert!(rt; all_came);
+    assert_eq!(rt; last?, Err(RecvFault::Closed(RecvError)));
+    Ok(())
+}
+
+// How many numbers two threads pass to and fro, and how often each of them tries at most.
+const ROUNDS: u64 = 100;
+
+const TRIES: u32 = 10_000_000;
+
+// Sends the numbers from 1 on by tries, each once the one before has come back.
+fn ping<R: Wait + Clone>(tx: &Sender<u64, u64, R>, rx: &Receiver<u64, u64, R>) -> bool {
+    let mut sent = 0u64;
+    let mut returned = 0u64;
+    for _ in 0..TRIES {
+        if returned == ROUNDS {
+            return true;
+        }
+        if sent == returned {
+            let next = sent.wrapping_add(1);
+            if tx.try_send(next, next).is_ok() {
+                sent = next;
+            }
+        } else if let Ok((number, _)) = rx.try_recv() {
+            if number != sent {
+                return false;
+            }
+            returned = number;
+        } else {
+            thread::yield_now();
+        }
+    }
+    false
+}
+
+// Sends the numbers that come back, by tries.
+fn pong<R: Wait + Clone>(tx: &Sender<u64, u64, R>, rx: &Receiver<u64, u64, R>) -> bool {
+    let mut returned = 0u64;
+    let mut held = None;
+    for _ in 0..TRIES {
+        if returned == ROUNDS {
+            return true;
+        }
+        match held {
+            Some(number) => {
+                if tx.try_send(number, number).is_ok() {
+                    returned = number;
+                    held = None;
+                }
+            }
+            None => {
+                held = rx.try_recv().ok().map(|(number, _)| number);
+                thread::yield_now();
+            }
+        }
+    }
+    false
 }
 
 // Run one after the other, neither could finish.
@@ -217,8 +261,8 @@ fn pong<R: Threads + Wait + Clone>(
 fn two_threads_go_on_side_by_side(rt: HostRuntime) -> Result<(), Fail> {
     let (there_tx, there_rx) = bounded(&rt, rt.alloc(), 1)?;
     let (back_tx, back_rx) = bounded(&rt, rt.alloc(), 1)?;
-    let returning = thread::spawn(&rt, move || pong(&rt, &back_tx, &there_rx))?;
-    assert!(rt; ping(&rt, &there_tx, &back_rx));
+    let returning = thread::spawn(&rt, move || pong(&back_tx, &there_rx))?;
+    assert!(rt; ping(&there_tx, &back_rx));
     assert!(rt; returning.join(&rt));
     Ok(())
 }

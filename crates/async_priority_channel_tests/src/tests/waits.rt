@@ -1,12 +1,12 @@
 //! Sends and receives by futures, on one thread.
 use async_priority_channel::{
-    RecvError, RecvFault, Send, SendError, SendFault, Sender, TryRecvError, bounded, unbounded,
+    RecvError, RecvFault, SendError, SendFault, Sender, TryRecvError, bounded, unbounded,
 };
-use futures::Future;
 use futures::executor::block_on;
 use futures::future::poll_immediate;
-use futures::task::{Context, Poll};
-use std::alloc::{AllocGlobal, Allocator};
+use futures::task::Poll;
+use futures::test::MockTask;
+use std::alloc::AllocGlobal;
 use std::io;
 use std::random::RandomSource;
 use std::sync::Wait;
@@ -130,29 +130,43 @@ fn a_dropped_receive_takes_nothing(rt: HostRuntime) -> Result<(), Fail> {
     Ok(())
 }
 
-// Sends, and is polled once more after its answer. Tells whether that poll was pending.
-#[derive(Drop)]
-struct PolledAgain<'a, R: Wait + Clone, A: Allocator + Copy> {
-    sending: Send<'a, u64, u64, R, A>,
-}
+// A future that has answered is pending, and leaves the channel as it is.
 
-impl<R: Wait + Clone, A: Allocator + Copy> Future for PolledAgain<'_, R, A> {
-    type Output = bool;
-
-    fn poll(&mut self, cx: &mut Context<'_>) -> Poll<bool> {
-        match self.sending.poll(cx) {
-            Poll::Ready(Ok(())) => Poll::Ready(matches!(self.sending.poll(cx), Poll::Pending)),
-            Poll::Ready(Err(_)) => Poll::Ready(false),
-            Poll::Pending => Poll::Pending,
-        }
-    }
+#[test]
+fn a_send_that_is_done_sends_no_more(rt: HostRuntime) -> Result<(), Fail> {
+    let (tx, rx) = bounded(&rt, rt.alloc(), 4)?;
+    let task = MockTask::new(&rt)?;
+    let mut sending = tx.send(1, 1);
+    assert!(rt; matches!(task.poll(&mut sending), Poll::Ready(Ok(()))));
+    assert!(rt; matches!(task.poll(&mut sending), Poll::Pending));
+    assert_eq!(rt; rx.try_recv(), Ok((1, 1)));
+    assert_eq!(rt; rx.try_recv(), Err(TryRecvError::Empty));
+    Ok(())
 }
 
 #[test]
-fn a_future_that_is_done_is_pending(rt: HostRuntime) -> Result<(), Fail> {
+fn a_bulk_send_that_is_done_sends_no_more(rt: HostRuntime) -> Result<(), Fail> {
     let (tx, rx) = bounded(&rt, rt.alloc(), 4)?;
-    let sending = tx.send(1, 1);
-    assert!(rt; block_on(&rt, PolledAgain { sending })?);
-    assert_eq!(rt; rx.len(), 1);
+    let task = MockTask::new(&rt)?;
+    let mut sending = tx.sendv([(1, 1), (2, 2)].into_iter().peekable());
+    assert!(rt; matches!(task.poll(&mut sending), Poll::Ready(Ok(()))));
+    assert!(rt; matches!(task.poll(&mut sending), Poll::Pending));
+    assert_eq!(rt; rx.try_recv(), Ok((2, 2)));
+    assert_eq!(rt; rx.try_recv(), Ok((1, 1)));
+    assert_eq!(rt; rx.try_recv(), Err(TryRecvError::Empty));
+    Ok(())
+}
+
+#[test]
+fn a_receive_that_is_done_takes_no_more(rt: HostRuntime) -> Result<(), Fail> {
+    let (tx, rx) = bounded(&rt, rt.alloc(), 4)?;
+    assert_eq!(rt; tx.try_send(1, 1), Ok(()));
+    assert_eq!(rt; tx.try_send(2, 2), Ok(()));
+    let task = MockTask::new(&rt)?;
+    let mut receiving = rx.recv();
+    assert!(rt; matches!(task.poll(&mut receiving), Poll::Ready(Ok((2, 2)))));
+    assert!(rt; matches!(task.poll(&mut receiving), Poll::Pending));
+    assert_eq!(rt; rx.try_recv(), Ok((1, 1)));
+    assert_eq!(rt; rx.try_recv(), Err(TryRecvError::Empty));
     Ok(())
 }
