@@ -65,6 +65,10 @@ fn answers_each_line(rt: HostRuntime) {
             "reserved 4\nsend 1 a\nsend 1 b\nsend 1 c\nrecv\nrecv\nrecv\n",
             "ok\nok\nok\nok\na 1\nb 1\nc 1\n",
         ),
+        (
+            "bounded 5\nsendv 1 a 1 b 1 c\nrecv\nrecv\nrecv\n",
+            "ok\nok\na 1\nb 1\nc 1\n",
+        ),
         // The extreme priorities, the first and the last character of words, no last line feed.
         (
             "reserved 2\nsend -9223372036854775808 !\nsend 9223372036854775807 ~\nrecv\nrecv",
