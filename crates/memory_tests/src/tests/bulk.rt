@@ -7,7 +7,8 @@ use std::alloc::Allocator;
 use std::sync::Wait;
 use std::test::Fail;
 
-// The greatest priority stands first, so they come out as they are listed, whoever waits in between.
+// The greatest priority stands first, so they come out as they are listed, also where they are
+// received before all were sent.
 const PAIRS: [(u64, u64); 9] = [
     (1, 9),
     (2, 8),

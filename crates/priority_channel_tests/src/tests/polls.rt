@@ -105,8 +105,8 @@ impl<'a> Clone for BoxedWaker<'a> {
 
 type SendPoll = CorePoll<Result<(), SendFault<(u64, u64)>>, (u64, u64)>;
 
-// A receive waits, and is polled again with a waker whose clone is refused: the two answers, and whether a send then
-// is taken and hands out nobody.
+// A receive waits, and is polled again with a waker whose clone is refused: the two answers, and
+// whether a send then is taken and hands out nobody.
 fn poll_recv_with_refused_clone(
     rest: Global,
     alloc: &Refusing<Global>,
@@ -136,8 +136,8 @@ fn a_refused_waker_of_a_receive_waits_no_more(rt: HostRuntime) -> Result<(), All
     Ok(())
 }
 
-// A send waits, and is polled again with a waker whose clone is refused: the two answers, and whether a receive then
-// gives what was pending and hands out nobody.
+// A send waits, and is polled again with a waker whose clone is refused: the two answers, and
+// whether a receive then gives what was pending and hands out nobody.
 fn poll_send_with_refused_clone(
     rest: Global,
     alloc: &Refusing<Global>,
