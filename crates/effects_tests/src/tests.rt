@@ -1,0 +1,6 @@
+mod calls;
+mod drops;
+mod long;
+mod others;
+mod steps;
+mod tasks;

@@ -1,0 +1,127 @@
+//! Long runs: nothing changes after many messages, waits or turns.
+use super::tasks::is_pending;
+use async_priority_channel::{Sender, bounded, unbounded};
+use futures::StreamExt;
+use futures::executor::block_on;
+use futures::test::MockTask;
+use std::sync::Wait;
+use std::sync::atomic::{AtomicU64, Ordering};
+use std::test::Fail;
+
+// More than a million, and than 2^20.
+const MANY: u64 = 1_050_000;
+
+// More than 2^16.
+const SOME: u64 = 66_000;
+
+#[test]
+fn a_wait_after_a_million_waits_is_a_wait(rt: HostRuntime) -> Result<(), Fail> {
+    let task = MockTask::new(&rt)?;
+    let (tx, rx) = bounded(&rt, rt.alloc(), 1)?;
+    for i in 0..MANY {
+        assert!(rt; is_pending(task.poll(&mut rx.recv())), "at {i}");
+    }
+    let mut receiving = rx.recv();
+    assert!(rt; is_pending(task.poll(&mut receiving)));
+    task.enter(|_| {});
+    assert_eq!(rt; tx.try_send(1u64, 1u64), Ok(()));
+    assert!(rt; task.is_woken());
+    Ok(())
+}
+
+// Sends 0, 1, 2 and so on, each with itself as priority. Tells how many were sent.
+fn send_numbers<R: Wait + Clone>(tx: &Sender<u64, u64, R>, count: u64) -> u64 {
+    let mut sent = 0u64;
+    for i in 0..count {
+        if tx.try_send(i, i).is_ok() {
+            sent = sent.wrapping_add(1);
+        }
+    }
+    sent
+}
+
+#[test]
+fn a_million_messages_are_pending(rt: HostRuntime) -> Result<(), Fail> {
+    let (tx, rx) = unbounded(&rt, rt.alloc())?;
+    assert_eq!(rt; send_numbers(&tx, MANY), MANY);
+    assert_eq!(rt; rx.len(), MANY);
+    assert_eq!(rt; rx.try_recv(), Ok((MANY - 1, MANY - 1)));
+    Ok(())
+}
+
+// In one step each, and by one batch, one loop or one stream.
+#[test]
+fn many_messages_come_in_one_go(rt: HostRuntime) -> Result<(), Fail> {
+    let (tx, rx) = bounded(&rt, rt.alloc(), SOME)?;
+    assert!(rt;
+        tx.try_sendv((0..SOME).map(|i| (i, 1u64)).peekable())
+            .is_ok()
+    );
+    assert!(rt; tx.is_full());
+    let mut batch = Vec::new(rt.alloc());
+    assert_eq!(rt; rx.try_recv_many(&mut batch, usize::MAX), Ok(SOME as usize));
+    assert!(rt; block_on(&rt, tx.sendv((0..SOME).map(|i| (i, 1u64)).peekable()))?.is_ok());
+    assert_eq!(rt; rx.try_iter().count(), SOME as usize);
+    assert!(rt;
+        tx.sendv_blocking((0..SOME).map(|i| (i, 1u64)).peekable())
+            .is_ok()
+    );
+    assert!(rt; tx.close());
+    assert_eq!(rt; rx.iter().count(), SOME as usize);
+    let (tx, rx) = bounded(&rt, rt.alloc(), SOME)?;
+    assert!(rt;
+        tx.try_sendv((0..SOME).map(|i| (i, 1u64)).peekable())
+            .is_ok()
+    );
+    assert!(rt; tx.close());
+    assert_eq!(rt; block_on(&rt, rx.into_stream().count())?, SOME as usize);
+    Ok(())
+}
+
+#[test]
+fn a_message_wakes_as_many_as_wait(rt: HostRuntime) -> Result<(), Fail> {
+    let first = MockTask::new(&rt)?;
+    let last = MockTask::new(&rt)?;
+    let others = MockTask::new(&rt)?;
+    let (tx, rx) = bounded(&rt, rt.alloc(), 1)?;
+    let mut one = rx.recv();
+    assert!(rt; is_pending(first.poll(&mut one)));
+    let mut between = Vec::new(rt.alloc());
+    for _ in 0..SOME {
+        let mut receiving = rx.recv();
+        assert!(rt; is_pending(others.poll(&mut receiving)));
+        between.push(receiving)?;
+    }
+    let mut another = rx.recv();
+    assert!(rt; is_pending(last.poll(&mut another)));
+    assert_eq!(rt; tx.try_send(1u64, 1u64), Ok(()));
+    assert!(rt; first.is_woken() && others.is_woken() && last.is_woken());
+    drop(between);
+    Ok(())
+}
+
+// A message that counts its drops.
+struct Counted<'a> {
+    drops: &'a AtomicU64,
+}
+
+impl Drop for Counted<'_> {
+    fn drop(self) {
+        self.drops.fetch_add(1, Ordering::SeqCst);
+    }
+}
+
+#[test]
+fn the_last_receiver_lets_all_go(rt: HostRuntime) -> Result<(), Fail> {
+    let drops = AtomicU64::new(0);
+    let (tx, rx) = unbounded(&rt, rt.alloc())?;
+    for _ in 0..SOME {
+        assert!(rt; tx.try_send(Counted { drops: &drops }, 1u64).is_ok());
+    }
+    drop(rx.close_on_drop());
+    assert_eq!(rt; drops.load(Ordering::SeqCst), 0);
+    drop(rx);
+    assert_eq!(rt; drops.load(Ordering::SeqCst), SOME);
+    assert!(rt; tx.is_empty());
+    Ok(())
+}
