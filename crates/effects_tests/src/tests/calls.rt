@@ -4,9 +4,9 @@ use futures::StreamExt;
 use futures::executor::block_on;
 use futures::future::poll_immediate;
 use std::alloc::AllocGlobal;
+use std::io;
 use std::random::RandomSource;
 use std::sync::Wait;
-use std::test::Fail;
 use std::time::{Clock, Duration, Instant};
 
 #[derive(Clone, Copy, Debug)]
@@ -130,7 +130,7 @@ pub fn make<R>(
     tx: &Sender<u64, u64, R>,
     rx: &Receiver<u64, u64, R>,
     call: Call,
-) -> Result<bool, Fail>
+) -> io::Result<bool>
 where
     R: Wait + Clone + Clock + RandomSource + AllocGlobal,
 {
@@ -142,7 +142,7 @@ where
     }
 }
 
-fn send<R>(rt: &R, tx: &Sender<u64, u64, R>, by: Sending, end: u64) -> Result<bool, Fail>
+fn send<R>(rt: &R, tx: &Sender<u64, u64, R>, by: Sending, end: u64) -> io::Result<bool>
 where
     R: Wait + Clone + Clock + RandomSource + AllocGlobal,
 {
@@ -156,7 +156,7 @@ where
     }
 }
 
-fn send_bulk<R>(rt: &R, tx: &Sender<u64, u64, R>, by: Sending, end: u64) -> Result<bool, Fail>
+fn send_bulk<R>(rt: &R, tx: &Sender<u64, u64, R>, by: Sending, end: u64) -> io::Result<bool>
 where
     R: Wait + Clone + Clock + RandomSource + AllocGlobal,
 {
@@ -179,7 +179,7 @@ fn no_time() -> Duration {
 }
 
 // A batch is of one.
-fn receive<R>(rt: &R, rx: &Receiver<u64, u64, R>, by: Receiving) -> Result<bool, Fail>
+fn receive<R>(rt: &R, rx: &Receiver<u64, u64, R>, by: Receiving) -> io::Result<bool>
 where
     R: Wait + Clone + Clock + RandomSource + AllocGlobal,
 {
@@ -230,7 +230,7 @@ fn change_nothing<R>(
     tx: &Sender<u64, u64, R>,
     rx: &Receiver<u64, u64, R>,
     by: Idle,
-) -> Result<bool, Fail>
+) -> io::Result<bool>
 where
     R: Wait + Clone + RandomSource + AllocGlobal,
 {

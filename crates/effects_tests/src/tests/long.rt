@@ -4,6 +4,8 @@ use async_priority_channel::{Sender, bounded, unbounded};
 use futures::StreamExt;
 use futures::executor::block_on;
 use futures::test::MockTask;
+use priority_channel_core::calls::CorePoll;
+use priority_channel_core::channel::PriorityQueueChannel;
 use std::sync::Wait;
 use std::sync::atomic::{AtomicU64, Ordering};
 use std::test::Fail;
@@ -14,11 +16,30 @@ const MANY: u64 = 1_050_000;
 // More than 2^16.
 const SOME: u64 = 66_000;
 
+// Each wait is given a number of its own.
 #[test]
 fn a_wait_after_a_million_waits_is_a_wait(rt: HostRuntime) -> Result<(), Fail> {
+    let mut core: PriorityQueueChannel<u64, u64, u64> = PriorityQueueChannel::bounded(
+        rt.alloc(),
+        1,
+    );
+    for i in 0..MANY {
+        let (polled, wakes) = core.poll_recv(None, &7);
+        let (_room, _message) = wakes.into_lists();
+        let CorePoll::Pending((), ticket) = polled else {
+            return Err(Fail::from("a wait was refused"));
+        };
+        assert_eq!(rt; ticket, i);
+        core.give_up(ticket);
+    }
+    Ok(())
+}
+
+#[test]
+fn a_task_waits_after_many_waits(rt: HostRuntime) -> Result<(), Fail> {
     let task = MockTask::new(&rt)?;
     let (tx, rx) = bounded(&rt, rt.alloc(), 1)?;
-    for i in 0..MANY {
+    for i in 0..SOME {
         assert!(rt; is_pending(task.poll(&mut rx.recv())), "at {i}");
     }
     let mut receiving = rx.recv();
@@ -43,7 +64,11 @@ fn send_numbers<R: Wait + Clone>(tx: &Sender<u64, u64, R>, count: u64) -> u64 {
 #[test]
 fn a_million_messages_are_pending(rt: HostRuntime) -> Result<(), Fail> {
     let (tx, rx) = unbounded(&rt, rt.alloc())?;
-    assert_eq!(rt; send_numbers(&tx, MANY), MANY);
+    assert!(rt;
+        tx.try_sendv((SOME..MANY).map(|i| (i, i)).peekable())
+            .is_ok()
+    );
+    assert_eq!(rt; send_numbers(&tx, SOME), SOME);
     assert_eq!(rt; rx.len(), MANY);
     assert_eq!(rt; rx.try_recv(), Ok((MANY - 1, MANY - 1)));
     Ok(())
@@ -107,7 +132,8 @@ struct Counted<'a> {
 
 impl Drop for Counted<'_> {
     fn drop(self) {
-        self.drops.fetch_add(1, Ordering::SeqCst);
+        let Counted { drops } = self;
+        drops.fetch_add(1, Ordering::SeqCst);
     }
 }
 

@@ -1,15 +1,15 @@
 //! Calls beside those of other threads: each is one step, and a thread that has waited wakes others.
-use super::calls::{Call, RECEIVING_BLOCKED, SENDING_BLOCKED, make};
+use super::calls::{Call, RECEIVING_BLOCKED, make};
 use super::tasks::is_pending;
 use async_priority_channel::{Receiver, Sender, TryRecvManyError, TrySendError, bounded};
 use futures::task::Poll;
 use futures::test::MockTask;
 use std::alloc::AllocGlobal;
 use std::sync::Wait;
-use std::sync::atomic::{AtomicBool, Ordering};
+use std::sync::atomic::{AtomicBool, AtomicU64, Ordering};
 use std::test::Fail;
-use std::thread;
 use std::time::{Clock, Duration};
+use std::{io, thread};
 
 const ROUNDS: u64 = 20_000;
 
@@ -19,10 +19,11 @@ fn send_threes<R: Wait + Clone>(tx: &Sender<u64, u64, R>, is_over: &AtomicBool) 
     let mut are_more_sent = false;
     for _ in 0..ROUNDS {
         let three = [(1, 1), (2, 2), (3, 3)].into_iter().peekable();
-        match tx.try_sendv(three) {
-            Err(TrySendError::Full(rest)) if rest.count() >= 2 => {}
-            _ => are_more_sent = true,
-        }
+        let unsent = match tx.try_sendv(three) {
+            Err(TrySendError::Full(rest)) => rest.count(),
+            _ => 0,
+        };
+        are_more_sent = are_more_sent || unsent < 2;
     }
     is_over.store(true, Ordering::SeqCst);
     are_more_sent
@@ -55,10 +56,13 @@ fn a_bulk_try_does_not_wait_for_room(rt: HostRuntime) -> Result<(), Fail> {
 fn send_fours<R: Wait + Clone>(tx: &Sender<u64, u64, R>, is_over: &AtomicBool) -> bool {
     for _ in 0..u64::MAX {
         let four = [(1, 1), (2, 2), (3, 3), (4, 4)].into_iter().peekable();
-        match tx.try_sendv(four) {
-            Ok(()) => {}
-            Err(TrySendError::Full(rest)) if rest.count() == 4 => {}
-            _ => return true,
+        let unsent = match tx.try_sendv(four) {
+            Ok(()) => 0,
+            Err(TrySendError::Full(rest)) => rest.count(),
+            Err(_) => 1,
+        };
+        if unsent != 0 && unsent != 4 {
+            return true;
         }
         if is_over.load(Ordering::SeqCst) {
             return false;
@@ -129,34 +133,85 @@ fn a_thread_that_waited_for_a_message_wakes_who_waits_for_room(
     Ok(())
 }
 
-// The one who takes the message waits for the next at once, most often before the thread has seen
-// the room.
+// A clock that stands still at a reading, until something has come. A wait with a limit of a second
+// reads it as it is called, before it is listed, and once it was woken.
+#[derive(Drop)]
+struct Stop {
+    readings: AtomicU64,
+    is_there: AtomicBool,
+    has_come: AtomicBool,
+}
+
+#[derive(Clone, Copy)]
+struct Stopped<'a, R> {
+    rt: R,
+    stop: &'a Stop,
+    // What is read after the stop.
+    last: Duration,
+}
+
+impl<R: Wait> Wait for Stopped<'_, R> {}
+
+impl<R: Clock> Clock for Stopped<'_, R> {
+    fn monotonic(&self) -> io::Result<Duration> {
+        if self.stop.readings.fetch_add(1, Ordering::SeqCst) < 2 {
+            return Ok(Duration::ZERO);
+        }
+        self.stop.is_there.store(true, Ordering::SeqCst);
+        wait_for(&self.rt, &self.stop.has_come);
+        Ok(self.last)
+    }
+
+    fn since_1970(&self) -> io::Result<Duration> {
+        self.monotonic()
+    }
+}
+
+// Ends in vain after some ten seconds.
+fn wait_for<R: Clock>(rt: &R, flag: &AtomicBool) {
+    for _ in 0..10_000u32 {
+        if flag.load(Ordering::SeqCst) {
+            return;
+        }
+        thread::sleep(rt, Duration::from_millis(1));
+    }
+}
+
+// The thread is woken by room; before it looks, another party waits for a message. It looks in time,
+// or when its time is over.
 #[test]
 fn a_thread_that_waited_for_room_wakes_who_waits_for_a_message(
     rt: HostRuntime,
 ) -> Result<(), Fail> {
     let task = MockTask::new(&rt)?;
-    for by in SENDING_BLOCKED {
-        let mut waited = 0u64;
-        for _ in 0..20 {
-            let (tx, rx) = bounded(&rt, rt.alloc(), 1)?;
-            assert_eq!(rt; tx.try_send(1, 1), Ok(()));
-            let mut receiving = rx.recv();
-            let (sent, waits) = thread::join(
-                &rt,
-                || matches!(make(&rt, &tx, &rx, Call::Send(by, 4)), Ok(true)),
-                || {
-                    let_others_wait(&rt);
-                    rx.try_recv() == Ok((1, 1)) && is_pending(task.poll(&mut receiving))
-                },
-            );
-            assert!(rt; sent, "{by:?}");
-            if waits {
-                waited = waited.wrapping_add(1);
-                assert!(rt; task.is_woken(), "{by:?}");
-            }
-        }
-        assert!(rt; waited > 0, "{by:?}");
+    for last in [Duration::from_millis(10), Duration::from_secs(2)] {
+        let stop = Stop {
+            readings: AtomicU64::new(0),
+            is_there: AtomicBool::new(false),
+            has_come: AtomicBool::new(false),
+        };
+        let stopped = Stopped {
+            rt,
+            stop: &stop,
+            last,
+        };
+        let (tx, rx) = bounded(&stopped, rt.alloc(), 1)?;
+        assert_eq!(rt; tx.try_send(1u64, 1u64), Ok(()));
+        let mut receiving = rx.recv();
+        let (sent, waits) = thread::join(
+            &rt,
+            || tx.send_timeout(2, 2, Duration::from_secs(1)),
+            || {
+                let_others_wait(&rt);
+                let is_received = rx.try_recv() == Ok((1, 1));
+                wait_for(&rt, &stop.is_there);
+                let waits = is_pending(task.poll(&mut receiving));
+                stop.has_come.store(true, Ordering::SeqCst);
+                is_received && waits
+            },
+        );
+        assert_eq!(rt; sent, Ok(()));
+        assert!(rt; waits && task.is_woken());
     }
     Ok(())
 }
