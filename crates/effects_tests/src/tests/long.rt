@@ -61,16 +61,17 @@ fn send_numbers<R: Wait + Clone>(tx: &Sender<u64, u64, R>, count: u64) -> u64 {
     sent
 }
 
+// Most of them have one priority, so that each finds its place at once.
 #[test]
 fn a_million_messages_are_pending(rt: HostRuntime) -> Result<(), Fail> {
     let (tx, rx) = unbounded(&rt, rt.alloc())?;
     assert!(rt;
-        tx.try_sendv((SOME..MANY).map(|i| (i, i)).peekable())
+        tx.try_sendv((SOME..MANY).map(|i| (i, 0u64)).peekable())
             .is_ok()
     );
     assert_eq!(rt; send_numbers(&tx, SOME), SOME);
     assert_eq!(rt; rx.len(), MANY);
-    assert_eq!(rt; rx.try_recv(), Ok((MANY - 1, MANY - 1)));
+    assert_eq!(rt; rx.try_recv(), Ok((SOME - 1, SOME - 1)));
     Ok(())
 }
 

@@ -133,8 +133,8 @@ fn a_thread_that_waited_for_a_message_wakes_who_waits_for_room(
     Ok(())
 }
 
-// A clock that stands still at a reading, until something has come. A wait with a limit of a second
-// reads it as it is called, before it is listed, and once it was woken.
+// A clock that stands still at the third reading, until something has come. A wait with a limit of a
+// second reads it as it is called, before it is listed, with a millisecond left, and after that.
 #[derive(Drop)]
 struct Stop {
     readings: AtomicU64,
@@ -154,12 +154,15 @@ impl<R: Wait> Wait for Stopped<'_, R> {}
 
 impl<R: Clock> Clock for Stopped<'_, R> {
     fn monotonic(&self) -> io::Result<Duration> {
-        if self.stop.readings.fetch_add(1, Ordering::SeqCst) < 2 {
-            return Ok(Duration::ZERO);
+        match self.stop.readings.fetch_add(1, Ordering::SeqCst) {
+            0 => Ok(Duration::ZERO),
+            1 => Ok(Duration::from_millis(999)),
+            _ => {
+                self.stop.is_there.store(true, Ordering::SeqCst);
+                wait_for(&self.rt, &self.stop.has_come);
+                Ok(self.last)
+            }
         }
-        self.stop.is_there.store(true, Ordering::SeqCst);
-        wait_for(&self.rt, &self.stop.has_come);
-        Ok(self.last)
     }
 
     fn since_1970(&self) -> io::Result<Duration> {
@@ -177,14 +180,14 @@ fn wait_for<R: Clock>(rt: &R, flag: &AtomicBool) {
     }
 }
 
-// The thread is woken by room; before it looks, another party waits for a message. It looks in time,
-// or when its time is over.
+// Before the thread looks again, room comes and another party waits for a message. The thread looks
+// in time, or when its time is over.
 #[test]
 fn a_thread_that_waited_for_room_wakes_who_waits_for_a_message(
     rt: HostRuntime,
 ) -> Result<(), Fail> {
     let task = MockTask::new(&rt)?;
-    for last in [Duration::from_millis(10), Duration::from_secs(2)] {
+    for last in [Duration::from_millis(999), Duration::from_secs(2)] {
         let stop = Stop {
             readings: AtomicU64::new(0),
             is_there: AtomicBool::new(false),
@@ -202,9 +205,8 @@ fn a_thread_that_waited_for_room_wakes_who_waits_for_a_message(
             &rt,
             || tx.send_timeout(2, 2, Duration::from_secs(1)),
             || {
-                let_others_wait(&rt);
-                let is_received = rx.try_recv() == Ok((1, 1));
                 wait_for(&rt, &stop.is_there);
+                let is_received = rx.try_recv() == Ok((1, 1));
                 let waits = is_pending(task.poll(&mut receiving));
                 stop.has_come.store(true, Ordering::SeqCst);
                 is_received && waits
