@@ -1,14 +1,15 @@
 -- Under each pass's number the history has as many entries as the pass has made calls.
-use Rattle.std.proofs.Common.{◌≡◌, ◌≢◌, ◌+◌, ◌≤◌, ◌==◌, ℕ, Bool, true, false, cond, List, [], ◌∷◌, ◌++◌, length, refl, sym, ap, ◌∙◌, arith, All}
+use Rattle.std.proofs.Common.{◌≡◌, ◌≢◌, ◌+◌, ◌<◌, ◌≤◌, ◌==◌, ℕ, suc, Bool, true, false, cond, List, [], ◌∷◌, ◌++◌, length, slice_get, Some, refl, sym, ap, ◌∙◌, arith, All}
 use Rattle.std.specs.List.{sum_by}
 use Rattle.std.specs.declared.cmp.Ordering.{Ordering}
 use Rattle.std.proofs.lemmas.List.Sums.{sum_by-append, sum_by-cons, sum_by_push}
-use Rattle.std.proofs.lemmas.List.Elements.{All-nil, All-cons, All-head, All-tail, All-weaker}
+use Rattle.std.proofs.lemmas.List.Elements.{All-nil, All-cons, All-head, All-tail, All-weaker, All-from_get_or}
+use Rattle.std.proofs.lemmas.Option.{get_or_from_slice_get}
 use Rattle.std.proofs.lemmas.Bool.Decides.{nat_tests}
 use mathlib.Core.List.{IsPrefix}
 use Rattle.priority_channel_recorded.specs.declared.book.Entry.{Entry}
 use Rattle.priority_channel_recorded.specs.Log.{IsLegal}
-use Rattle.priority_channel_recorded.specs.Passes.{Carried, calls_of, calls_made, AreApart, Accounts, IsTold}
+use Rattle.priority_channel_recorded.specs.Passes.{Carried, calls_of, calls_made, AreNew, AreApart, Accounts, IsTold}
 use Rattle.priority_channel_recorded.proofs.Fronts.{prefix_trans}
 
 -- sums of two functions over one list
@@ -59,6 +60,29 @@ module _ {T P : Type 0} where
     legal = legal;
     counted = rw (number, count, is) (calls_with old.number old.count old.seen kept last front counted who);
   }
+
+  -- the passes' numbers count on from this one
+  abbrev IsNumberedFrom : ℕ → List (Carried T P) → Type 0
+  IsNumberedFrom first passes =
+      (i : ℕ) → i < length passes → (pass : Carried T P) × (slice_get passes i ≡ Some pass) × (pass.number ≡ first + i)
+
+  numbered_apart : (first : ℕ) (passes : List (Carried T P)) → IsNumberedFrom first passes → AreApart passes
+  numbered_apart first [] numbered = tt
+  numbered_apart first (pass ∷ others) numbered =
+      let next : IsNumberedFrom (first + 1) others = λ i within.
+          let at = numbered (suc i) (omega (arith, within)) in
+          (at.0, at.1, omega (arith, at.2)) in
+      let zeroth = numbered 0 (omega arith) in
+      let own : pass ≡ zeroth.0 = cc in
+      let different : All (λ other. pass.number ≢ other.number) others = All-from_get_or (λ other. pass.number ≢ other.number) others pass (λ i within.
+          let at = next i within in
+          let is = get_or_from_slice_get others i at.0 pass at.1 in
+          λ same. absurd (omega (arith, same, ap (λ (p : Carried T P). p.number) is, at.2, ap (λ (p : Carried T P). p.number) own, zeroth.2))) in
+      (different, numbered_apart (first + 1) others next)
+
+  -- new passes have different numbers
+  pub new_apart : (passes : List (Carried T P)) → AreNew passes → AreApart passes
+  new_apart passes new = numbered_apart 0 passes (λ i within. (record { number = i; count = 0; seen = [] }, new i within, omega arith))
 
   -- under how many of the passes' numbers it stands
   abbrev hits : Entry T P → List (Carried T P) → ℕ

@@ -130,7 +130,7 @@ pub struct Recorded<T, P: Ord, J: Recording, A: Allocator = Global> {
 impl<T: Copy, P: Copy + Ord, J: Recording, A: Allocator + Copy> Recorded<T, P, J, A> {
     /// A recorder over an open and empty channel with place for `cap` pairs, with place for `entries` entries, and its
     /// passes. The error is that memory was refused.
-    #[tactic(auto, using(crate::proofs::Histories::legal_none))]
+    #[tactic(auto, using(crate::proofs::Histories::legal_none, crate::proofs::Accounts::new_apart))]
     pub fn new(
         alloc: A,
         fresh: Fresh<T, P>,
@@ -144,6 +144,7 @@ impl<T: Copy, P: Copy + Ord, J: Recording, A: Allocator + Copy> Recorded<T, P, J
         requires passes { fresh.passes ≡ passes }
         ensures count { IfOk result (λ made. vec_len made.1 ≡ passes) }
         ensures new { IfOk result (λ made. AreNew made.1.items) }
+        ensures apart { IfOk result (λ made. AreApart made.1.items) }
     {
         let Fresh { word, seen, ledger } = fresh;
         let (calls, mut rest) = ledger.open::<J>();
