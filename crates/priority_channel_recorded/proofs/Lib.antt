@@ -1,4 +1,5 @@
 pub mod Accounts
 pub mod Adding
+pub mod Fixed
 pub mod Fronts
 pub mod Histories

@@ -6,6 +6,7 @@
 #![tactic(auto)]
 
 mod book;
+pub mod laws;
 mod log;
 mod pass;
 mod recorder;

@@ -1,0 +1,103 @@
+-- A history fixes the state that it ends in.
+use Rattle.std.proofs.Common.{◌≡◌, ℕ, ◌+◌, true, false, if◌then◌else◌, ◌==◌, List, [], ◌∷◌, ◌++◌, length, take, sym, ap, ◌∙◌, subst, arith, Some, Ok, Err}
+use Rattle.std.specs.List.{AllZip}
+use Rattle.std.specs.declared.cmp.Ordering.{Ordering}
+use Rattle.priority_channel_core.specs.declared.calls.Answer.TheVariants as answer
+use Rattle.priority_channel_parts.specs.declared.errors.TrySendError.TheVariants as send_error
+use Rattle.priority_channel_parts.specs.declared.errors.TryRecvError.TheVariants as recv_error
+use Rattle.priority_channel_parts.specs.Greatest.{TakesGreatest}
+use Rattle.priority_channel_core.specs.State.{Handed, opening}
+use Rattle.priority_channel_core.specs.Step.{Moves, Step, Answers}
+use Rattle.priority_channel_core.specs.Run.{Made, Run}
+use Rattle.priority_channel_recorded.specs.declared.book.Call.{Call}
+use Rattle.priority_channel_recorded.specs.declared.book.Call.TheVariants.{TrySend, TryRecv, Close, IsClosed, IsEmpty, IsFull, Len}
+use Rattle.priority_channel_recorded.specs.declared.book.Reply.{Reply}
+use Rattle.priority_channel_recorded.specs.declared.book.Entry.{Entry}
+use Rattle.priority_channel_recorded.specs.History.{Machine, call_of, reply_of, Records, IsHistory}
+
+module _ {T P : Type 0} (cmp : P → P → Ordering)
+    (one_greatest : (pending : List (T × P)) (pair other : T × P) (rest others : List (T × P))
+        → TakesGreatest cmp pending pair rest → TakesGreatest cmp pending other others → (pair ≡ other) × (rest ≡ others)) where
+  abbrev Goes : Machine T P → Call T P → Answers T P → Handed (Unit {0}) → Machine T P → Type 0
+  Goes old call told handed new = Moves cmp (λ waker kept. kept ≡ waker) old (call_of call) told handed new
+
+  -- what is recorded of an answer to a call tells the answer
+  same_answer : (old new other : Machine T P) (handed others : Handed (Unit {0})) (call : Call T P) (told again : Answers T P) (reply : Reply T P)
+      → Goes old call told handed new → Goes old call again others other → reply_of told ≡ Some reply → reply_of again ≡ Some reply → told ≡ again
+  same_answer old new other handed others (TrySend msg priority) (answer.TrySend one) (answer.TrySend two) reply m n e f = cc
+  same_answer old new other handed others (TrySend msg priority) (answer.TrySend one) _ reply m n e f = absurd n
+  same_answer old new other handed others TryRecv (answer.TryRecv one) (answer.TryRecv two) reply m n e f = cc
+  same_answer old new other handed others TryRecv (answer.TryRecv one) _ reply m n e f = absurd n
+  same_answer old new other handed others Close (answer.Close one) (answer.Close two) reply m n e f = cc
+  same_answer old new other handed others Close (answer.Close one) _ reply m n e f = absurd n
+  same_answer old new other handed others IsClosed (answer.IsClosed one) (answer.IsClosed two) reply m n e f = cc
+  same_answer old new other handed others IsClosed (answer.IsClosed one) _ reply m n e f = absurd n
+  same_answer old new other handed others IsEmpty (answer.IsEmpty one) (answer.IsEmpty two) reply m n e f = cc
+  same_answer old new other handed others IsEmpty (answer.IsEmpty one) _ reply m n e f = absurd n
+  same_answer old new other handed others IsFull (answer.IsFull one) (answer.IsFull two) reply m n e f = cc
+  same_answer old new other handed others IsFull (answer.IsFull one) _ reply m n e f = absurd n
+  same_answer old new other handed others Len (answer.Len one) (answer.Len two) reply m n e f = cc
+  same_answer old new other handed others Len (answer.Len one) _ reply m n e f = absurd n
+  same_answer old new other handed others _ _ _ reply m n e f = absurd m
+
+  -- two steps with one answer lead to one state
+  same_state : (old new other : Machine T P) (handed others : Handed (Unit {0})) (call : Call T P) (told : Answers T P)
+      → Goes old call told handed new → Goes old call told others other → new ≡ other
+  same_state old new other handed others (TrySend msg priority) (answer.TrySend (Ok sent)) m n = m.2.1.new_is ∙ sym n.2.1.new_is
+  same_state old new other handed others (TrySend msg priority) (answer.TrySend (Err (send_error.Closed pair))) m n = m.2.1 ∙ sym n.2.1
+  same_state old new other handed others (TrySend msg priority) (answer.TrySend (Err (send_error.Full pair))) m n = m.2.1.new_is ∙ sym n.2.1.new_is
+  same_state old new other handed others (TrySend msg priority) (answer.TrySend (Err (send_error.Memory pair))) m n =
+      let front : ℕ → List (T × P) = λ k. take k ((msg, priority) ∷ []) in
+      let after : ℕ → Machine T P = λ k. record old {
+        pending = old.pending ++ front k;
+        accepted = old.accepted + length (front k);
+        message_waiters = if length (front k) == 0 then old.message_waiters else [];
+      } in
+      let same : m.0 ≡ n.0 = omega (arith, m.1, n.1) in
+      m.4.1.new_is ∙ ap after same ∙ sym n.4.1.new_is
+  same_state old new other handed others TryRecv (answer.TryRecv (Ok pair)) m n =
+      let same = one_greatest old.pending pair pair new.pending other.pending m.0 n.0 in
+      let after : List (T × P) → Machine T P = λ rest. record old { pending = rest; room_waiters = [] } in
+      m.2 ∙ ap after same.1 ∙ sym n.2
+  same_state old new other handed others TryRecv (answer.TryRecv (Err recv_error.Closed)) m n = m.2.1 ∙ sym n.2.1
+  same_state old new other handed others TryRecv (answer.TryRecv (Err recv_error.Empty)) m n = m.2.1 ∙ sym n.2.1
+  same_state old new other handed others Close (answer.Close true) m n = m.1.1 ∙ sym n.1.1
+  same_state old new other handed others Close (answer.Close false) m n = m.1.1 ∙ sym n.1.1
+  same_state old new other handed others IsClosed (answer.IsClosed told) m n = m.1.1 ∙ sym n.1.1
+  same_state old new other handed others IsEmpty (answer.IsEmpty told) m n = m.1.1 ∙ sym n.1.1
+  same_state old new other handed others IsFull (answer.IsFull told) m n = m.1.1 ∙ sym n.1.1
+  same_state old new other handed others Len (answer.Len told) m n = m.1.1 ∙ sym n.1.1
+  same_state old new other handed others _ _ m n = absurd m
+
+  -- two steps of one entry lead to one state
+  same_step : (entry : Entry T P) (made again : Made T P (Unit {0})) (old new other : Machine T P) → Records entry made → Records entry again
+      → Step cmp (λ waker kept. kept ≡ waker) old made.call made.answer made.handed new
+      → Step cmp (λ waker kept. kept ≡ waker) old again.call again.answer again.handed other → new ≡ other
+  same_step entry made again old new other one two step next =
+      let m : Goes old entry.call made.answer made.handed new =
+          subst (λ call. Moves cmp (λ waker kept. kept ≡ waker) old call made.answer made.handed new) one.0 step.moves in
+      let n : Goes old entry.call again.answer again.handed other =
+          subst (λ call. Moves cmp (λ waker kept. kept ≡ waker) old call again.answer again.handed other) two.0 next.moves in
+      let told : again.answer ≡ made.answer =
+          sym (same_answer old new other made.handed again.handed entry.call made.answer again.answer entry.reply m n one.1 two.1) in
+      same_state old new other made.handed again.handed entry.call made.answer m
+      (subst (λ reply. Goes old entry.call reply again.handed other) told n)
+
+  -- two runs of one history lead to one state
+  same_end : (history : List (Entry T P)) (run again : List (Made T P (Unit {0}))) (old new other : Machine T P)
+      → AllZip Records history run → AllZip Records history again
+      → Run cmp (λ waker kept. kept ≡ waker) old run new → Run cmp (λ waker kept. kept ≡ waker) old again other → new ≡ other
+  same_end [] [] [] old new other one two r s = r ∙ sym s
+  same_end [] (made ∷ run) again old new other one two r s = absurd one
+  same_end [] [] (made ∷ again) old new other one two r s = absurd two
+  same_end (entry ∷ history) [] again old new other one two r s = absurd one
+  same_end (entry ∷ history) (made ∷ run) [] old new other one two r s = absurd two
+  same_end (entry ∷ history) (made ∷ run) (next ∷ again) old new other one two r s =
+      let mid : s.0 ≡ r.0 = sym (same_step entry made next old r.0 s.0 one.0 two.0 r.1 s.1) in
+      same_end history run again r.0 new other one.1 two.1 r.2
+      (subst (λ (state : Machine T P). Run cmp (λ waker kept. kept ≡ waker) state again other) mid s.2)
+
+  pub one_state : (capacity : ℕ) (history : List (Entry T P)) (state other : Machine T P)
+      → IsHistory cmp capacity history state → IsHistory cmp capacity history other → state ≡ other
+  one_state capacity history state other one two =
+      same_end history one.run two.run (opening capacity true) state other one.records two.records one.leads two.leads
