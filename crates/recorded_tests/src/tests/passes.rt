@@ -66,17 +66,20 @@ fn is_made<J: Recording>(alloc: &Refusing<Global>, fresh: Fresh<u64, u64>) -> bo
     Recorded::<u64, u64, J, _>::new(alloc, fresh, 2, 8, 2).is_ok()
 }
 
+// A request for the passes, one for the channel and one for its history. The request after these is
+// no longer its own.
+const NOT_MET: u64 = 4;
+
 #[test]
 fn its_making_may_be_refused(rt: HostRuntime) {
-    let alloc = Refusing::new(rt.alloc());
-    // For the passes, the channel and its history.
-    for n in 1..4u64 {
+    for n in 1..=NOT_MET {
+        let alloc = Refusing::new(rt.alloc());
         alloc.refuse_nth(n);
         let made = is_made::<Brand>(&alloc, Fresh::new(2));
-        alloc.refuse_none();
-        assert!(rt; !made, "request {n}");
+        let met_none = alloc.refuse_none();
+        assert_eq!(rt; met_none, n == NOT_MET, "at {n}");
+        assert_eq!(rt; made, met_none, "at {n}");
     }
-    assert!(rt; is_made::<Brand>(&alloc, Fresh::new(2)));
 }
 
 // Without place for an entry: the first call is refused memory for one, and may be made again.
@@ -148,5 +151,42 @@ fn two_passes_meet(rt: HostRuntime) -> Result<(), Fail> {
     assert_eq!(rt; history.entries().len(), 3);
     let mut callers = history.entries().iter().map(|entry| entry.who);
     assert!(rt; callers.eq([0, 1, 0]));
+    Ok(())
+}
+
+const PAIRS: u64 = 5_000;
+
+// Sends a pair and receives it, over and over. Tells how often both were answered so, the pass's
+// count, and the history.
+fn many_calls<J: Recording, R: Wait>(
+    rt: &R,
+    alloc: Global,
+    fresh: Fresh<u64, u64>,
+) -> Result<(u64, u64, History<u64, u64>), Fail>
+    requires names { fresh ≡ names J.log J.name J.parts }
+    requires passes { fresh.passes ≡ 1 }
+{
+    let (recorder, mut passes) = Recorded::<u64, u64, J>::new(alloc, fresh, 1, 10_000, 1)?;
+    let mut pass = passes.pop().ok_or("no pass")?;
+    let mut passed_on = 0u64;
+    for i in 0..PAIRS {
+        let sent = recorder.call(rt, &mut pass, Call::TrySend(i, 0));
+        let received = recorder.call(rt, &mut pass, Call::TryRecv);
+        let wanted = (Ok(Reply::Sent(Ok(()))), Ok(Reply::Received(Ok((i, 0)))));
+        if (sent, received) == wanted {
+            passed_on = passed_on.wrapping_add(1);
+        }
+    }
+    let count = pass.count();
+    passes.push(pass)?;
+    Ok((passed_on, count, recorder.end(rt, passes)))
+}
+
+#[test]
+fn a_recorder_takes_many_calls(rt: HostRuntime) -> Result<(), Fail> {
+    let (passed_on, count, history) = many_calls::<Brand, _>(&rt, rt.alloc(), Fresh::new(1))?;
+    assert_eq!(rt; passed_on, PAIRS);
+    assert_eq!(rt; count, 10_000);
+    assert_eq!(rt; history.entries().len(), 10_000);
     Ok(())
 }
