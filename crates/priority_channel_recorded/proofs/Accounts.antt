@@ -70,14 +70,14 @@ module _ {T P : Type 0} where
   numbered_apart first [] numbered = tt
   numbered_apart first (pass ∷ others) numbered =
       let next : IsNumberedFrom (first + 1) others = λ i within.
-          let at = numbered (suc i) (omega (arith, within)) in
-          (at.0, at.1, omega (arith, at.2)) in
+      let at = numbered (suc i) (omega (arith, within)) in
+      (at.0, at.1, omega (arith, at.2)) in
       let zeroth = numbered 0 (omega arith) in
       let own : pass ≡ zeroth.0 = cc in
       let different : All (λ other. pass.number ≢ other.number) others = All-from_get_or (λ other. pass.number ≢ other.number) others pass (λ i within.
-          let at = next i within in
-          let is = get_or_from_slice_get others i at.0 pass at.1 in
-          λ same. absurd (omega (arith, same, ap (λ (p : Carried T P). p.number) is, at.2, ap (λ (p : Carried T P). p.number) own, zeroth.2))) in
+      let at = next i within in
+      let is = get_or_from_slice_get others i at.0 pass at.1 in
+      λ same. absurd (omega (arith, same, ap (λ (p : Carried T P). p.number) is, at.2, ap (λ (p : Carried T P). p.number) own, zeroth.2))) in
       (different, numbered_apart (first + 1) others next)
 
   -- new passes have different numbers

@@ -17,7 +17,7 @@ use Rattle.priority_channel_recorded.specs.History.{Machine, call_of, reply_of, 
 
 module _ {T P : Type 0} (cmp : P → P → Ordering)
     (one_greatest : (pending : List (T × P)) (pair other : T × P) (rest others : List (T × P))
-        → TakesGreatest cmp pending pair rest → TakesGreatest cmp pending other others → (pair ≡ other) × (rest ≡ others)) where
+    → TakesGreatest cmp pending pair rest → TakesGreatest cmp pending other others → (pair ≡ other) × (rest ≡ others)) where
   abbrev Goes : Machine T P → Call T P → Answers T P → Handed (Unit {0}) → Machine T P → Type 0
   Goes old call told handed new = Moves cmp (λ waker kept. kept ≡ waker) old (call_of call) told handed new
 
@@ -75,11 +75,11 @@ module _ {T P : Type 0} (cmp : P → P → Ordering)
       → Step cmp (λ waker kept. kept ≡ waker) old again.call again.answer again.handed other → new ≡ other
   same_step entry made again old new other one two step next =
       let m : Goes old entry.call made.answer made.handed new =
-          subst (λ call. Moves cmp (λ waker kept. kept ≡ waker) old call made.answer made.handed new) one.0 step.moves in
+      subst (λ call. Moves cmp (λ waker kept. kept ≡ waker) old call made.answer made.handed new) one.0 step.moves in
       let n : Goes old entry.call again.answer again.handed other =
-          subst (λ call. Moves cmp (λ waker kept. kept ≡ waker) old call again.answer again.handed other) two.0 next.moves in
+      subst (λ call. Moves cmp (λ waker kept. kept ≡ waker) old call again.answer again.handed other) two.0 next.moves in
       let told : again.answer ≡ made.answer =
-          sym (same_answer old new other made.handed again.handed entry.call made.answer again.answer entry.reply m n one.1 two.1) in
+      sym (same_answer old new other made.handed again.handed entry.call made.answer again.answer entry.reply m n one.1 two.1) in
       same_state old new other made.handed again.handed entry.call made.answer m
       (subst (λ reply. Goes old entry.call reply again.handed other) told n)
 
