@@ -178,18 +178,11 @@ fn use_once<T: Drop, R: Wait + Clone + Clock>(
 enum Unsent {
     Unpolled,
     Waiting,
-    Bulk,
-    WaitingBulk,
 }
 
-const UNSENT: [Unsent; 4] = [
-    Unsent::Unpolled,
-    Unsent::Waiting,
-    Unsent::Bulk,
-    Unsent::WaitingBulk,
-];
+const UNSENT: [Unsent; 2] = [Unsent::Unpolled, Unsent::Waiting];
 
-// Drops a future that has that message, by itself or as all that it has.
+// Drops a future that has that message.
 fn drop_unsent<T: Drop, R: Wait + Clone>(
     task: &MockTask,
     tx: &Sender<T, u64, R>,
@@ -203,14 +196,6 @@ fn drop_unsent<T: Drop, R: Wait + Clone>(
         }
         Unsent::Waiting => {
             let mut sending = tx.send(msg, 1);
-            is_pending(task.poll(&mut sending))
-        }
-        Unsent::Bulk => {
-            drop(tx.sendv([(msg, 1)].into_iter().peekable()));
-            true
-        }
-        Unsent::WaitingBulk => {
-            let mut sending = tx.sendv([(msg, 1)].into_iter().peekable());
             is_pending(task.poll(&mut sending))
         }
     }

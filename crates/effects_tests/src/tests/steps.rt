@@ -11,7 +11,7 @@ use std::test::Fail;
 use std::time::{Clock, Duration};
 use std::{io, thread};
 
-const ROUNDS: u64 = 20_000;
+const ROUNDS: u64 = 200_000;
 
 // Sends three by one call, again and again, into a channel for one. Tells whether more than one of
 // them were ever sent.
