@@ -5,11 +5,12 @@ use async_priority_channel::{Receiver, Sender, TryRecvManyError, TrySendError, b
 use futures::task::Poll;
 use futures::test::MockTask;
 use std::alloc::AllocGlobal;
+use std::io;
 use std::sync::Wait;
 use std::sync::atomic::{AtomicBool, AtomicU64, Ordering};
 use std::test::Fail;
+use std::thread::{self, Threads};
 use std::time::{Clock, Duration};
-use std::{io, thread};
 
 const ROUNDS: u64 = 200_000;
 
@@ -180,8 +181,37 @@ fn wait_for<R: Clock>(rt: &R, flag: &AtomicBool) {
     }
 }
 
-// Before the thread looks again, room comes and another party waits for a message. The thread looks
-// in time, or when its time is over.
+// Before the thread looks again, room comes and another party waits for a message. Tells whether
+// the message is sent and that party is woken.
+fn sends_beside_a_receive<R: Threads + Wait + Clock + AllocGlobal + Copy + Send + Sync>(
+    rt: &R,
+    task: &MockTask,
+    stop: &Stop,
+    last: Duration,
+) -> Result<bool, Fail> {
+    let stopped = Stopped {
+        rt: *rt,
+        stop,
+        last,
+    };
+    let (tx, rx) = bounded(&stopped, rt.alloc(), 1)?;
+    tx.try_send(1u64, 1u64)?;
+    let mut receiving = rx.recv();
+    let (sent, waits) = thread::join(
+        rt,
+        || tx.send_timeout(2, 2, Duration::from_secs(1)),
+        || {
+            wait_for(rt, &stop.is_there);
+            let is_received = rx.try_recv() == Ok((1, 1));
+            let waits = is_pending(task.poll(&mut receiving));
+            stop.has_come.store(true, Ordering::SeqCst);
+            is_received && waits
+        },
+    );
+    Ok(sent.is_ok() && waits && task.is_woken())
+}
+
+// The thread looks in time, or when its time is over.
 #[test]
 fn a_thread_that_waited_for_room_wakes_who_waits_for_a_message(
     rt: HostRuntime,
@@ -193,27 +223,7 @@ fn a_thread_that_waited_for_room_wakes_who_waits_for_a_message(
             is_there: AtomicBool::new(false),
             has_come: AtomicBool::new(false),
         };
-        let stopped = Stopped {
-            rt,
-            stop: &stop,
-            last,
-        };
-        let (tx, rx) = bounded(&stopped, rt.alloc(), 1)?;
-        assert_eq!(rt; tx.try_send(1u64, 1u64), Ok(()));
-        let mut receiving = rx.recv();
-        let (sent, waits) = thread::join(
-            &rt,
-            || tx.send_timeout(2, 2, Duration::from_secs(1)),
-            || {
-                wait_for(&rt, &stop.is_there);
-                let is_received = rx.try_recv() == Ok((1, 1));
-                let waits = is_pending(task.poll(&mut receiving));
-                stop.has_come.store(true, Ordering::SeqCst);
-                is_received && waits
-            },
-        );
-        assert_eq!(rt; sent, Ok(()));
-        assert!(rt; waits && task.is_woken());
+        assert!(rt; sends_beside_a_receive(&rt, &task, &stop, last)?);
     }
     Ok(())
 }
