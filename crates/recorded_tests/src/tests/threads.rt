@@ -9,7 +9,7 @@ use async_priority_channel::recorded::{
 use async_priority_channel::{TryRecvError, TrySendError};
 use std::alloc::{AllocError, Global};
 use std::marker::Brand;
-use std::sync::{Barrier, Mutex, Wait};
+use std::sync::{Mutex, Wait};
 use std::test::Fail;
 use std::thread::{self, Threads};
 
@@ -26,18 +26,6 @@ fn make<J: Recording, R: Wait>(
     pass
 }
 
-// Closes once another thread is here too.
-fn close_beside<J: Recording, R: Wait>(
-    rt: &R,
-    both: &Barrier,
-    recorder: &Recorded<u64, u64, J>,
-    told: &Mutex<Vec<Told>>,
-    pass: Pass<u64, u64, J>,
-) -> Pass<u64, u64, J> {
-    both.wait(rt);
-    make(rt, recorder, told, pass, Call::Close)
-}
-
 // The second pass closes on a thread of its own, and meets the first.
 fn closed_by_another<J: Recording + Send + Sync, R: Threads + Wait + Sync>(
     rt: &R,
@@ -51,16 +39,7 @@ fn closed_by_another<J: Recording + Send + Sync, R: Threads + Wait + Sync>(
     let one = passes.pop().ok_or("no pass")?;
     let mut zero = passes.pop().ok_or("no pass")?;
     let told = Mutex::new(Vec::new(alloc));
-    let both = Barrier::new(2);
-    let (shared, heard, here) = (&recorder, &told, &both);
-    let closed = thread::scope(thread::scope_env(), rt, |scope| {
-        let closing = scope
-            .spawn(move || close_beside(rt, here, shared, heard, one))
-            .ok()?;
-        here.wait(rt);
-        Some(closing.join(rt))
-    });
-    let mut one = closed.ok_or("no thread")?;
+    let (mut one, ()) = thread::join(rt, || make(rt, &recorder, &told, one, Call::Close), || ());
     recorder.meet(&mut zero, &mut one);
     let zero = make(rt, &recorder, &told, zero, Call::TrySend(4, 4));
     passes.push(zero)?;
