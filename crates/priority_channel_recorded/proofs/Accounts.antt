@@ -51,10 +51,10 @@ module _ {T P : Type 0} where
       omega (arith, counted, one, calls_in_front number seen kept front, sum_by_push (λ (entry : Entry T P). hit entry number) kept last)
 
   -- after a call a pass has seen all that was kept, and its own entry
-  pub told_more : (cmp : P → P → Ordering) (old new : Carried T P) (kept : List (Entry T P)) (last : Entry T P) → IsPrefix old.seen kept
+  pub told_more : (cmp : P → P → Ordering) (capacity : ℕ) (old new : Carried T P) (kept : List (Entry T P)) (last : Entry T P) → IsPrefix old.seen kept
       → old.count ≤ calls_of old.number old.seen → last.who ≡ old.number → new.number ≡ old.number → new.count ≡ old.count + 1
-      → new.seen ≡ kept ++ last ∷ [] → IsLegal cmp new.seen → IsTold cmp old last new
-  told_more cmp old new kept last front counted who number count is legal = record {
+      → new.seen ≡ kept ++ last ∷ [] → IsLegal cmp capacity new.seen → IsTold cmp capacity old last new
+  told_more cmp capacity old new kept last front counted who number count is legal = record {
     between = front.0;
     seen = rw front.1 is;
     legal = legal;

@@ -1,5 +1,5 @@
--- A step that adds an entry keeps the log's rule.
-use Rattle.std.proofs.Common.{◌≡◌, ◌+◌, ◌<◌, ◌≤◌, ◌==◌, ℕ, Bool, true, false, List, [], ◌∷◌, ◌++◌, length, refl, ap, sym, ◌∙◌, subst, arith, inl, length-append, None}
+-- The steps on the log keep its rule.
+use Rattle.std.proofs.Common.{◌≡◌, ◌+◌, ◌<◌, ◌≤◌, ◌==◌, ℕ, Bool, true, false, List, [], ◌∷◌, ◌++◌, length, refl, ap, sym, ◌∙◌, subst, arith, inl, length-append, None, MatchBool}
 use Rattle.std.specs.declared.cmp.Ordering.{Ordering}
 use Rattle.std.proofs.lemmas.List.{append-nil}
 use Rattle.std.proofs.lemmas.Bool.Decides.{nat_tests}
@@ -7,56 +7,112 @@ use mathlib.Core.List.{IsPrefix}
 use prog.Atomic.{either}
 use Rattle.logbook.specs.Pages.{Cell, cell, keeps, no_nib, step, Moves, Goes}
 use Rattle.priority_channel_recorded.specs.declared.book.Entry.{Entry}
-use Rattle.priority_channel_recorded.specs.Log.{IsLegal, IsLog, MayFollow, Adds}
+use Rattle.priority_channel_recorded.specs.declared.log.Line.{Line}
+use Rattle.priority_channel_recorded.specs.declared.log.Line.TheVariants.{Made}
+use Rattle.priority_channel_recorded.specs.Log.{IsLegal, IsLogOf, IsLog, MayFollow, Looks, Adds, entries_in}
 use Rattle.priority_channel_recorded.proofs.Fronts.{prefix_whole}
+use Rattle.priority_channel_recorded.proofs.Lines.{entries_append, entries_front, same_opening}
+
+-- the one word of a log with so many entries
+abbrev word_at : ℕ → List Cell
+word_at n = (n, true) ∷ []
 
 module _ {T P : Type 0} (cmp : P → P → Ordering) where
   -- as the log's rule has them
-  abbrev pub shown : List (Entry T P) → List (Entry T P)
+  abbrev pub shown : List (Line T P) → List (Line T P)
   shown log = []
 
-  abbrev pub moved : List (Entry T P) → List (Entry T P) → ℕ → Type 0
+  abbrev pub moved : List (Line T P) → List (Line T P) → ℕ → Type 0
   moved before after answer = Unit {0}
 
-  module _ (seen : List (Entry T P)) (entry : Entry T P) (count : ℕ) (may : MayFollow cmp seen count entry) where
-    abbrev GoesFrom : List Cell → List (Entry T P) → Type 0
-    GoesFrom cells log =
-        Goes (IsLog cmp) shown moved 0 (seen, (no_nib, None)) (λ n. either (n == count) (count + 1) n)
-        (Adds cmp (step 0 count (count + 1) entry) (seen, (no_nib, None))) cells log
+  -- a log that gets no line keeps the rule
+  still_a_log : (log : List (Line T P)) (n : ℕ) → IsLog cmp (word_at n) log → IsLog cmp (word_at n) (log ++ [])
+  still_a_log log n rule = subst (IsLog cmp (word_at n)) (sym (append-nil log)) rule
 
-    goes_from : (log : List (Entry T P)) → IsLegal cmp log → IsPrefix seen log → (is_count : Bool) → (length log == count) ≡ is_count
-        → GoesFrom ((length log, true) ∷ (0, true) ∷ []) log
-    goes_from log legal front true is =
-        let here : length log ≡ count = grind (arith, nat_tests) in
-        let at_least : count ≤ length seen = may.0 in
-        let same : seen ≡ log = prefix_whole seen log front (omega (arith, here, at_least)) in
-        let long : length seen ≡ count = ap length same ∙ here in
-        let more : IsLegal cmp (log ++ entry ∷ []) = subst (λ (l : List (Entry T P)). IsLegal cmp (l ++ entry ∷ [])) same (may.1 long) in
-        let word : either (length log == count) (count + 1) (length log) ≡ length (log ++ entry ∷ []) = rw is (omega (arith, here, length-append log (entry ∷ []))) in (
-          keeps,
-          entry ∷ [],
-          None,
-          tt,
-          record { words = ap (λ (n : ℕ). (n, true) ∷ (0, true) ∷ []) word; legal = more },
-          inl (refl, refl),
-          rw is (long, ap (λ (l : List (Entry T P)). l ++ entry ∷ []) (sym same), more),
-        )
-    goes_from log legal front false is =
-        let same : log ++ [] ≡ log = append-nil log in
-        let still : IsLegal cmp (log ++ []) = subst (IsLegal cmp) (sym same) legal in
-        let word : either (length log == count) (count + 1) (length log) ≡ length (log ++ []) = rw is (ap length (sym same)) in (
+  module _ (seen : List (Line T P)) (ask : Line T P) where
+    abbrev LookFrom : List Cell → List (Line T P) → Type 0
+    LookFrom cells log =
+        Goes (IsLog cmp) shown moved 0 (seen, (no_nib, None)) (λ n. n) (Looks cmp (step 0 0 0 ask) (seen, (no_nib, None))) cells log
+
+    look_from : (log : List (Line T P)) → IsLog cmp (word_at (length (entries_in log))) log → LookFrom (word_at (length (entries_in log))) log
+    look_from log rule =
+        let after = still_a_log log (length (entries_in log)) rule in (
           keeps,
           [],
           None,
           tt,
-          record { words = ap (λ (n : ℕ). (n, true) ∷ (0, true) ∷ []) word; legal = still },
+          after,
           inl (refl, refl),
-          rw is still,
+          (ap (λ (l : List (Line T P)). length (entries_in l)) (append-nil log), (after.capacity, after.whole)),
         )
 
-    -- whatever the log is, the exchange adds the entry to all that was seen, or finds another length
+    -- whatever the log is, the look sees it, and finds how many entries it has
+    pub looks : Moves (IsLog cmp) shown moved 0 (seen, (no_nib, None)) (λ n. n) (Looks cmp (step 0 0 0 ask) (seen, (no_nib, None)))
+    looks cells log rule front away =
+        let here : IsLog cmp (word_at (length (entries_in log))) log = subst (λ (c : List Cell). IsLog cmp c log) rule.word rule in
+        subst (λ (c : List Cell). (0 < length c) × ((cell c 0).1 ≡ true) × LookFrom c log) (sym rule.word)
+        (omega arith, refl, look_from log here)
+
+  module _ (capacity : ℕ) (seen : List (Line T P)) (kept : IsLogOf cmp capacity seen) (entry : Entry T P) (count : ℕ)
+      (may : MayFollow cmp capacity (entries_in seen) count entry) where
+    abbrev GoesFrom : List Cell → List (Line T P) → Type 0
+    GoesFrom cells log =
+        Goes (IsLog cmp) shown moved 0 (seen, (no_nib, None)) (λ n. either (n == count) (count + 1) n)
+        (Adds cmp (step 0 count (count + 1) (Made entry)) (seen, (no_nib, None))) cells log
+
+    goes_from : (log : List (Line T P)) → IsLog cmp (word_at (length (entries_in log))) log → IsPrefix seen log
+        → (is_count : Bool) → (length (entries_in log) == count) ≡ is_count → GoesFrom (word_at (length (entries_in log))) log
+    goes_from log rule front true is =
+        let line : List (Line T P) = Made entry ∷ [] in
+        let here : length (entries_in log) ≡ count = grind (arith, nat_tests) in
+        let at_least : count ≤ length (entries_in seen) = may.0 in
+        let same : entries_in seen ≡ entries_in log = prefix_whole (entries_in seen) (entries_in log) (entries_front seen log front) (omega (arith, here, at_least)) in
+        let long : length (entries_in seen) ≡ count = ap length same ∙ here in
+        let now : IsLogOf cmp capacity log = same_opening cmp capacity rule.capacity seen log kept front rule.whole in
+        let entries : entries_in (log ++ line) ≡ entries_in seen ++ entry ∷ [] =
+        entries_append log line ∙ ap (λ (l : List (Entry T P)). l ++ entry ∷ []) (sym same) in
+        let more : IsLogOf cmp capacity (log ++ line) = record {
+          calls = now.calls ++ line;
+          opens = ap (λ (l : List (Line T P)). l ++ line) now.opens;
+          legal = subst (IsLegal cmp capacity) (sym entries) (may.1 long);
+        } in
+        let word : either (length (entries_in log) == count) (count + 1) (length (entries_in log)) ≡ length (entries_in (log ++ line)) =
+        rw (is, entries) (omega (arith, long, length-append (entries_in seen) (entry ∷ []))) in (
+          keeps,
+          line,
+          None,
+          tt,
+          record { capacity = capacity; word = ap word_at word; whole = more },
+          inl (refl, refl),
+          rw is (long, entries, (capacity, more)),
+        )
+    goes_from log rule front false is =
+        let after = still_a_log log (length (entries_in log)) rule in
+        let word : either (length (entries_in log) == count) (count + 1) (length (entries_in log)) ≡ length (entries_in log) = rw is refl in (
+          keeps,
+          [],
+          None,
+          tt,
+          subst (λ (n : ℕ). IsLog cmp (word_at n) (log ++ [])) (sym word) after,
+          inl (refl, refl),
+          rw is (after.capacity, after.whole),
+        )
+
+    -- whatever the log is, the exchange adds the entry to all that was seen, or finds another number of entries
     pub adds : Moves (IsLog cmp) shown moved 0 (seen, (no_nib, None)) (λ n. either (n == count) (count + 1) n)
-        (Adds cmp (step 0 count (count + 1) entry) (seen, (no_nib, None)))
+        (Adds cmp (step 0 count (count + 1) (Made entry)) (seen, (no_nib, None)))
     adds cells log rule front away =
-        subst (λ (c : List Cell). (0 < length c) × ((cell c 0).1 ≡ true) × GoesFrom c log) (sym rule.words)
-        (omega arith, refl, goes_from log rule.legal front (length log == count) refl)
+        let here : IsLog cmp (word_at (length (entries_in log))) log = subst (λ (c : List Cell). IsLog cmp c log) rule.word rule in
+        subst (λ (c : List Cell). (0 < length c) × ((cell c 0).1 ≡ true) × GoesFrom c log) (sym rule.word)
+        (omega arith, refl, goes_from log here front (length (entries_in log) == count) refl)
+
+    -- what the exchange has told, of the entries that had been seen
+    pub tells_added : (after : List (Line T P)) (now : List (Entry T P)) (ask : Line T P) → entries_in seen ≡ now → ask ≡ Made entry → IsPrefix seen after
+        → (is_count : Bool)
+        → MatchBool is_count ((length (entries_in seen) ≡ count) × (entries_in after ≡ entries_in seen ++ entries_in (ask ∷ [])) × ((other : ℕ) × IsLogOf cmp other after))
+        ((other : ℕ) × IsLogOf cmp other after)
+        → MatchBool is_count ((length now ≡ count) × (entries_in after ≡ now ++ entry ∷ [])) (IsPrefix now (entries_in after))
+    tells_added after now ask is made front true told =
+        (ap length (sym is) ∙ told.0, told.1 ∙ ap (λ (l : Line T P). entries_in seen ++ entries_in (l ∷ [])) made ∙ ap (λ (l : List (Entry T P)). l ++ entry ∷ []) is)
+    tells_added after now ask is made front false told =
+        subst (λ (l : List (Entry T P)). IsPrefix l (entries_in after)) is (entries_front seen after front)

@@ -10,6 +10,7 @@ use Rattle.priority_channel_core.specs.Run.{Made}
 use Rattle.priority_channel_core.proofs.RunLemmas.{zip_push, Run-more}
 use Rattle.priority_channel_recorded.specs.declared.book.Call.{Call}
 use Rattle.priority_channel_recorded.specs.declared.book.Call.TheVariants.{TrySend, TryRecv, Close, IsClosed, IsEmpty, IsFull, Len}
+use Rattle.priority_channel_recorded.specs.declared.book.Reply.{Reply}
 use Rattle.priority_channel_recorded.specs.declared.book.Entry.{Entry}
 use Rattle.priority_channel_recorded.specs.History.{Machine, call_of, Records, IsStep, IsHistory}
 use Rattle.priority_channel_recorded.specs.Log.{IsLegal}
@@ -32,13 +33,17 @@ module _ {T P : Type 0} (cmp : P → P → Ordering) where
   same_capacity old new handed Len (answer.Len told) m = cc
   same_capacity old new handed _ _ m = absurd m
 
+  pub step_capacity : (old new : Machine T P) (call : Call T P) (reply : Reply T P) → IsStep cmp old call reply new
+      → new.capacity ≡ old.capacity
+  step_capacity old new call reply step = same_capacity old new step.handed call step.answer step.step.moves
+
   pub history_more : (old new : Machine T P) (history : List (Entry T P)) (last : Entry T P)
       → IsHistory cmp old.capacity history old → IsStep cmp old last.call last.reply new
       → IsHistory cmp new.capacity (history ++ last ∷ []) new
   history_more old new history last legal step =
       let made : Made T P (Unit {0}) = record { call = call_of last.call; answer = step.answer; handed = step.handed } in
       subst (λ (k : ℕ). IsHistory cmp k (history ++ last ∷ []) new)
-      (sym (same_capacity old new step.handed last.call step.answer step.step.moves)) (record {
+      (sym (step_capacity old new last.call last.reply step)) (record {
         run = legal.run ++ made ∷ [];
         records = zip_push Records history legal.run last made legal.records (refl, step.replies);
         leads = Run-more cmp _ (opening old.capacity true) old new legal.run made legal.leads step.step;
@@ -48,5 +53,10 @@ module _ {T P : Type 0} (cmp : P → P → Ordering) where
   pub history_none : (capacity : ℕ) → IsHistory {T = T} cmp capacity [] (opening capacity true)
   history_none capacity = record { run = []; records = tt; leads = refl }
 
-  pub legal_none : IsLegal {T = T} cmp []
-  legal_none = record { capacity = 1; state = opening 1 true; run = history_none 1 }
+  pub legal_none : (capacity : ℕ) → IsLegal {T = T} cmp capacity []
+  legal_none capacity = record { state = opening capacity true; run = history_none capacity }
+
+  -- a history of a channel of this capacity is legal
+  pub legal_at : (capacity : ℕ) (history : List (Entry T P)) (state : Machine T P) → state.capacity ≡ capacity
+      → IsHistory cmp state.capacity history state → IsLegal cmp capacity history
+  legal_at capacity history state is run = record { state = state; run = subst (λ (c : ℕ). IsHistory cmp c history state) is run }

@@ -3,3 +3,4 @@ pub mod Adding
 pub mod Fixed
 pub mod Fronts
 pub mod Histories
+pub mod Lines

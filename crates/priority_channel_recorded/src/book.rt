@@ -100,13 +100,14 @@ impl<T: Copy, P: Copy + Ord, A: Allocator + Copy> Book<T, P, A> {
 
     /// Makes a call, and enters it under the caller's number with what it answered. Where there is no place for the
     /// entry the call is not made; that never comes as long as there are fewer entries than place was made for.
-    #[tactic(auto, using(crate::proofs::Histories::history_more))]
+    #[tactic(auto, using(crate::proofs::Histories::history_more, crate::proofs::Histories::step_capacity))]
     pub fn record(&mut self, who: u64, call: Call<T, P>) -> Result<Reply<T, P>, NoPlace>
         ensures step { IfOk result (λ reply. IsStep P.cmp self.old.state call reply self.new.state) }
         ensures entered { IfOk result (λ reply. self.new.history ≡ self.old.history ++ entry who call reply ∷ []) }
         ensures unchanged { OnErr result (self.new ≡ self.old) }
         ensures refused { OnErr result (self.old.place ≤ length self.old.history) }
         ensures place { self.old.place ≤ self.new.place }
+        ensures capacity { self.new.state.capacity ≡ self.old.state.capacity }
         ensures legal { IsHistory P.cmp self.new.state.capacity self.new.history self.new.state }
     {
         let Ok(()) = self.history.reserve(1) else {

@@ -31,10 +31,11 @@ impl<T, P: Ord, J: Recording, A: Allocator> Model for Guarded<T, P, J, A> {
 
     ghost view = { λ g. g.book };
 
-    ghost invariant = { λ g. (g.seen ≡ g.book.history) × (g.calls.total ≡ length g.book.history) × (g.none.parts ≡ 0) × (g.none.amount ≡ 0) };
+    ghost invariant = { λ g. (g.seen ≡ g.book.history) × (g.calls.total ≡ length g.book.history) × (g.none.parts ≡ 0) × (g.none.amount ≡ 0) × (g.book.state.capacity ≡ J.capacity) };
 }
 
 impl<T: Copy, P: Copy + Ord, J: Recording, A: Allocator + Copy> Guarded<T, P, J, A> {
+    #[tactic(auto, using(crate::proofs::Histories::legal_at))]
     fn call<R: Wait>(
         &mut self,
         rt: &R,
@@ -44,7 +45,7 @@ impl<T: Copy, P: Copy + Ord, J: Recording, A: Allocator + Copy> Guarded<T, P, J,
     ) -> Result<Reply<T, P>, NoPlace>
         ensures number { pass.new.number ≡ pass.old.number }
         ensures counted { IfOk result (λ _. pass.new.count ≡ pass.old.count + 1) }
-        ensures told { IfOk result (λ reply. IsTold P.cmp pass.old (entry pass.old.number call reply) pass.new) }
+        ensures told { IfOk result (λ reply. IsTold P.cmp J.capacity pass.old (entry pass.old.number call reply) pass.new) }
         ensures step { IfOk result (λ reply. IsStep P.cmp self.old.state call reply self.new.state) }
         ensures entered { IfOk result (λ reply. self.new.history ≡ self.old.history ++ entry pass.old.number call reply ∷ []) }
         ensures refused { OnErr result ((pass.new ≡ pass.old) × (self.new ≡ self.old)) }
@@ -81,10 +82,10 @@ fn append<T: Copy, P: Copy + Ord, J: Recording, R: Wait>(
 ) -> Seen<T, P, J>
     requires room { count + 1 < 2 ^ 64 }
     requires whole { length kept.now ≡ count }
-    requires legal { IsLegal P.cmp (kept.now ++ entry.now ∷ []) }
+    requires legal { IsLegal P.cmp J.capacity (kept.now ++ entry.now ∷ []) }
     ensures seen { result ≡ kept.now ++ entry.now ∷ [] }
     ensures before { IsPrefix other.now kept.now }
-    ensures legal { IsLegal P.cmp result }
+    ensures legal { IsLegal P.cmp J.capacity result }
 {
     for _ in rt.forever() {
         let mut seen = kept.again();
@@ -107,9 +108,10 @@ fn append<T: Copy, P: Copy + Ord, J: Recording, R: Wait>(
 /// ghost use Rattle.priority_channel_recorded.specs.Log.{names, IsLegal};
 ///
 /// fn audited<J: Recording, R: Wait>(rt: &R, alloc: Global, fresh: Fresh<u64, u8>) -> Result<History<u64, u8>, AllocError>
-///     requires names { fresh ≡ names J.log J.name J.parts }
+///     requires names { fresh ≡ names J.log J.capacity J.name J.parts }
+///     requires capacity { fresh.capacity ≡ 4 }
 ///     requires passes { fresh.passes ≡ 2 }
-///     ensures legal { IfOk result (λ history. IsLegal nat_cmp history) }
+///     ensures legal { IfOk result (λ history. IsLegal nat_cmp J.capacity history) }
 /// {
 ///     let (recorder, mut passes) = Recorded::<u64, u8, J>::new(alloc, fresh, 4, 100, 2)?;
 ///     for pass in passes.iter_mut() {
@@ -118,7 +120,7 @@ fn append<T: Copy, P: Copy + Ord, J: Recording, R: Wait>(
 ///     Ok(recorder.end(rt, passes))
 /// }
 ///
-/// let history = audited::<Brand, _>(&rt, rt.alloc(), Fresh::new(2))?;
+/// let history = audited::<Brand, _>(&rt, rt.alloc(), Fresh::new(4, 2))?;
 /// assert_eq!(rt; history.entries().len(), 2);
 /// ```
 #[derive(Drop)]
@@ -130,7 +132,7 @@ pub struct Recorded<T, P: Ord, J: Recording, A: Allocator = Global> {
 impl<T: Copy, P: Copy + Ord, J: Recording, A: Allocator + Copy> Recorded<T, P, J, A> {
     /// A recorder over an open and empty channel with place for `cap` pairs, with place for `entries` entries, and its
     /// passes. The error is that memory was refused.
-    #[tactic(auto, using(crate::proofs::Histories::legal_none, crate::proofs::Accounts::new_apart))]
+    #[tactic(auto, using(crate::proofs::Lines::log_opened, crate::proofs::Lines::no_entries, crate::proofs::Accounts::new_apart))]
     pub fn new(
         alloc: A,
         fresh: Fresh<T, P>,
@@ -140,7 +142,8 @@ impl<T: Copy, P: Copy + Ord, J: Recording, A: Allocator + Copy> Recorded<T, P, J
     ) -> Result<(Self, Vec<Pass<T, P, J>, A>), AllocError>
         requires positive { 0 < cap }
         requires fits { cap < 2 ^ 63 }
-        requires names { fresh ≡ names J.log J.name J.parts }
+        requires names { fresh ≡ names J.log J.capacity J.name J.parts }
+        requires capacity { fresh.capacity ≡ cap }
         requires passes { fresh.passes ≡ passes }
         ensures count { IfOk result (λ made. vec_len made.1 ≡ passes) }
         ensures new { IfOk result (λ made. AreNew made.1.items) }
@@ -184,14 +187,13 @@ impl<T: Copy, P: Copy + Ord, J: Recording, A: Allocator + Copy> Recorded<T, P, J
     ) -> Result<Reply<T, P>, NoPlace>
         ensures number { pass.new.number ≡ pass.old.number }
         ensures counted { IfOk result (λ _. pass.new.count ≡ pass.old.count + 1) }
-        ensures told { IfOk result (λ reply. IsTold P.cmp pass.old (entry pass.old.number call reply) pass.new) }
+        ensures told { IfOk result (λ reply. IsTold P.cmp J.capacity pass.old (entry pass.old.number call reply) pass.new) }
         ensures refused { OnErr result (pass.new ≡ pass.old) }
     {
         self.guarded.lock(rt).call(rt, &self.log, pass, call)
     }
 
     /// Lets both passes see what either has seen, and the history as it is. It takes no lock and waits for nobody.
-    #[tactic(auto, using(crate::proofs::Fronts::prefix_trans))]
     pub fn meet(&self, one: &mut Pass<T, P, J>, other: &mut Pass<T, P, J>)
         ensures one_number { one.new.number ≡ one.old.number }
         ensures one_count { one.new.count ≡ one.old.count }
@@ -200,22 +202,33 @@ impl<T: Copy, P: Copy + Ord, J: Recording, A: Allocator + Copy> Recorded<T, P, J
         ensures other_count { other.new.count ≡ other.old.count }
         ensures other_begins { IsPrefix other.old.seen other.new.seen }
         ensures same { one.new.seen ≡ other.new.seen }
-        ensures legal { IsLegal P.cmp one.new.seen }
+        ensures legal { IsLegal P.cmp J.capacity one.new.seen }
     {
-        let mut seen = one.seen.again();
-        seen.learn(&other.seen);
-        let _length = seen.look(&self.log);
+        let seen = self.see_all(&one.seen, &other.seen);
         one.seen = seen.again();
         other.seen = seen;
     }
 
+    // What either has seen, and the history as it is.
+    #[tactic(auto, using(crate::proofs::Fronts::prefix_trans))]
+    fn see_all(&self, one: &Seen<T, P, J>, other: &Seen<T, P, J>) -> Seen<T, P, J>
+        ensures this { IsPrefix one.now result }
+        ensures that { IsPrefix other.now result }
+        ensures legal { IsLegal P.cmp J.capacity result }
+    {
+        let mut seen = one.again();
+        seen.learn(other);
+        let _length = seen.look(&self.log);
+        seen
+    }
+
     /// Ends the recording, once all passes have come back, and tells the history, which nothing shows before. So no pass
     /// may be lost.
-    #[tactic(auto, using(crate::proofs::Accounts::account, crate::proofs::Fronts::prefix_whole))]
+    #[tactic(auto, using(crate::proofs::Accounts::account, crate::proofs::Fronts::prefix_whole, crate::proofs::Histories::legal_at))]
     pub fn end<R: Wait>(self, rt: &R, passes: Vec<Pass<T, P, J>, A>) -> History<T, P, A>
         requires all { vec_len passes ≡ J.parts }
         ensures length { length result ≡ calls_made passes.items }
-        ensures legal { IsLegal P.cmp result }
+        ensures legal { IsLegal P.cmp J.capacity result }
         ensures seen { All (λ pass. IsPrefix pass.seen result) passes.items }
         ensures accounts { AreApart passes.items → Accounts passes.items result }
     {

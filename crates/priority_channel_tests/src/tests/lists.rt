@@ -22,7 +22,10 @@ fn send_vec(core: &mut Core<&'static str>, pairs: Vec<(&'static str, u64)>)
 #[test]
 fn the_caller_knows_how_many_of_a_vector_were_accepted(rt: HostRuntime) -> Result<(), AllocError> {
     let mut core: Core<&str> = Core::bounded_reserved(rt.alloc(), 2)?;
-    send_vec(&mut core, vec![in rt.alloc(); ("a", 0), ("b", 1), ("c", 2)]?);
+    send_vec(
+        &mut core,
+        vec![in rt.alloc(); ("a", 0), ("b", 1), ("c", 2)]?,
+    );
     assert_eq!(rt; receive(&mut core), Ok(("b", 1)));
     Ok(())
 }

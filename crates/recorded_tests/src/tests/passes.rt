@@ -21,7 +21,8 @@ fn seven_calls<'a, J: Recording, R: Wait>(
     alloc: &'a Refusing<Global>,
     fresh: Fresh<u64, u64>,
 ) -> Result<([Option<Told>; 7], u64, RefusedHistory<'a>), Fail>
-    requires names { fresh ≡ names J.log J.name J.parts }
+    requires names { fresh ≡ names J.log J.capacity J.name J.parts }
+    requires capacity { fresh.capacity ≡ 2 }
     requires passes { fresh.passes ≡ 1 }
 {
     let (recorder, mut passes) = Recorded::<u64, u64, J, _>::new(alloc, fresh, 2, 8, 1)?;
@@ -41,7 +42,7 @@ fn seven_calls<'a, J: Recording, R: Wait>(
 #[test]
 fn a_pass_records(rt: HostRuntime) -> Result<(), Fail> {
     let alloc = Refusing::new(rt.alloc());
-    let (told, count, history) = seven_calls::<Brand, _>(&rt, &alloc, Fresh::new(1))?;
+    let (told, count, history) = seven_calls::<Brand, _>(&rt, &alloc, Fresh::new(2, 1))?;
     assert_eq!(rt; count, 7);
     assert_eq!(rt; history.entries().len(), 7);
     for i in 0..7usize {
@@ -60,7 +61,8 @@ fn a_pass_records(rt: HostRuntime) -> Result<(), Fail> {
 }
 
 fn is_made<J: Recording>(alloc: &Refusing<Global>, fresh: Fresh<u64, u64>) -> bool
-    requires names { fresh ≡ names J.log J.name J.parts }
+    requires names { fresh ≡ names J.log J.capacity J.name J.parts }
+    requires capacity { fresh.capacity ≡ 2 }
     requires passes { fresh.passes ≡ 2 }
 {
     Recorded::<u64, u64, J, _>::new(alloc, fresh, 2, 8, 2).is_ok()
@@ -75,7 +77,7 @@ fn its_making_may_be_refused(rt: HostRuntime) {
     for n in 1..=NOT_MET {
         let alloc = Refusing::new(rt.alloc());
         alloc.refuse_nth(n);
-        let made = is_made::<Brand>(&alloc, Fresh::new(2));
+        let made = is_made::<Brand>(&alloc, Fresh::new(2, 2));
         let met_none = alloc.refuse_none();
         assert_eq!(rt; met_none, n == NOT_MET, "at {n}");
         assert_eq!(rt; made, met_none, "at {n}");
@@ -88,7 +90,8 @@ fn without_place<'a, J: Recording, R: Wait>(
     alloc: &'a Refusing<Global>,
     fresh: Fresh<u64, u64>,
 ) -> Result<([(Told, u64); 3], RefusedHistory<'a>), Fail>
-    requires names { fresh ≡ names J.log J.name J.parts }
+    requires names { fresh ≡ names J.log J.capacity J.name J.parts }
+    requires capacity { fresh.capacity ≡ 1 }
     requires passes { fresh.passes ≡ 1 }
 {
     let (recorder, mut passes) = Recorded::<u64, u64, J, _>::new(alloc, fresh, 1, 0, 1)?;
@@ -111,7 +114,7 @@ fn without_place<'a, J: Recording, R: Wait>(
 #[test]
 fn a_call_without_place_is_not_made(rt: HostRuntime) -> Result<(), Fail> {
     let alloc = Refusing::new(rt.alloc());
-    let (told, history) = without_place::<Brand, _>(&rt, &alloc, Fresh::new(1))?;
+    let (told, history) = without_place::<Brand, _>(&rt, &alloc, Fresh::new(1, 1))?;
     assert_eq!(rt; told[0], (Err(NoPlace), 0));
     assert_eq!(rt; told[1], (Ok(Reply::Sent(Ok(()))), 1));
     assert_eq!(rt; told[2], (Ok(Reply::Len(1)), 2));
@@ -125,7 +128,8 @@ fn two_passes<J: Recording, R: Wait>(
     alloc: Global,
     fresh: Fresh<u64, u64>,
 ) -> Result<([Told; 3], [(u64, u64); 2], History<u64, u64>), Fail>
-    requires names { fresh ≡ names J.log J.name J.parts }
+    requires names { fresh ≡ names J.log J.capacity J.name J.parts }
+    requires capacity { fresh.capacity ≡ 2 }
     requires passes { fresh.passes ≡ 2 }
 {
     let (recorder, mut passes) = Recorded::<u64, u64, J>::new(alloc, fresh, 2, 8, 2)?;
@@ -143,7 +147,7 @@ fn two_passes<J: Recording, R: Wait>(
 
 #[test]
 fn two_passes_meet(rt: HostRuntime) -> Result<(), Fail> {
-    let (told, counts, history) = two_passes::<Brand, _>(&rt, rt.alloc(), Fresh::new(2))?;
+    let (told, counts, history) = two_passes::<Brand, _>(&rt, rt.alloc(), Fresh::new(2, 2))?;
     assert_eq!(rt; told[0], Ok(Reply::Sent(Ok(()))));
     assert_eq!(rt; told[1], Ok(Reply::Received(Ok((1, 5)))));
     assert_eq!(rt; told[2], Ok(Reply::Len(0)));
@@ -163,7 +167,8 @@ fn many_calls<J: Recording, R: Wait>(
     alloc: Global,
     fresh: Fresh<u64, u64>,
 ) -> Result<(u64, u64, History<u64, u64>), Fail>
-    requires names { fresh ≡ names J.log J.name J.parts }
+    requires names { fresh ≡ names J.log J.capacity J.name J.parts }
+    requires capacity { fresh.capacity ≡ 1 }
     requires passes { fresh.passes ≡ 1 }
 {
     let (recorder, mut passes) = Recorded::<u64, u64, J>::new(alloc, fresh, 1, 10_000, 1)?;
@@ -184,7 +189,7 @@ fn many_calls<J: Recording, R: Wait>(
 
 #[test]
 fn a_recorder_takes_many_calls(rt: HostRuntime) -> Result<(), Fail> {
-    let (passed_on, count, history) = many_calls::<Brand, _>(&rt, rt.alloc(), Fresh::new(1))?;
+    let (passed_on, count, history) = many_calls::<Brand, _>(&rt, rt.alloc(), Fresh::new(1, 1))?;
     assert_eq!(rt; passed_on, PAIRS);
     assert_eq!(rt; count, 10_000);
     assert_eq!(rt; history.entries().len(), 10_000);

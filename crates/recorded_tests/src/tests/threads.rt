@@ -32,7 +32,8 @@ fn closed_by_another<J: Recording + Send + Sync, R: Threads + Wait + Sync>(
     alloc: Global,
     fresh: Fresh<u64, u64>,
 ) -> Result<(Vec<Told>, History<u64, u64>), Fail>
-    requires names { fresh ≡ names J.log J.name J.parts }
+    requires names { fresh ≡ names J.log J.capacity J.name J.parts }
+    requires capacity { fresh.capacity ≡ 1 }
     requires passes { fresh.passes ≡ 2 }
 {
     let (recorder, mut passes) = Recorded::<u64, u64, J>::new(alloc, fresh, 1, 2, 2)?;
@@ -50,7 +51,7 @@ fn closed_by_another<J: Recording + Send + Sync, R: Threads + Wait + Sync>(
 
 #[test]
 fn a_close_on_another_thread_is_seen(rt: HostRuntime) -> Result<(), Fail> {
-    let (told, history) = closed_by_another::<Brand, _>(&rt, rt.alloc(), Fresh::new(2))?;
+    let (told, history) = closed_by_another::<Brand, _>(&rt, rt.alloc(), Fresh::new(1, 2))?;
     assert_eq!(rt; told.get(0), Some(&Ok(Reply::Bool(true))));
     assert_eq!(rt;
         told.get(1),
@@ -66,7 +67,8 @@ fn sixteen_close<J: Recording + Send + Sync, R: Threads + Wait + Sync>(
     alloc: Global,
     fresh: Fresh<u64, u64>,
 ) -> Result<(Vec<Told>, History<u64, u64>), Fail>
-    requires names { fresh ≡ names J.log J.name J.parts }
+    requires names { fresh ≡ names J.log J.capacity J.name J.parts }
+    requires capacity { fresh.capacity ≡ 1 }
     requires passes { fresh.passes ≡ 16 }
 {
     let (recorder, passes) = Recorded::<u64, u64, J>::new(alloc, fresh, 1, 16, 16)?;
@@ -84,7 +86,7 @@ fn sixteen_close<J: Recording + Send + Sync, R: Threads + Wait + Sync>(
 
 #[test]
 fn one_close_is_the_first(rt: HostRuntime) -> Result<(), Fail> {
-    let (told, history) = sixteen_close::<Brand, _>(&rt, rt.alloc(), Fresh::new(16))?;
+    let (told, history) = sixteen_close::<Brand, _>(&rt, rt.alloc(), Fresh::new(1, 16))?;
     let first = Ok(Reply::Bool(true));
     let later = Ok(Reply::Bool(false));
     assert_eq!(rt; told.len(), 16);
@@ -127,7 +129,8 @@ fn four_passes<J: Recording + Send + Sync, R: Threads + Wait + Sync>(
     alloc: Global,
     fresh: Fresh<u64, u64>,
 ) -> Result<(Vec<Vec<Entry<u64, u64>>>, History<u64, u64>), Fail>
-    requires names { fresh ≡ names J.log J.name J.parts }
+    requires names { fresh ≡ names J.log J.capacity J.name J.parts }
+    requires capacity { fresh.capacity ≡ 3 }
     requires passes { fresh.passes ≡ 4 }
 {
     let (recorder, passes) = Recorded::<u64, u64, J>::new(alloc, fresh, CAPACITY, 4000, 4)?;
@@ -167,7 +170,7 @@ fn replay(pending: &mut Vec<(u64, u64)>, entry: &Entry<u64, u64>) -> Result<bool
 
 #[test]
 fn four_threads_make_one_history(rt: HostRuntime) -> Result<(), Fail> {
-    let (told, history) = four_passes::<Brand, _>(&rt, rt.alloc(), Fresh::new(4))?;
+    let (told, history) = four_passes::<Brand, _>(&rt, rt.alloc(), Fresh::new(CAPACITY, 4))?;
     assert_eq!(rt; history.entries().len(), 4000);
     assert_eq!(rt; told.len(), 4);
     for entries in told {

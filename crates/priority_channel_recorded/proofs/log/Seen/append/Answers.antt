@@ -1,6 +1,6 @@
-use Rattle.std.proofs.Common.{sym, ◌∙◌, ap}
-use Rattle.priority_channel_recorded.specs.Log.{MayFollow}
-use Rattle.priority_channel_recorded.proofs.Adding.{adds}
+use Rattle.std.proofs.Common.{nat_eq, sym, ◌∙◌, ap}
+use Rattle.priority_channel_recorded.specs.Log.{MayFollow, entries_in}
+use Rattle.priority_channel_recorded.proofs.Adding.{adds, tells_added}
 use Rattle.priority_channel_recorded.proofs.log.Seen.append.Goals as goal
 
 pub compare_exchange-found-requires : goal.compare_exchange-found-requires
@@ -9,10 +9,17 @@ compare_exchange-found-requires g c =
     let offer = c.plain-offer.ensures in
     let pen = c.no_pen-pen.ensures in
     let same_book = c.self.invariant.0 ∙ sym (ap (λ w. w.book) word) in
-    let may : MayFollow g.P.Ord.cmp c.self.inside.token.log c.args.count c.args.entry.now = rw c.self.view_is c.requires.next in (
+    let may : MayFollow g.P.Ord.cmp g.J.Recording.capacity (entries_in c.self.inside.token.log) c.args.count c.args.entry.now = rw c.self.view_is c.requires.next in (
       ap (λ w. w.tracked) word,
       same_book,
       pen.0 ∙ same_book,
       offer.0,
-      rw (ap (λ w. w.key) word, pen.1, offer.1, offer.3) (adds g.P.Ord.cmp c.self.inside.token.log c.args.entry.now c.args.count may),
+      rw (ap (λ w. w.key) word, pen.1, offer.1, offer.3) (adds g.P.Ord.cmp g.J.Recording.capacity c.self.inside.token.log c.self.invariant.1 c.args.entry.now c.args.count may),
     )
+
+pub returns-clause-added : goal.returns-clause-added
+returns-clause-added g c =
+    let may : MayFollow g.P.Ord.cmp g.J.Recording.capacity (entries_in c.self.inside.token.log) c.args.count c.args.entry.now = rw c.self.view_is c.requires.next in
+    let told = c.compare_exchange-found.ensures in
+    tells_added g.P.Ord.cmp g.J.Recording.capacity c.self.inside.token.log c.self.invariant.1 c.args.entry.now c.args.count may c.compare_exchange-found.new.seen.log
+    c.args.self.now c.plain-offer.result.ask c.self.view_is c.plain-offer.ensures.1 told.6 (nat_eq c.compare_exchange-found.result c.args.count) told.7
