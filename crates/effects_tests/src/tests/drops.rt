@@ -4,6 +4,7 @@ use super::tasks::is_pending;
 use async_priority_channel::{Receiver, Sender, TryRecvError, bounded};
 use futures::StreamExt;
 use futures::test::MockTask;
+use std::iter::once;
 use std::sync::Wait;
 use std::test::Fail;
 use std::thread;
@@ -178,11 +179,18 @@ fn use_once<T: Drop, R: Wait + Clone + Clock>(
 enum Unsent {
     Unpolled,
     Waiting,
+    Bulk,
+    WaitingBulk,
 }
 
-const UNSENT: [Unsent; 2] = [Unsent::Unpolled, Unsent::Waiting];
+const UNSENT: [Unsent; 4] = [
+    Unsent::Unpolled,
+    Unsent::Waiting,
+    Unsent::Bulk,
+    Unsent::WaitingBulk,
+];
 
-// Drops a future that has that message.
+// Drops a future that has that message, by itself or as all that it has.
 fn drop_unsent<T: Drop, R: Wait + Clone>(
     task: &MockTask,
     tx: &Sender<T, u64, R>,
@@ -196,6 +204,14 @@ fn drop_unsent<T: Drop, R: Wait + Clone>(
         }
         Unsent::Waiting => {
             let mut sending = tx.send(msg, 1);
+            is_pending(task.poll(&mut sending))
+        }
+        Unsent::Bulk => {
+            drop(tx.sendv(once((msg, 1)).peekable()));
+            true
+        }
+        Unsent::WaitingBulk => {
+            let mut sending = tx.sendv(once((msg, 1)).peekable());
             is_pending(task.poll(&mut sending))
         }
     }
