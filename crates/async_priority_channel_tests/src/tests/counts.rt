@@ -2,44 +2,6 @@
 use async_priority_channel::{TryRecvError, TrySendError, bounded};
 use refusing::Refusing;
 use std::alloc::AllocError;
-use std::cell::Cell;
-use std::sync::Wait;
-
-/// A permission to wait whose clone may be refused.
-#[derive(Drop)]
-struct Limited<'a, R> {
-    rt: R,
-    is_refused: &'a Cell<bool>,
-}
-
-impl<R: Wait> Wait for Limited<'_, R> {}
-
-impl<R: Clone> Clone for Limited<'_, R> {
-    fn clone(&self) -> Result<Self, AllocError> {
-        if self.is_refused.get() {
-            return Err(AllocError);
-        }
-        Ok(Limited {
-            rt: self.rt.clone()?,
-            is_refused: self.is_refused,
-        })
-    }
-}
-
-#[test]
-fn a_refused_clone_is_not_counted(rt: HostRuntime) -> Result<(), AllocError> {
-    let is_refused = Cell::new(false);
-    let limited = Limited {
-        rt,
-        is_refused: &is_refused,
-    };
-    let (tx, rx) = bounded::<u64, u64, _, _>(&limited, rt.alloc(), 1)?;
-    is_refused.set(true);
-    assert!(rt; tx.clone().is_err() && rx.clone().is_err());
-    assert_eq!(rt; (tx.sender_count(), rx.receiver_count()), (1, 1));
-    assert!(rt; !tx.is_closed());
-    Ok(())
-}
 
 #[test]
 fn clones_ask_for_no_memory(rt: HostRuntime) -> Result<(), AllocError> {

@@ -81,6 +81,12 @@ fn a_refused_handle_is_not_counted(rt: HostRuntime) -> Result<(), Fail> {
         let named = [n == 4, n == 5, n == 6, n == 7, n == 8, n == 9];
         assert_eq!(rt; refused, named, "at {n}");
         drop((other_tx, other_rx, third_tx, third_rx));
+        // Who was refused an upgrade has one later.
+        let fourth_tx = weak_tx.as_ref().and_then(|weak| weak.upgrade());
+        let fourth_rx = weak_rx.as_ref().and_then(|weak| weak.upgrade());
+        assert_eq!(rt; fourth_tx.is_some(), weak_tx.is_some(), "at {n}");
+        assert_eq!(rt; fourth_rx.is_some(), weak_rx.is_some(), "at {n}");
+        drop((fourth_tx, fourth_rx));
         assert_eq!(rt; (tx.sender_count(), tx.receiver_count()), (1, 1), "at {n}");
         assert_eq!(rt; tx.try_send("x", n), Ok(()));
         drop(tx);

@@ -1,32 +1,9 @@
 //! Handles that keep no channel open, and which handles are of one channel.
 use async_priority_channel::{Receiver, Sender, TryRecvError, WeakSender, bounded, unbounded};
-use std::alloc::AllocError;
-use std::cell::Cell;
 use std::random::RandomSource;
 use std::sync::Wait;
 use std::test::Fail;
 use std::thread;
-
-/// A permission to wait whose clone may be refused.
-#[derive(Drop)]
-struct Limited<'a, R> {
-    rt: R,
-    is_refused: &'a Cell<bool>,
-}
-
-impl<R: Wait> Wait for Limited<'_, R> {}
-
-impl<R: Clone> Clone for Limited<'_, R> {
-    fn clone(&self) -> Result<Self, AllocError> {
-        if self.is_refused.get() {
-            return Err(AllocError);
-        }
-        Ok(Limited {
-            rt: self.rt.clone()?,
-            is_refused: self.is_refused,
-        })
-    }
-}
 
 #[test]
 fn weak_handles_are_not_counted(rt: HostRuntime) -> Result<(), Fail> {
@@ -117,26 +94,6 @@ fn nothing_is_upgraded_after_a_close(rt: HostRuntime) -> Result<(), Fail> {
     assert!(rt; weak_rx.upgrade().is_none());
     assert_eq!(rt; (tx.sender_count(), tx.receiver_count()), (1, 1));
     assert_eq!(rt; rx.try_recv(), Ok(("x", 1)));
-    Ok(())
-}
-
-#[test]
-fn a_refused_upgrade_is_not_counted(rt: HostRuntime) -> Result<(), Fail> {
-    let is_refused = Cell::new(false);
-    let limited = Limited {
-        rt,
-        is_refused: &is_refused,
-    };
-    let (tx, rx) = bounded::<u64, u64, _, _>(&limited, rt.alloc(), 1)?;
-    let weak_tx = tx.downgrade()?;
-    let weak_rx = rx.downgrade()?;
-    is_refused.set(true);
-    assert!(rt; tx.downgrade().is_err() && rx.downgrade().is_err());
-    assert!(rt; weak_tx.upgrade().is_none() && weak_rx.upgrade().is_none());
-    assert_eq!(rt; (tx.sender_count(), tx.receiver_count()), (1, 1));
-    assert!(rt; !tx.is_closed());
-    is_refused.set(false);
-    assert!(rt; weak_tx.upgrade().is_some() && weak_rx.upgrade().is_some());
     Ok(())
 }
 
