@@ -96,11 +96,13 @@ impl<T, P: Ord, R: Wait + Clone, A: Allocator + Copy> Handle<T, P, R, A> {
         Ok(Handle { rt, shared })
     }
 
+    #[inline(always)]
     pub fn lock(&self) -> MutexGuard<'_, Core<T, P, A>> {
         self.shared.core.lock(&self.rt)
     }
 
     /// Wakes those whom a call handed out. Its lock must be free.
+    #[inline(always)]
     pub fn wake_all(&self, wakes: Wakes<KeptWaker<A>, A>) {
         wake_all(&self.rt, wakes);
     }

@@ -28,6 +28,7 @@ impl<W, A: Allocator> Model for Wakes<W, A> {
 
 impl<W, A: Allocator> Wakes<W, A> {
     /// First those who waited for room, then those who waited for a message, each under its ticket.
+    #[inline(always)]
     pub fn into_lists(self) -> (Vec<(u64, W), A>, Vec<(u64, W), A>)
         ensures room { result.0.items ≡ self.room }
         ensures message { result.1.items ≡ self.message }
@@ -39,6 +40,7 @@ impl<W, A: Allocator> Wakes<W, A> {
 
 impl<W, A: Allocator + Copy> Wakes<W, A> {
     /// Nobody is handed out, which takes no memory.
+    #[inline(always)]
     pub fn nobody(alloc: A) -> Self
         ensures { result ≡ nobody }
     {
@@ -82,6 +84,7 @@ impl<W, A: Allocator> Model for AwaitableAtomicCounterAndBit<W, A> {
     ghost invariant = { λ a. HasOwnTickets a.room_waiters a.message_waiters a.next_ticket };
 }
 
+#[inline(always)]
 fn unpack(packed: u64) -> (bool, u64)
     ensures bit { result.0 ≡ closed_bit packed }
     ensures count { result.1 ≡ count_below packed }
@@ -107,6 +110,7 @@ impl<W, A: Allocator + Copy> AwaitableAtomicCounterAndBit<W, A> {
     }
 
     /// The bit and the count.
+    #[inline(always)]
     pub fn load(&self) -> (bool, u64)
         ensures bit { result.0 ≡ self.now.word.is_closed }
         ensures count { result.1 ≡ self.now.word.count }
@@ -131,6 +135,7 @@ impl<W, A: Allocator + Copy> AwaitableAtomicCounterAndBit<W, A> {
 
     /// Adds to the count, and answers the bit and the count before. Where the count rises, those who wait for a
     /// message are handed out.
+    #[inline(always)]
     pub fn incr(&mut self, n: u64) -> ((bool, u64), Wakes<W, A>)
         requires { self.old.word.count + n < 2 ^ 63 }
         ensures bit { result.0.0 ≡ self.old.word.is_closed }
@@ -151,6 +156,7 @@ impl<W, A: Allocator + Copy> AwaitableAtomicCounterAndBit<W, A> {
     }
 
     /// Takes one from the count, answers the bit and the count before, and hands out those who wait for room.
+    #[inline(always)]
     pub fn decr(&mut self) -> ((bool, u64), Wakes<W, A>)
         requires { 0 < self.old.word.count }
         ensures bit { result.0.0 ≡ self.old.word.is_closed }

@@ -76,6 +76,7 @@ impl<T, P: Ord, A: Allocator> Bag<T, P, A> {
 
     /// Makes place for one more pair, where there is none yet. It fails only where memory is refused, or at
     /// 2^63 - 1 pairs, and then nothing has changed.
+    #[inline(always)]
     pub fn make_place(&mut self) -> Result<(), AllocError>
         ensures same { self.new ≡ record self.old { place = self.new.place } }
         ensures place { OnOk result (length self.new.pending < self.new.place) }
@@ -88,6 +89,7 @@ impl<T, P: Ord, A: Allocator> Bag<T, P, A> {
     }
 
     /// How many pairs are pending.
+    #[inline(always)]
     pub fn len(&self) -> u64
         ensures { result ≡ length self.now.pending }
     {
@@ -95,6 +97,7 @@ impl<T, P: Ord, A: Allocator> Bag<T, P, A> {
     }
 
     /// Whether there is a number left for a further pair.
+    #[inline(always)]
     pub fn can_push(&self) -> bool
         ensures { IsTrue result ↔ (self.now.accepted + 1 < 2 ^ 64) }
     {
@@ -102,6 +105,7 @@ impl<T, P: Ord, A: Allocator> Bag<T, P, A> {
     }
 
     /// Adds a pair.
+    #[inline(always)]
     pub fn push(&mut self, msg: T, priority: P)
         requires place { length self.old.pending < self.old.place }
         requires number { self.old.accepted + 1 < 2 ^ 64 }
@@ -133,6 +137,7 @@ impl<T, P: Ord, A: Allocator> Bag<T, P, A> {
     }
 
     /// Takes out the first pair among those that no other exceeds in priority.
+    #[inline(always)]
     pub fn pop(&mut self) -> Option<(T, P)>
         ensures taken { MatchOption result (self.old.pending ≡ []) (λ pair. TakesGreatest P.cmp self.old.pending pair self.new.pending) }
         ensures none { IfNone result (self.new.pending ≡ []) }

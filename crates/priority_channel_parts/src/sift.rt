@@ -34,34 +34,86 @@ pub(crate) fn sink<T, P: Ord>(items: &mut [Item<T, P>], comparisons: &mut Compar
     ensures order { RestoresHeap (item_cmp P.cmp) items.old 1 (length items.old) items.new }
     ensures cost { comparisons.new.count ≤ comparisons.old.count + 2 * digits (length items.old) }
 {
+    // Once for all levels: which child is the greater cannot be foretold, so a branch is wrong at every second
+    // level; but it begins to load the next level before the comparison has ended, which counts for more where the
+    // items lie in far memory.
+    if items.len() < FAR {
+        sink_by::<WithoutBranch, T, P>(items, comparisons);
+    } else {
+        sink_by::<ByBranch, T, P>(items, comparisons);
+    }
+}
+
+// From this length on the items are taken to lie in far memory.
+const FAR: usize = 1 << 16;
+
+// How the greater child is found.
+trait Choice {
+    fn greater_child<T, P: Ord>(
+        items: &[Item<T, P>],
+        comparisons: &mut Comparisons,
+        at: usize,
+    ) -> usize
+        requires { at * 2 + 1 < length items.now }
+        ensures child { (at * 2 + 1 ≤ result) × (result ≤ at * 2 + 2) × (result < length items.now) }
+        ensures best { IsGreaterChild (item_cmp P.cmp) items.now at result (length items.now) }
+        ensures cost { comparisons.new.count ≤ comparisons.old.count + 1 };
+}
+
+struct ByBranch;
+
+impl Choice for ByBranch {
+    fn greater_child<T, P: Ord>(
+        items: &[Item<T, P>],
+        comparisons: &mut Comparisons,
+        at: usize,
+    ) -> usize {
+        let left = at * 2 + 1;
+        let right = left + 1;
+        if right == items.len() {
+            return left;
+        }
+        if comparisons.compare(&items[right], &items[left]).is_lt() {
+            left
+        } else {
+            right
+        }
+    }
+}
+
+struct WithoutBranch;
+
+impl Choice for WithoutBranch {
+    fn greater_child<T, P: Ord>(
+        items: &[Item<T, P>],
+        comparisons: &mut Comparisons,
+        at: usize,
+    ) -> usize {
+        let left = at * 2 + 1;
+        let right = left + 1;
+        if right == items.len() {
+            return left;
+        }
+        let is_left = comparisons.compare(&items[right], &items[left]).is_lt();
+        left + !is_left as usize
+    }
+}
+
+fn sink_by<C: Choice, T, P: Ord>(items: &mut [Item<T, P>], comparisons: &mut Comparisons)
+    ensures moves { IsPermutation items.old items.new }
+    ensures order { RestoresHeap (item_cmp P.cmp) items.old 1 (length items.old) items.new }
+    ensures cost { comparisons.new.count ≤ comparisons.old.count + 2 * digits (length items.old) }
+{
     if items.is_empty() {
         return;
     }
     let mut at = 0;
     while at < items.len() / 2 {
-        let child = greater_child(items, comparisons, at);
+        let child = C::greater_child(items, comparisons, at);
         exchange(items, at, child);
         at = child;
     }
     rise(items, comparisons, at);
-}
-
-fn greater_child<T, P: Ord>(items: &[Item<T, P>], comparisons: &mut Comparisons, at: usize) -> usize
-    requires { at * 2 + 1 < length items.now }
-    ensures child { (at * 2 + 1 ≤ result) × (result ≤ at * 2 + 2) × (result < length items.now) }
-    ensures best { IsGreaterChild (item_cmp P.cmp) items.now at result (length items.now) }
-    ensures cost { comparisons.new.count ≤ comparisons.old.count + 1 }
-{
-    let left = at * 2 + 1;
-    let right = left + 1;
-    if right == items.len() {
-        return left;
-    }
-    if comparisons.compare(&items[right], &items[left]).is_lt() {
-        left
-    } else {
-        right
-    }
 }
 
 /// Two items change places. Field by field, since fields of a few bytes move in registers, where a whole item goes through memory.

@@ -79,6 +79,7 @@ impl<W, A: Allocator> Entries<W, A> {
     }
 
     /// Takes the whole list. Takes no memory.
+    #[inline(always)]
     pub fn take(&mut self, alloc: A) -> Vec<(u64, W), A>
         ensures taken { result.items ≡ self.old }
         ensures empty { self.new ≡ [] }

@@ -3,7 +3,7 @@ use Rattle.std.specs.BinaryHeap.Sift.{IsGreaterChild}
 use Rattle.std.proofs.HeapSift as heap
 use Rattle.priority_channel_parts.specs.Heap.{item_cmp}
 use Rattle.priority_channel_parts.proofs.ItemOrder.{item_total, compared}
-use Rattle.priority_channel_parts.proofs.sift.greater_child.Goals as goal
+use Rattle.priority_channel_parts.proofs.sift.ByBranchChoice.greater_child.Goals as goal
 
 pub returns-then-right-items-clause-best : goal.returns-then-right-items-clause-best
 returns-then-right-items-clause-best g c =

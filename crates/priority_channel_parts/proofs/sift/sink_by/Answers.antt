@@ -7,7 +7,7 @@ use Rattle.priority_channel_parts.specs.Digits.{digits}
 use Rattle.priority_channel_parts.specs.Heap.{item_cmp}
 use Rattle.priority_channel_parts.proofs.DigitsLemmas.{digits_child, digits-mono}
 use Rattle.priority_channel_parts.proofs.ItemOrder.{item_total}
-use Rattle.priority_channel_parts.proofs.sift.sink.Goals as goal
+use Rattle.priority_channel_parts.proofs.sift.sink_by.Goals as goal
 
 pub returns-then-is_empty-clause-order : goal.returns-then-is_empty-clause-order
 returns-then-is_empty-clause-order g c =

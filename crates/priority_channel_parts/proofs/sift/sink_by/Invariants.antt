@@ -4,7 +4,7 @@ use Rattle.std.proofs.HeapSift as heap
 use Rattle.priority_channel_parts.specs.Digits.{digits}
 use Rattle.priority_channel_parts.specs.Heap.{item_cmp}
 use Rattle.priority_channel_parts.proofs.ItemOrder.{item_total}
-use Rattle.priority_channel_parts.proofs.sift.sink.Given as goal
+use Rattle.priority_channel_parts.proofs.sift.sink_by.Given as goal
 
 abbrev pub invariant-loop-at : goal.invariant-loop-at
 invariant-loop-at g l = record {
