@@ -106,7 +106,7 @@ impl<A: Allocator> Drop for KeptWaker<A> {
 
 /// Wakes all who were handed out. It takes the locks of their places, and the channel's lock must be free.
 #[inline(always)]
-pub fn wake_all<R: Wait, A: Allocator + Copy>(rt: &R, wakes: Wakes<KeptWaker<A>, A>) {
+pub fn wake_all<R: Wait, A: Allocator>(rt: &R, wakes: Wakes<KeptWaker<A>, A>) {
     let (room, message) = wakes.into_lists();
     for (_, waker) in room {
         waker.wake(rt);

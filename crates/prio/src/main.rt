@@ -1,6 +1,7 @@
 //! Reads a script of calls from standard input, makes them on one channel, and prints each answer.
 #![tactic(auto)]
 
+mod answers;
 mod grammar;
 mod run;
 mod script;

@@ -3,11 +3,13 @@ ghost use Rattle.std.specs.Prelude.{◌≡◌, ◌≢◌, ◌+◌, ◌-◌, ◌^
 ghost use Rattle.std.specs.Option.{option_copied};
 ghost use Rattle.prio.specs.Fields.{further_text, IsPair, pairs_text};
 
+use crate::answers::{
+    answer_capacity, answer_close, answer_len, answer_recv, answer_send, answer_sendv,
+};
 use crate::grammar::{Call, Opening, parse_call, parse_opening, take_pair};
 use crate::run::{Fault, Stop};
-use async_priority_channel::{
-    Ends, TryRecvError, TrySendError, bounded, bounded_reserved, unbounded,
-};
+use async_priority_channel::{Ends, bounded, bounded_reserved, unbounded};
+use memchr::memchr;
 use std::alloc::{AllocError, Allocator};
 use std::io::{BufRead, BufReader, BufWriter, ErrorKind, Read, Write};
 use std::sync::Wait;
@@ -107,44 +109,17 @@ impl<'a, H: Wait + Clone, R: Read + Drop, W: Write + Drop, A: Allocator + Copy> 
         match parse_call(line).ok_or(Fault::NotACall)? {
             Call::Send { priority, word } => {
                 let word = String::from_str(self.alloc, word)?;
-                let answer: &[u8] = match tx.try_send(word, priority) {
-                    Ok(()) => b"ok\n",
-                    Err(TrySendError::Full(_)) => b"full\n",
-                    Err(TrySendError::Closed(_)) => b"closed\n",
-                    Err(TrySendError::Memory(_)) => b"memory\n",
-                };
-                answers.write_all(answer)?;
+                answer_send(answers, tx, word, priority)
             }
             Call::Sendv { pairs } => {
                 let pairs = read_pairs(self.alloc, pairs)?;
-                let (answer, rest) = match tx.try_sendv(pairs.into_iter().peekable()) {
-                    Ok(()) => return Ok(answers.write_all(b"ok\n")?),
-                    Err(TrySendError::Full(rest)) => ("full", rest),
-                    Err(TrySendError::Closed(rest)) => ("closed", rest),
-                    Err(TrySendError::Memory(rest)) => ("memory", rest),
-                };
-                let refused = rest.count();
-                writeln!(answers, "{answer} {refused}")?;
+                answer_sendv(answers, tx, pairs)
             }
-            Call::Recv => match rx.try_recv() {
-                Ok((word, priority)) => writeln!(answers, "{word} {priority}")?,
-                Err(TryRecvError::Empty) => answers.write_all(b"empty\n")?,
-                Err(TryRecvError::Closed) => answers.write_all(b"closed\n")?,
-            },
-            Call::Close => {
-                let was_open = tx.close();
-                writeln!(answers, "{was_open}")?;
-            }
-            Call::Len => {
-                let len = tx.len();
-                writeln!(answers, "{len}")?;
-            }
-            Call::Capacity => match tx.capacity() {
-                Some(capacity) => writeln!(answers, "{capacity}")?,
-                None => answers.write_all(b"none\n")?,
-            },
+            Call::Recv => answer_recv(answers, rx),
+            Call::Close => answer_close(answers, tx),
+            Call::Len => answer_len(answers, tx),
+            Call::Capacity => answer_capacity(answers, tx),
         }
-        Ok(())
     }
 
     // Reads the next line, without its line feed. False at the end of the input.
@@ -166,7 +141,7 @@ impl<'a, H: Wait + Clone, R: Read + Drop, W: Write + Drop, A: Allocator + Copy> 
             if bytes.is_empty() {
                 return Ok(!self.line.is_empty());
             }
-            match bytes.iter().position(|b| *b == b'\n') {
+            match memchr(b'\n', bytes) {
                 Some(end) => {
                     self.line.extend_from_slice(&bytes[..end])?;
                     self.input.consume(end + 1);

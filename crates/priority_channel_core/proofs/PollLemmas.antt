@@ -16,6 +16,7 @@ use Rattle.priority_channel_core.specs.State.{State, Handed, room}
 use Rattle.priority_channel_parts.specs.Waiting.{is_given_listed}
 use Rattle.priority_channel_core.specs.Good.{IsGood}
 use Rattle.priority_channel_core.specs.Sends.{AddsFront, Sends}
+use Rattle.priority_channel_core.specs.Receives.{Receives}
 use Rattle.priority_channel_parts.specs.Digits.{digits}
 use Rattle.priority_channel_core.specs.Channel.{CountedState, ComparesAtMost, search_bound}
 use Rattle.priority_channel_core.specs.Polls.{poll_as_list, unlisted, WaitsForRoom, KeepsWaiting, PollsFront, PollsSend}
@@ -48,17 +49,26 @@ waits_ends is_clone given waker m mid new (Ready (Err (send_fault.Closed e))) wa
 waits_ends is_clone given waker m mid new (Ready (Err (send_fault.Memory held))) waits = inl waits.1
 waits_ends is_clone given waker m mid new (Pending held ticket) waits = inr (ticket, waits.1)
 
+-- what was sent leaves no more to search
+pub sent_searches_less : {T P W : Type 0} (old mid : State T P W) (front : List (T × P)) (handed : Handed W) → AddsFront old front handed mid
+    → search_bound mid ≤ search_bound old
+sent_searches_less {T} {P} {W} old mid front handed adds =
+    let room = ap (λ (s : State T P W). length s.room_waiters) adds.new_is in
+    let message = ap (λ (s : State T P W). length s.message_waiters) adds.new_is in
+    let shorter : length (if length front == 0 then old.message_waiters else []) ≤ length old.message_waiters =
+    elim (eqb_tells (length front) 0) [ inl h ↦ let e = h.0 in rw e (omega arith) | inr h ↦ let e = h.0 in rw e (omega arith) ] in
+    digits_shorter old.room_waiters old.message_waiters mid.room_waiters mid.message_waiters (omega (arith, room)) (omega (arith, message, shorter))
+
+-- nor does what was received
+pub received_searches_less : {T P W : Type 0} (cmp : P → P → Ordering) (old mid : State T P W) (pair : T × P) (handed : Handed W)
+    → Receives cmp old (Ok pair) handed mid → search_bound mid ≤ search_bound old
+received_searches_less {T} {P} {W} cmp old mid pair handed received =
+    let room = ap (λ (s : State T P W). length s.room_waiters) received.2 in
+    let message = ap (λ (s : State T P W). length s.message_waiters) received.2 in
+    digits_shorter old.room_waiters old.message_waiters mid.room_waiters mid.message_waiters (omega (arith, room)) (omega (arith, message))
+
 module _ {T P W : Type 0} (is_clone : W → W → Type 0) (old mid new : CountedState T P W) (given : Option ℕ) (waker : W) (front : List (T × P))
     (handed : Handed W) (adds : AddsFront old.state front handed mid.state) where
-  -- what was added leaves no more to search
-  searches_less : search_bound mid.state ≤ search_bound old.state
-  searches_less =
-      let room = ap (λ (s : State T P W). length s.room_waiters) adds.new_is in
-      let message = ap (λ (s : State T P W). length s.message_waiters) adds.new_is in
-      let shorter : length (if length front == 0 then old.state.message_waiters else []) ≤ length old.state.message_waiters =
-      elim (eqb_tells (length front) 0) [ inl h ↦ let e = h.0 in rw e (omega arith) | inr h ↦ let e = h.0 in rw e (omega arith) ] in
-      digits_shorter old.state.room_waiters old.state.message_waiters mid.state.room_waiters mid.state.message_waiters (omega (arith, room)) (omega (arith, message, shorter))
-
   same_pending : (new.state ≡ unlisted given mid.state) ⊎ ((ticket : ℕ) × WaitsForRoom is_clone given waker mid.state ticket new.state)
       → length new.state.pending ≡ length mid.state.pending
   same_pending (inl e) = ap (λ (s : State T P W). length s.pending) e
@@ -72,7 +82,7 @@ module _ {T P W : Type 0} (is_clone : W → W → Type 0) (old mid new : Counted
       × ComparesAtMost (length f * digits (length new.state.pending)) (search_bound old.state) old new
   polls_front tried waited ends =
       let same = ap (λ (n : ℕ). length front * digits n) (same_pending ends) in
-      (front, record { mid = mid.state; adds = adds; ends = ends }, (omega (arith, tried.0, waited.0, same), omega (arith, tried.1, waited.1, searches_less)))
+      (front, record { mid = mid.state; adds = adds; ends = ends }, (omega (arith, tried.0, waited.0, same), omega (arith, tried.1, waited.1, sent_searches_less old.state mid.state front handed adds)))
 
 module _ {T P W M : Type 0} (holds : M → List (T × P) → Type 0) (is_clone : W → W → Type 0) where
   -- how a poll ends where the bulk send before it gave this reply

@@ -1,5 +1,5 @@
 -- What the code keeps of a future between its polls.
-use Rattle.std.specs.Prelude.{◌≡◌, ℕ, List, drop, Option, Some, None, Result, Err}
+use Rattle.std.specs.Prelude.{◌≡◌, ℕ, List, drop, Option, Some, None, Result, Ok, Err}
 use Rattle.std.specs.Option.{option_map}
 use Rattle.futures.specs.declared.task.Poll.{Poll}
 use Rattle.futures.specs.declared.task.Poll.TheVariants as poll
@@ -8,6 +8,9 @@ use Rattle.priority_channel_core.specs.declared.calls.Answer.{Answer}
 use Rattle.priority_channel_core.specs.declared.calls.CorePoll.{CorePoll}
 use Rattle.priority_channel_core.specs.declared.calls.CorePoll.TheVariants.{Ready, Pending}
 use Rattle.priority_channel_parts.specs.declared.errors.SendFault.{SendFault}
+use Rattle.priority_channel_parts.specs.declared.errors.SendFault.TheVariants as send_fault
+use Rattle.priority_channel_parts.specs.declared.errors.TrySendError.{TrySendError}
+use Rattle.priority_channel_parts.specs.declared.errors.TrySendError.TheVariants as send_error
 use Rattle.priority_channel_parts.specs.Errors.{unsent}
 use Rattle.priority_channel_core.specs.State.{State, Handed}
 use Rattle.priority_channel_laws.specs.Future.{Task, Tasks, Standing, Future, ticket_of, poll_of, polled}
@@ -35,6 +38,18 @@ told_by (Pending kept ticket) = poll.Pending
 abbrev pub left_by : {R K : Type 0} → CorePoll R K → Holding K
 left_by (Ready answer) = done
 left_by (Pending kept ticket) = record { kept = Some kept; ticket = Some ticket }
+
+-- what a try to send tells at once, where it need not wait
+abbrev pub told_at_once : {K : Type 0} → Result (Unit {0}) (TrySendError K) → Poll (Result (Unit {0}) (SendFault K))
+told_at_once (Ok sent) = poll.Ready (Ok tt)
+told_at_once (Err (send_error.Closed held)) = poll.Ready (Err (send_fault.Closed (record { 0 = held })))
+told_at_once (Err (send_error.Memory held)) = poll.Ready (Err (send_fault.Memory held))
+told_at_once (Err (send_error.Full held)) = poll.Pending
+
+-- and what is kept then: what was not sent, under the ticket of before
+abbrev pub left_at_once : {K : Type 0} → Option ℕ → Result (Unit {0}) (TrySendError K) → Holding K
+left_at_once ticket (Err (send_error.Full held)) = record { kept = Some held; ticket = ticket }
+left_at_once ticket tried = done
 
 -- what a poll of a send hands back, where it ends in a fault
 abbrev pub handed_back : {K : Type 0} → Poll (Result (Unit {0}) (SendFault K)) → Option K

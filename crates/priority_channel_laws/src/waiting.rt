@@ -1,10 +1,10 @@
 //! What a future keeps between its polls: a send its pair, a bulk send the pairs that were not sent yet, and each its
 //! ticket. A poll is made on the core, in one hold of what guards it.
-ghost use Rattle.std.specs.Prelude.{◌≡◌, ◌↔◌, ◌*◌, List, length, IsTrue, IfSome, MatchOption, Some, None, is_some};
+ghost use Rattle.std.specs.Prelude.{◌≡◌, ◌↔◌, ◌*◌, List, [], length, false, IsTrue, IfSome, MatchOption, Some, None, is_some};
 ghost use Rattle.std.specs.Option.{ForSome};
 ghost use Rattle.std.specs.Iterator.Adapters.{peekable_can};
 ghost use Rattle.priority_channel_parts.specs.Digits.{digits};
-ghost use Rattle.priority_channel_core.specs.State.{nobody};
+ghost use Rattle.priority_channel_core.specs.State.{nobody, room};
 ghost use Rattle.priority_channel_core.specs.Good.{IsGood};
 ghost use Rattle.priority_channel_core.specs.Lists.{HasList};
 ghost use Rattle.priority_channel_core.specs.Polls.{PollsFront};
@@ -13,14 +13,16 @@ ghost use Rattle.priority_channel_core.specs.Bulk.{Performs};
 ghost use Rattle.priority_channel_core.specs.Channel.{ComparesAtMost, search_bound};
 ghost use Rattle.priority_channel_laws.specs.Future.Task.{Sendv as sendv_of};
 ghost use Rattle.priority_channel_laws.specs.World.{GivesUpTicket};
-ghost use Rattle.priority_channel_laws.specs.States.{unpolled, done, told_by, left_by, handed_back, HoldsTail, send_of, recv_of, PollsKept};
+ghost use Rattle.priority_channel_laws.specs.States.{unpolled, done, told_by, left_by, told_at_once, left_at_once, handed_back, HoldsTail, send_of, recv_of, PollsKept};
 ghost use Rattle.futures.specs.Poll.{IfReady, OnPending};
 
 use futures::task::Poll;
 use priority_channel_core::awaitable_atomics::Wakes;
-use priority_channel_core::calls::{Answer, CorePoll};
+use priority_channel_core::calls::{Answer, Call, CorePoll};
 use priority_channel_core::channel::PriorityQueueChannel;
-use priority_channel_core::errors::{RecvFault, SendFault};
+use priority_channel_core::errors::{
+    RecvError, RecvFault, SendError, SendFault, TryRecvError, TrySendError,
+};
 use std::alloc::Allocator;
 use std::iter::Peekable;
 use std::marker::Model;
@@ -100,6 +102,40 @@ impl<K: Drop> Kept<K> {
         }
     }
 
+    // Of a try to send, which took out what was kept: who was answered waits no more, and else what was not sent is kept
+    // on, under the ticket of before.
+    fn keep_tried<T, P: Ord, W: Clone, A: Allocator + Copy>(
+        &mut self,
+        tried: Result<(), TrySendError<K>>,
+        ticket: Option<u64>,
+        core: &mut PriorityQueueChannel<T, P, W, A>,
+    ) -> Poll<Result<(), SendFault<K>>>
+        ensures told { result ≡ told_at_once tried }
+        ensures left { self.new ≡ left_at_once ticket tried }
+        ensures answered { IfReady result (λ _. GivesUpTicket P.cmp W.is_clone core.old.state ticket core.new.state) }
+        ensures waits { OnPending result (core.new ≡ core.old) }
+        ensures cost { ComparesAtMost 0 (search_bound core.old.state) core.old core.new }
+    {
+        *self = Kept {
+            kept: None,
+            ticket: None,
+        };
+        let answer = match tried {
+            Ok(()) => Ok(()),
+            Err(TrySendError::Closed(unsent)) => Err(SendFault::Closed(SendError(unsent))),
+            Err(TrySendError::Memory(unsent)) => Err(SendFault::Memory(unsent)),
+            Err(TrySendError::Full(unsent)) => {
+                *self = Kept {
+                    kept: Some(unsent),
+                    ticket,
+                };
+                return Poll::Pending;
+            }
+        };
+        give_up_given(ticket, core);
+        Poll::Ready(answer)
+    }
+
     fn give_up_on<T, P: Ord, W: Clone, A: Allocator + Copy>(
         &mut self,
         core: &mut PriorityQueueChannel<T, P, W, A>,
@@ -110,10 +146,21 @@ impl<K: Drop> Kept<K> {
         ensures cost { ComparesAtMost 0 (search_bound core.old.state) core.old core.new }
     {
         let (kept, ticket) = self.take()?;
-        if let Some(ticket) = ticket {
-            core.give_up(ticket);
-        }
+        give_up_given(ticket, core);
         Some(kept)
+    }
+}
+
+// Who has this ticket, if there is one, waits no more.
+fn give_up_given<T, P: Ord, W: Clone, A: Allocator + Copy>(
+    ticket: Option<u64>,
+    core: &mut PriorityQueueChannel<T, P, W, A>,
+)
+    ensures left { GivesUpTicket P.cmp W.is_clone core.old.state ticket core.new.state }
+    ensures cost { ComparesAtMost 0 (search_bound core.old.state) core.old core.new }
+{
+    if let Some(ticket) = ticket {
+        core.give_up(ticket);
     }
 }
 
@@ -157,6 +204,28 @@ impl<T, P> SendState<T, P> {
 }
 
 impl<T: Drop, P: Ord + Drop> SendState<T, P> {
+    /// Sends the pair where it need not wait, as a poll does with whatever waker. Where the channel is open and full it
+    /// answers `Pending`, and changes nothing; so does a state that is done.
+    pub fn try_on<W: Clone, A: Allocator + Copy>(
+        &mut self,
+        core: &mut PriorityQueueChannel<T, P, W, A>,
+    ) -> (Poll<Result<(), SendFault<(T, P)>>>, Wakes<W, A>)
+        ensures step { IfSome self.old.kept (λ pair. IfReady result.0 (λ _. (waker : W) → PollsKept (Step P.cmp W.is_clone) send_of (λ reply. Answer.PollSend reply)
+            pair self.old.ticket waker core.old.state result.0 result.1 core.new.state self.new)) }
+        ensures blocked { IfSome self.old.kept (λ _. OnPending result.0 ((core.old.state.is_closed ≡ false) × (room core.old.state ≡ 0))) }
+        ensures waits { OnPending result.0 ((result.1 ≡ nobody) × (self.new ≡ self.old) × (core.new.state ≡ core.old.state)) }
+        ensures unsent { IfSome (handed_back result.0) (λ pair. self.old.kept ≡ Some pair) }
+        ensures answered { IfReady result.0 (λ _. self.new ≡ done) }
+        ensures cost { ComparesAtMost (digits (length core.new.state.pending)) (search_bound core.old.state) core.old core.new }
+    {
+        let Some((pair, ticket)) = self.pair.take() else {
+            return (Poll::Pending, core.nobody());
+        };
+        let (msg, priority) = pair;
+        let (tried, wakes) = core.try_send(msg, priority);
+        (self.pair.keep_tried(tried, ticket, core), wakes)
+    }
+
     /// Sends the pair, or waits for room with the waker. A state that is done answers `Pending`, and changes nothing.
     pub fn poll_on<W: Clone, A: Allocator + Copy>(
         &mut self,
@@ -316,6 +385,36 @@ impl RecvState {
         ensures { IsTrue result ↔ (self.now.kept ≡ None) }
     {
         self.receive.is_done()
+    }
+
+    /// Receives a pair where it need not wait, as a poll does with whatever waker. Where the channel is open and empty it
+    /// answers `Pending`, and changes nothing; so does a state that is done.
+    pub fn try_on<T, P: Ord, W: Clone, A: Allocator + Copy>(
+        &mut self,
+        core: &mut PriorityQueueChannel<T, P, W, A>,
+    ) -> (Poll<Result<(T, P), RecvFault>>, Wakes<W, A>)
+        ensures step { IfSome self.old.kept (λ kept. IfReady result.0 (λ _. (waker : W) → PollsKept (Step P.cmp W.is_clone) recv_of (λ reply. Answer.PollRecv reply)
+            kept self.old.ticket waker core.old.state result.0 result.1 core.new.state self.new)) }
+        ensures blocked { IfSome self.old.kept (λ _. OnPending result.0 ((core.old.state.is_closed ≡ false) × (core.old.state.pending ≡ []))) }
+        ensures waits { OnPending result.0 ((result.1 ≡ nobody) × (self.new ≡ self.old) × (core.new.state ≡ core.old.state)) }
+        ensures answered { IfReady result.0 (λ _. self.new ≡ done) }
+        ensures cost { ComparesAtMost (2 * digits (length core.old.state.pending)) (search_bound core.old.state) core.old core.new }
+    {
+        if self.is_done() {
+            return (Poll::Pending, core.nobody());
+        }
+        let (received, wakes) = core.try_recv();
+        match received {
+            Ok(pair) => {
+                self.give_up_on(core);
+                (Poll::Ready(Ok(pair)), wakes)
+            }
+            Err(TryRecvError::Closed) => {
+                self.give_up_on(core);
+                (Poll::Ready(Err(RecvFault::Closed(RecvError))), wakes)
+            }
+            Err(TryRecvError::Empty) => (Poll::Pending, wakes),
+        }
     }
 
     /// Receives a pair, or waits for a message with the waker. A state that is done answers `Pending`, and changes

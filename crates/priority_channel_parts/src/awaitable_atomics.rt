@@ -14,63 +14,40 @@ const CLOSED_BIT: u64 = 1 << 63;
 /// Whom a step hands out: those who waited for room, and those who waited for a message. It must be spent, by
 /// `into_lists`.
 pub struct Wakes<W, A: Allocator = Global> {
-    alloc: A,
-    // None where nobody is handed out, as mostly: then no list is made or looked at.
-    lists: Option<Lists<W, A>>,
-}
-
-struct Lists<W, A: Allocator> {
     room: Vec<(u64, W), A>,
     message: Vec<(u64, W), A>,
 }
 
-impl<W, A: Allocator> Model for Lists<W, A> {
+impl<W, A: Allocator> Model for Wakes<W, A> {
     ghost use Rattle.priority_channel_parts.specs.Word.{Handed};
 
     ghost Value = { Handed W };
 
-    ghost view = { λ l. record { room = l.room.items; message = l.message.items } };
+    ghost view = { λ w. record { room = w.room.items; message = w.message.items } };
 }
 
-impl<W, A: Allocator> Model for Wakes<W, A> {
-    ghost use Rattle.std.specs.Option.{unwrap_or};
-    ghost use Rattle.priority_channel_parts.specs.Word.{Handed, nobody};
-
-    ghost Value = { Handed W };
-
-    ghost view = { λ w. unwrap_or w.lists nobody };
-}
-
-impl<W, A: Allocator + Copy> Wakes<W, A> {
+impl<W, A: Allocator> Wakes<W, A> {
     /// First those who waited for room, then those who waited for a message, each under its ticket.
     #[inline(always)]
     pub fn into_lists(self) -> (Vec<(u64, W), A>, Vec<(u64, W), A>)
         ensures room { result.0.items ≡ self.room }
         ensures message { result.1.items ≡ self.message }
     {
-        let Wakes { alloc, lists } = self;
-        match lists {
-            Some(Lists { room, message }) => (room, message),
-            None => (Vec::new(alloc), Vec::new(alloc)),
-        }
+        let Wakes { room, message } = self;
+        (room, message)
     }
+}
 
-    fn of(alloc: A, room: Vec<(u64, W), A>, message: Vec<(u64, W), A>) -> Self
-        ensures room { result.room ≡ room.items }
-        ensures message { result.message ≡ message.items }
-    {
-        Wakes {
-            alloc,
-            lists: Some(Lists { room, message }),
-        }
-    }
-
+impl<W, A: Allocator + Copy> Wakes<W, A> {
     /// Nobody is handed out, which takes no memory.
     #[inline(always)]
     pub fn nobody(alloc: A) -> Self
         ensures { result ≡ nobody }
     {
-        Wakes { alloc, lists: None }
+        Wakes {
+            room: Vec::new(alloc),
+            message: Vec::new(alloc),
+        }
     }
 }
 
@@ -153,7 +130,7 @@ impl<W, A: Allocator + Copy> AwaitableAtomicCounterAndBit<W, A> {
         self.packed |= CLOSED_BIT;
         let room = self.room_waiters.take(self.alloc);
         let message = self.message_waiters.take(self.alloc);
-        (was_closed, Wakes::of(self.alloc, room, message))
+        (was_closed, Wakes { room, message })
     }
 
     /// Adds to the count, and answers the bit and the count before. Where the count rises, those who wait for a
@@ -170,12 +147,12 @@ impl<W, A: Allocator + Copy> AwaitableAtomicCounterAndBit<W, A> {
     {
         let before = unpack(self.packed);
         self.packed += n;
-        if n == 0 || self.message_waiters.is_empty() {
+        if n == 0 {
             return (before, Wakes::nobody(self.alloc));
         }
         let room = Vec::new(self.alloc);
         let message = self.message_waiters.take(self.alloc);
-        (before, Wakes::of(self.alloc, room, message))
+        (before, Wakes { room, message })
     }
 
     /// Takes one from the count, answers the bit and the count before, and hands out those who wait for room.
@@ -191,12 +168,9 @@ impl<W, A: Allocator + Copy> AwaitableAtomicCounterAndBit<W, A> {
     {
         let before = unpack(self.packed);
         self.packed -= 1;
-        if self.room_waiters.is_empty() {
-            return (before, Wakes::nobody(self.alloc));
-        }
         let room = self.room_waiters.take(self.alloc);
         let message = Vec::new(self.alloc);
-        (before, Wakes::of(self.alloc, room, message))
+        (before, Wakes { room, message })
     }
 
     /// The party of this ticket waits no more. An unknown ticket changes nothing.

@@ -1,5 +1,5 @@
 //! The parties that wait for one thing.
-ghost use Rattle.std.specs.Prelude.{◌≡◌, ℕ, ◌+◌, ◌<◌, ◌≤◌, ◌↔◌, false, IfSome, IsSome, IsTrue, true, IfNone, None, List, [], length, ◌^◌};
+ghost use Rattle.std.specs.Prelude.{◌≡◌, ℕ, ◌+◌, ◌<◌, ◌≤◌, false, IfSome, IsSome, true, IfNone, None, List, [], length, ◌^◌};
 ghost use Rattle.std.specs.List.{All, HoldsAt};
 ghost use Rattle.priority_channel_parts.specs.Digits.{digits};
 ghost use Rattle.priority_channel_parts.specs.Waiting.{is_listed, is_given_listed, without, with_waker, without_given, TakesPlace};
@@ -36,12 +36,6 @@ impl<W, A: Allocator> WaitingList<W, A> {
         WaitingList {
             entries: Entries::new(alloc),
         }
-    }
-
-    pub fn is_empty(&self) -> bool
-        ensures { IsTrue result ↔ (self.now ≡ []) }
-    {
-        self.entries.len() == 0
     }
 
     /// Where the ticket stands, by halving.

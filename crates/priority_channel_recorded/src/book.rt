@@ -162,7 +162,7 @@ fn make<T: Copy, P: Copy + Ord, A: Allocator + Copy>(
 }
 
 // Nobody waits for a recorded channel, so there is nobody to wake.
-fn unwoken<R, A: Allocator + Copy>(told: (R, Wakes<(), A>)) -> R
+fn unwoken<R, A: Allocator>(told: (R, Wakes<(), A>)) -> R
     ensures { result ≡ told.0 }
 {
     let (answer, wakes) = told;

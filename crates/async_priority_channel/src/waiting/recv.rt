@@ -68,13 +68,16 @@ impl<T: Drop, P: Ord + Drop, R: Wait + Clone, A: Allocator + Copy> Future for Re
         }
         let receiver = self.receiver;
         let handle = &receiver.handle;
+        let (tried, wakes) = self.state.try_on(&mut handle.lock());
+        handle.wake_all(wakes);
+        if let Poll::Ready(received) = tried {
+            return Poll::Ready(received);
+        }
         let Some(waker) = handle.register(cx, handle.message(), &mut self.place) else {
             self.state.give_up_on(&mut handle.lock());
             return Poll::Ready(Err(RecvFault::Memory));
         };
-        let mut core = handle.lock();
-        let (polled, wakes) = self.state.poll_on(&mut core, waker);
-        drop(core);
+        let (polled, wakes) = self.state.poll_on(&mut handle.lock(), waker);
         handle.wake_all(wakes);
         polled
     }
@@ -87,9 +90,9 @@ impl<T: Drop, P: Ord + Drop, R: Wait + Clone, A: Allocator + Copy> Drop for Recv
             mut state,
             place,
         } = self;
-        let mut core = receiver.handle.lock();
-        state.give_up_on(&mut core);
-        drop(core);
+        if state.ticket().is_some() {
+            state.give_up_on(&mut receiver.handle.lock());
+        }
         // A waker wakes as it is dropped.
         drop(place);
     }

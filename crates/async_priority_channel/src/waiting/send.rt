@@ -70,14 +70,17 @@ impl<T: Drop, P: Ord + Drop, R: Wait + Clone, A: Allocator + Copy> Future for Se
         }
         let sender = self.sender;
         let handle = &sender.handle;
+        let (tried, wakes) = self.state.try_on(&mut handle.lock());
+        handle.wake_all(wakes);
+        if let Poll::Ready(sent) = tried {
+            return Poll::Ready(sent);
+        }
         let Some(waker) = handle.register(cx, handle.room(), &mut self.place) else {
             let unsent = self.state.give_up_on(&mut handle.lock());
             let Some(pair) = unsent else { unreachable!() };
             return Poll::Ready(Err(SendFault::Memory(pair)));
         };
-        let mut core = handle.lock();
-        let (polled, wakes) = self.state.poll_on(&mut core, waker);
-        drop(core);
+        let (polled, wakes) = self.state.poll_on(&mut handle.lock(), waker);
         handle.wake_all(wakes);
         polled
     }
@@ -90,11 +93,12 @@ impl<T: Drop, P: Ord + Drop, R: Wait + Clone, A: Allocator + Copy> Drop for Send
             mut state,
             place,
         } = self;
-        let mut core = sender.handle.lock();
-        let unsent = state.give_up_on(&mut core);
-        drop(core);
+        let mut unsent = None;
+        if state.ticket().is_some() {
+            unsent = state.give_up_on(&mut sender.handle.lock());
+        }
         // A message may hold a handle of this channel, and a waker wakes as it is dropped.
-        drop(unsent);
+        drop((unsent, state));
         drop(place);
     }
 }

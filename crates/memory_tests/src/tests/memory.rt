@@ -1,6 +1,7 @@
 //! Where memory is refused, what was to be sent comes back.
 use async_priority_channel::{
-    RecvFault, SendFault, TryRecvError, TrySendError, bounded, bounded_reserved, unbounded,
+    RecvError, RecvFault, SendError, SendFault, TryRecvError, TrySendError, bounded,
+    bounded_reserved, unbounded,
 };
 use futures::executor::block_on;
 use futures::future::poll_immediate;
@@ -75,6 +76,25 @@ fn a_reserved_channel_asks_for_no_more(rt: HostRuntime) -> Result<(), Fail> {
     Ok(())
 }
 
+// Nobody waits, so no place for a waker is asked for.
+#[test]
+fn a_future_that_answers_at_once_takes_no_memory(rt: HostRuntime) -> Result<(), Fail> {
+    let alloc = Refusing::new(rt.alloc());
+    let (tx, rx) = bounded_reserved(&rt, &alloc, 1)?;
+    alloc.refuse_nth(1);
+    assert_eq!(rt; block_on(&rt, tx.send("x", 1u64))?, Ok(()));
+    assert_eq!(rt; block_on(&rt, rx.recv())?, Ok(("x", 1)));
+    assert!(rt; tx.close());
+    let unsent = block_on(&rt, tx.send("y", 2))?;
+    assert_eq!(rt; unsent, Err(SendFault::Closed(SendError(("y", 2)))));
+    assert_eq!(rt;
+        block_on(&rt, rx.recv())?,
+        Err(RecvFault::Closed(RecvError))
+    );
+    assert!(rt; alloc.refuse_none());
+    Ok(())
+}
+
 #[test]
 fn a_refused_send_comes_back(rt: HostRuntime) -> Result<(), Fail> {
     let alloc = Refusing::new(rt.alloc());
@@ -84,8 +104,8 @@ fn a_refused_send_comes_back(rt: HostRuntime) -> Result<(), Fail> {
         let sent = block_on(&rt, tx.send("x", n))?;
         if alloc.refuse_none() {
             assert_eq!(rt; sent, Ok(()));
-            // The place for the waker, and the place for the message.
-            assert_eq!(rt; n, 3);
+            // The place for the message alone: it need not wait.
+            assert_eq!(rt; n, 2);
             return Ok(());
         }
         assert_eq!(rt; sent, Err(SendFault::Memory(("x", n))));

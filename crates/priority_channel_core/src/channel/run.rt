@@ -29,7 +29,7 @@ impl<T, P, W, M, A: Allocator> Model for Done<T, P, W, M, A> {
     ghost view = { λ d. record { answer = d.answer; handed = record { room = d.room_waiters.items; message = d.message_waiters.items } } };
 }
 
-impl<T, P, W, M, A: Allocator + Copy> Done<T, P, W, M, A> {
+impl<T, P, W, M, A: Allocator> Done<T, P, W, M, A> {
     fn new(answer: Answer<T, P, M>, wakes: Wakes<W, A>) -> Self
         ensures answer { result.answer ≡ answer }
         ensures handed { result.handed ≡ wakes }

@@ -1,18 +1,13 @@
 use Rattle.std.proofs.Common.{length, ap, arith}
 use Rattle.priority_channel_parts.specs.Digits.{digits}
 use Rattle.priority_channel_core.specs.State.{State}
-use Rattle.priority_channel_core.proofs.ChannelLemmas.{digits_shorter}
-use Rattle.priority_channel_core.proofs.PollLemmas.{polls_full}
+use Rattle.priority_channel_core.proofs.PollLemmas.{sent_searches_less, polls_full}
 use Rattle.priority_channel_core.proofs.channel.PriorityQueueChannel.poll_send.Goals as goal
 
 pub returns-in-Ok-clause-cost : goal.returns-in-Ok-clause-cost
 returns-in-Ok-clause-cost g c =
-    let old = c.args.self.now.state in
-    let mid = c.try_send-answer.new.self.state in
     let step = rw c.in-Ok.is at c.try_send-answer.ensures.step in
-    let room = ap (λ (s : State g.row.T.Denot g.row.P.Denot g.row.W.Denot). length s.room_waiters) step.moves.2.1.new_is in
-    let message = ap (λ (s : State g.row.T.Denot g.row.P.Denot g.row.W.Denot). length s.message_waiters) step.moves.2.1.new_is in
-    let shorter = digits_shorter old.room_waiters old.message_waiters mid.room_waiters mid.message_waiters (omega (arith, room)) (omega (arith, message)) in
+    let shorter = sent_searches_less c.args.self.now.state c.try_send-answer.new.self.state _ _ step.moves.2.1 in
     let same = ap (λ (s : State g.row.T.Denot g.row.P.Denot g.row.W.Denot). digits (length s.pending)) c.give_up_given.ensures.after in
     let tried = c.try_send-answer.ensures.cost in
     let gave_up = c.give_up_given.ensures.cost in
