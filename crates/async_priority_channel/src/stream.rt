@@ -2,6 +2,7 @@
 ghost use Rattle.std.specs.Prelude.{◌≡◌, ⊤, ℕ, List, [], Option, None, true, false, IfSome, OnSome};
 ghost use Rattle.futures.specs.Task.{Covers, Keeps};
 ghost use Rattle.futures.specs.Poll.{IfReady, OnPending};
+ghost use Rattle.futures.specs.Runs.{After, Within};
 ghost use Rattle.async_priority_channel.specs.Handles.{MayYield};
 ghost use Rattle.async_priority_channel.specs.Waits.{OnBlocked};
 
@@ -158,6 +159,11 @@ impl<T, P: Ord, R: Wait + Clone, A: Allocator + Copy> Stream for RecvStream<'_, 
     ghost yields = { MayYield };
 
     fn poll_next(&mut self, cx: &mut Context<'_>) -> Poll<Option<(T, P)>>
+        ensures value { IfReady result (MayYield self.old []) }
+        ensures rest { IfReady result (λ next. IfSome next (λ pair. After (MayYield self.old) pair (MayYield self.new))) }
+        ensures goes { IfReady result (λ next. OnSome next ⊤) }
+        ensures again { OnPending result ⊤ }
+        ensures same { OnPending result (Within (MayYield {X = T × P} self.old) (MayYield self.new)) }
         ensures registered { OnPending result (Covers cx.new (λ source. source ≡ self.new.channel.message)) }
         ensures kept { Keeps cx.old cx.new }
         ensures channel { self.new.channel ≡ self.old.channel }
@@ -202,6 +208,11 @@ impl<T: Drop, P: Ord + Drop, R: Wait + Clone, A: Allocator + Copy> Stream
     ghost yields = { MayYield };
 
     fn poll_next(&mut self, cx: &mut Context<'_>) -> Poll<Option<(T, P)>>
+        ensures value { IfReady result (MayYield self.old []) }
+        ensures rest { IfReady result (λ next. IfSome next (λ pair. After (MayYield self.old) pair (MayYield self.new))) }
+        ensures goes { IfReady result (λ next. OnSome next ⊤) }
+        ensures again { OnPending result ⊤ }
+        ensures same { OnPending result (Within (MayYield {X = T × P} self.old) (MayYield self.new)) }
         ensures registered { OnPending result (Covers cx.new (λ source. source ≡ self.new.channel.message)) }
         ensures kept { Keeps cx.old cx.new }
         ensures channel { self.new.channel ≡ self.old.channel }
