@@ -1,0 +1,97 @@
+//! The calls by which messages go and come.
+
+use anyhow::bail;
+use async_priority_channel::{
+    Ends, Receiver, Sender, TryRecvError, TrySendError, bounded, unbounded,
+};
+use futures::executor::block_on;
+use std::alloc::{AllocError, AllocGlobal};
+use std::random::RandomSource;
+use std::sync::Wait;
+use std::thread;
+
+#[derive(Clone, Copy)]
+pub enum Calls {
+    /// `try_send` and `try_recv` until they are met, with a yield between.
+    Try,
+    /// `send_blocking` and `recv_blocking`.
+    Blocking,
+    /// `block_on` of `send` and of `recv`.
+    Future,
+}
+
+pub fn calls_of(word: &str) -> anyhow::Result<Calls> {
+    match word {
+        "try" => Ok(Calls::Try),
+        "blocking" => Ok(Calls::Blocking),
+        "future" => Ok(Calls::Future),
+        _ => bail!("no calls: {word}"),
+    }
+}
+
+impl Calls {
+    pub fn send<R>(
+        self,
+        rt: &R,
+        tx: &Sender<u64, i64, R>,
+        msg: u64,
+        priority: i64,
+    ) -> anyhow::Result<()>
+    where
+        R: Wait + Clone + RandomSource + AllocGlobal,
+    {
+        match self {
+            Calls::Try => send_by_tries(tx, msg, priority)?,
+            Calls::Blocking => tx.send_blocking(msg, priority)?,
+            Calls::Future => block_on(rt, tx.send(msg, priority))??,
+        }
+        Ok(())
+    }
+
+    pub fn recv<R>(self, rt: &R, rx: &Receiver<u64, i64, R>) -> anyhow::Result<u64>
+    where
+        R: Wait + Clone + RandomSource + AllocGlobal,
+    {
+        let (msg, _) = match self {
+            Calls::Try => recv_by_tries(rx)?,
+            Calls::Blocking => rx.recv_blocking()?,
+            Calls::Future => block_on(rt, rx.recv())??,
+        };
+        Ok(msg)
+    }
+}
+
+fn send_by_tries<R: Wait + Clone>(
+    tx: &Sender<u64, i64, R>,
+    msg: u64,
+    priority: i64,
+) -> Result<(), TrySendError<(u64, i64)>> {
+    for _ in 0..u64::MAX {
+        match tx.try_send(msg, priority) {
+            Err(TrySendError::Full(_)) => thread::yield_now(),
+            answer => return answer,
+        }
+    }
+    Err(TrySendError::Full((msg, priority)))
+}
+
+fn recv_by_tries<R: Wait + Clone>(rx: &Receiver<u64, i64, R>) -> Result<(u64, i64), TryRecvError> {
+    for _ in 0..u64::MAX {
+        match rx.try_recv() {
+            Err(TryRecvError::Empty) => thread::yield_now(),
+            answer => return answer,
+        }
+    }
+    Err(TryRecvError::Empty)
+}
+
+/// With so many places, or with no limit for 0.
+pub fn channel<R>(rt: &R, places: u64) -> Result<Ends<u64, i64, R>, AllocError>
+where
+    R: Wait + Clone + AllocGlobal,
+{
+    if places == 0 {
+        return unbounded(rt, rt.alloc());
+    }
+    bounded(rt, rt.alloc(), places)
+}
