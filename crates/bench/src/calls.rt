@@ -16,8 +16,10 @@ pub enum Calls {
     Try,
     /// `send_blocking` and `recv_blocking`.
     Blocking,
-    /// `block_on` of `send` and of `recv`.
+    /// `block_on` of `send` and of `recv`, for each message.
     Future,
+    /// In a relay one `block_on` a thread, of `sendv` and of a stream; else as `Future`.
+    Stream,
 }
 
 pub fn calls_of(word: &str) -> anyhow::Result<Calls> {
@@ -25,6 +27,7 @@ pub fn calls_of(word: &str) -> anyhow::Result<Calls> {
         "try" => Ok(Calls::Try),
         "blocking" => Ok(Calls::Blocking),
         "future" => Ok(Calls::Future),
+        "stream" => Ok(Calls::Stream),
         _ => bail!("no calls: {word}"),
     }
 }
@@ -43,7 +46,7 @@ impl Calls {
         match self {
             Calls::Try => send_by_tries(tx, msg, priority)?,
             Calls::Blocking => tx.send_blocking(msg, priority)?,
-            Calls::Future => block_on(rt, tx.send(msg, priority))??,
+            Calls::Future | Calls::Stream => block_on(rt, tx.send(msg, priority))??,
         }
         Ok(())
     }
@@ -55,7 +58,7 @@ impl Calls {
         let (msg, _) = match self {
             Calls::Try => recv_by_tries(rx)?,
             Calls::Blocking => rx.recv_blocking()?,
-            Calls::Future => block_on(rt, rx.recv())??,
+            Calls::Future | Calls::Stream => block_on(rt, rx.recv())??,
         };
         Ok(msg)
     }

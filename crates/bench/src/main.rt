@@ -28,7 +28,7 @@ use std::thread::Threads;
 use std::time::{Clock, CpuClock};
 
 // Each ends with its count of messages.
-const ROWS: [&str; 18] = [
+const ROWS: [&str; 19] = [
     // How priorities come, how many pairs are pending.
     "core random 0 1000",
     "core equal 100 1000",
@@ -45,6 +45,7 @@ const ROWS: [&str; 18] = [
     "relay try 4 4 10 1600",
     "relay blocking 16 1 1 1600",
     "relay future 4 4 10 1600",
+    "relay stream 4 4 10 1600",
     // By which calls, how many workers, and how many jobs go out before their answers come.
     "workers try 1 1 100",
     "workers blocking 4 1 100",

@@ -3,7 +3,11 @@
 use crate::calls::{Calls, channel};
 use crate::load::Load;
 use crate::measure::Measure;
+use anyhow::ensure;
 use async_priority_channel::{Receiver, Sender};
+use futures::StreamExt;
+use futures::executor::block_on;
+use futures::future::ready;
 use std::alloc::AllocGlobal;
 use std::random::RandomSource;
 use std::sync::Wait;
@@ -57,6 +61,12 @@ fn send_share<R>(
 where
     R: Wait + Clone + RandomSource + AllocGlobal,
 {
+    if let Calls::Stream = calls {
+        let msgs = (first..first.saturating_add(share)).map(|i| (i, Load::Random.priority(i)));
+        let sent = block_on(rt, tx.sendv(msgs.peekable()))?;
+        ensure!(sent.is_ok(), "not all was sent");
+        return Ok(());
+    }
     for place in 0..share {
         let number = first.wrapping_add(place);
         calls.send(rt, tx, number, Load::Random.priority(number))?;
@@ -73,6 +83,13 @@ fn recv_share<R>(
 where
     R: Wait + Clone + RandomSource + AllocGlobal,
 {
+    if let Calls::Stream = calls {
+        let msgs = rx.stream().take(usize::try_from(share)?);
+        return Ok(block_on(
+            rt,
+            msgs.fold(0u64, |sum, (msg, _)| ready(sum.wrapping_add(msg))),
+        )?);
+    }
     let mut sum = 0u64;
     for _ in 0..share {
         sum = sum.wrapping_add(calls.recv(rt, rx)?);
