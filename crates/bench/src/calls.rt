@@ -7,6 +7,7 @@ use async_priority_channel::{
 use futures::executor::block_on;
 use std::alloc::{AllocError, AllocGlobal};
 use std::random::RandomSource;
+use std::str::FromStr;
 use std::sync::Wait;
 use std::thread;
 
@@ -22,13 +23,17 @@ pub enum Calls {
     Stream,
 }
 
-pub fn calls_of(word: &str) -> anyhow::Result<Calls> {
-    match word {
-        "try" => Ok(Calls::Try),
-        "blocking" => Ok(Calls::Blocking),
-        "future" => Ok(Calls::Future),
-        "stream" => Ok(Calls::Stream),
-        _ => bail!("no calls: {word}"),
+impl FromStr for Calls {
+    type Err = anyhow::Error;
+
+    fn from_str(word: &str) -> anyhow::Result<Calls> {
+        match word {
+            "try" => Ok(Calls::Try),
+            "blocking" => Ok(Calls::Blocking),
+            "future" => Ok(Calls::Future),
+            "stream" => Ok(Calls::Stream),
+            _ => bail!("no calls: {word}"),
+        }
     }
 }
 

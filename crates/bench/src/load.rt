@@ -1,6 +1,7 @@
 //! What is sent: numbers that rise, with priorities that follow from them.
 
 use anyhow::bail;
+use std::str::FromStr;
 
 /// How the priorities of messages come.
 #[derive(Clone, Copy)]
@@ -9,11 +10,15 @@ pub enum Load {
     Equal,
 }
 
-pub fn load_of(word: &str) -> anyhow::Result<Load> {
-    match word {
-        "random" => Ok(Load::Random),
-        "equal" => Ok(Load::Equal),
-        _ => bail!("no load: {word}"),
+impl FromStr for Load {
+    type Err = anyhow::Error;
+
+    fn from_str(word: &str) -> anyhow::Result<Load> {
+        match word {
+            "random" => Ok(Load::Random),
+            "equal" => Ok(Load::Equal),
+            _ => bail!("no load: {word}"),
+        }
     }
 }
 

@@ -16,8 +16,6 @@ mod relays;
 mod workers;
 
 use anyhow::bail;
-use calls::calls_of;
-use load::load_of;
 use measure::Measure;
 use std::alloc::AllocGlobal;
 use std::env;
@@ -90,22 +88,22 @@ where
     let words: Vec<&str> = row.split_whitespace().collect(rt.alloc())?;
     match words.as_slice() {
         ["core", load, pending, count] => {
-            one_thread::steady(&rt, load_of(load)?, pending.parse()?, count.parse()?)
+            one_thread::steady(&rt, load.parse()?, pending.parse()?, count.parse()?)
         }
         ["fill", load, size, count] => {
-            one_thread::fill(&rt, load_of(load)?, size.parse()?, count.parse()?)
+            one_thread::fill(&rt, load.parse()?, size.parse()?, count.parse()?)
         }
         ["drain", load, size, count] => {
-            one_thread::drain(&rt, load_of(load)?, size.parse()?, count.parse()?)
+            one_thread::drain(&rt, load.parse()?, size.parse()?, count.parse()?)
         }
         ["handles", calls, pending, count] => {
-            handles::steady(&rt, calls_of(calls)?, pending.parse()?, count.parse()?)
+            handles::steady(&rt, calls.parse()?, pending.parse()?, count.parse()?)
         }
         ["batches", size, count] => handles::batches(&rt, size.parse()?, count.parse()?),
         ["relay", calls, senders, receivers, places, count] => {
             relays::relay(
                 rt,
-                calls_of(calls)?,
+                calls.parse()?,
                 senders.parse()?,
                 receivers.parse()?,
                 places.parse()?,
@@ -115,13 +113,13 @@ where
         ["workers", calls, workers, jobs, count] => {
             workers::workers(
                 rt,
-                calls_of(calls)?,
+                calls.parse()?,
                 workers.parse()?,
                 jobs.parse()?,
                 count.parse()?,
             )
         }
-        ["wake", calls, count] => workers::wake(rt, calls_of(calls)?, count.parse()?),
+        ["wake", calls, count] => workers::wake(rt, calls.parse()?, count.parse()?),
         ["memory", "core", count] => memory::core(&rt, count.parse()?),
         ["memory", "handles", count] => memory::handles(&rt, count.parse()?),
         _ => bail!("no row: {row}"),
