@@ -1,10 +1,13 @@
 //! The calls by which messages go and come.
 
-use anyhow::bail;
+use crate::load::Load;
+use anyhow::{bail, ensure};
 use async_priority_channel::{
     Ends, Receiver, Sender, TryRecvError, TrySendError, bounded, unbounded,
 };
+use futures::StreamExt;
 use futures::executor::block_on;
+use futures::future::ready;
 use std::alloc::{AllocError, AllocGlobal};
 use std::random::RandomSource;
 use std::str::FromStr;
@@ -19,7 +22,7 @@ pub enum Calls {
     Blocking,
     /// `block_on` of `send` and of `recv`, for each message.
     Future,
-    /// In a relay one `block_on` a thread, of `sendv` and of a stream; else as `Future`.
+    /// `block_on` of `sendv` and of a fold over a stream, for all; for one message as `Future`.
     Stream,
 }
 
@@ -67,6 +70,42 @@ impl Calls {
         };
         Ok(msg)
     }
+
+    /// Sends so many numbers, from `first` on.
+    pub fn send_all<R>(
+        self,
+        rt: &R,
+        tx: &Sender<u64, i64, R>,
+        first: u64,
+        count: u64,
+    ) -> anyhow::Result<()>
+    where
+        R: Wait + Clone + RandomSource + AllocGlobal,
+    {
+        if let Calls::Stream = self {
+            return send_stream(rt, tx, first, count);
+        }
+        for place in 0..count {
+            let number = first.wrapping_add(place);
+            self.send(rt, tx, number, Load::Random.priority(number))?;
+        }
+        Ok(())
+    }
+
+    /// The sum of so many numbers.
+    pub fn recv_all<R>(self, rt: &R, rx: &Receiver<u64, i64, R>, count: u64) -> anyhow::Result<u64>
+    where
+        R: Wait + Clone + RandomSource + AllocGlobal,
+    {
+        if let Calls::Stream = self {
+            return recv_stream(rt, rx, count);
+        }
+        let mut sum = 0u64;
+        for _ in 0..count {
+            sum = sum.wrapping_add(self.recv(rt, rx)?);
+        }
+        Ok(sum)
+    }
 }
 
 fn send_by_tries<R: Wait + Clone>(
@@ -91,6 +130,25 @@ fn recv_by_tries<R: Wait + Clone>(rx: &Receiver<u64, i64, R>) -> Result<(u64, i6
         }
     }
     Err(TryRecvError::Empty)
+}
+
+fn send_stream<R>(rt: &R, tx: &Sender<u64, i64, R>, first: u64, count: u64) -> anyhow::Result<()>
+where
+    R: Wait + Clone + RandomSource + AllocGlobal,
+{
+    let msgs = (first..first.saturating_add(count)).map(|i| (i, Load::Random.priority(i)));
+    let sent = block_on(rt, tx.sendv(msgs.peekable()))?;
+    ensure!(sent.is_ok(), "not all was sent");
+    Ok(())
+}
+
+fn recv_stream<R>(rt: &R, rx: &Receiver<u64, i64, R>, count: u64) -> anyhow::Result<u64>
+where
+    R: Wait + Clone + RandomSource + AllocGlobal,
+{
+    let msgs = rx.stream().take(usize::try_from(count)?);
+    let sum = msgs.fold(0u64, |sum, (msg, _)| ready(sum.wrapping_add(msg)));
+    Ok(block_on(rt, sum)?)
 }
 
 /// With so many places, or with no limit for 0.

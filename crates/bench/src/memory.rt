@@ -16,7 +16,7 @@ where
 {
     let before = peak(rt)?;
     let mut core = PriorityQueueChannel::unbounded(rt.alloc());
-    send_all(&mut core, Load::Random, 0, count)?;
+    send_all(&mut core, Load::Random, count)?;
     let after = peak(rt)?;
     Ok(growth(before, after, core.len()))
 }

@@ -17,7 +17,7 @@ where
     R: CpuClock + AllocGlobal,
 {
     let mut core = PriorityQueueChannel::unbounded(rt.alloc());
-    send_all(&mut core, load, 0, pending)?;
+    send_all(&mut core, load, pending)?;
     let start = rt.thread_cpu_time()?;
     let mut sum = 0u64;
     for place in 0..count {
@@ -39,7 +39,7 @@ where
     for _ in 0..rounds(size, count) {
         let mut core = PriorityQueueChannel::unbounded(rt.alloc());
         let start = rt.thread_cpu_time()?;
-        send_all(&mut core, load, 0, size)?;
+        send_all(&mut core, load, size)?;
         let end = rt.thread_cpu_time()?;
         took = took.saturating_add(end.saturating_sub(start));
         sum = sum.wrapping_add(core.len());
@@ -56,7 +56,7 @@ where
     let mut sum = 0u64;
     for _ in 0..rounds(size, count) {
         let mut core = PriorityQueueChannel::unbounded(rt.alloc());
-        send_all(&mut core, load, 0, size)?;
+        send_all(&mut core, load, size)?;
         let start = rt.thread_cpu_time()?;
         for place in 0..size {
             sum = add_at(sum, place, recv(&mut core)?);
@@ -71,10 +71,9 @@ fn rounds(size: u64, count: u64) -> u64 {
     count / size.max(1)
 }
 
-/// Sends the numbers from `first` on.
-pub fn send_all(core: &mut Core, load: Load, first: u64, count: u64) -> anyhow::Result<()> {
-    for place in 0..count {
-        let number = first.wrapping_add(place);
+/// Sends the numbers below `count`.
+pub fn send_all(core: &mut Core, load: Load, count: u64) -> anyhow::Result<()> {
+    for number in 0..count {
         send(core, number, load.priority(number))?;
     }
     Ok(())

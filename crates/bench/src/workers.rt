@@ -1,7 +1,6 @@
 //! Idle workers that get jobs, and how long it takes to wake one.
 
 use crate::calls::{Calls, channel};
-use crate::load::Load;
 use crate::measure::Measure;
 use async_priority_channel::{Receiver, Sender};
 use std::alloc::AllocGlobal;
@@ -37,8 +36,8 @@ where
     let start = Instant::now(&rt)?;
     let mut sum = 0u64;
     for round in 0..count / jobs.max(1) {
-        let first = round.wrapping_mul(jobs);
-        sum = sum.wrapping_add(give_out(&rt, calls, &tx, &rx, first, jobs)?);
+        calls.send_all(&rt, &tx, round.wrapping_mul(jobs), jobs)?;
+        sum = sum.wrapping_add(calls.recv_all(&rt, &rx, jobs)?);
     }
     let took = start.elapsed(&rt)?;
     drop(tx);
@@ -46,28 +45,6 @@ where
         thread.join(&rt)?;
     }
     Ok(Measure::of_time(took, sum))
-}
-
-fn give_out<R>(
-    rt: &R,
-    calls: Calls,
-    tx: &Sender<u64, i64, R>,
-    rx: &Receiver<u64, i64, R>,
-    first: u64,
-    jobs: u64,
-) -> anyhow::Result<u64>
-where
-    R: Wait + Clone + RandomSource + AllocGlobal,
-{
-    for place in 0..jobs {
-        let number = first.wrapping_add(place);
-        calls.send(rt, tx, number, Load::Random.priority(number))?;
-    }
-    let mut sum = 0u64;
-    for _ in 0..jobs {
-        sum = sum.wrapping_add(calls.recv(rt, rx)?);
-    }
-    Ok(sum)
 }
 
 // Until the channel of jobs is closed.
