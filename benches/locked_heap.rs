@@ -1,5 +1,5 @@
-//! What `prio` is measured against: the calls `reserved`, `send`, `recv` and `close` of its scripts, in plain Rust
-//! over a mutex round the standard library's heap. It stops with status 1 at a line that it does not know.
+//! What `prio` is measured against: the calls `reserved`, `send`, `sendv`, `recv` and `close` of its scripts, in plain
+//! Rust over a mutex round the standard library's heap. It stops with status 1 at a line that it does not know.
 
 use std::cmp::Ordering;
 use std::collections::BinaryHeap;
@@ -50,6 +50,25 @@ struct State {
     is_closed: bool,
 }
 
+impl State {
+    fn send(&mut self, capacity: usize, word: String, priority: i64) -> Result<(), Refusal> {
+        if self.is_closed {
+            return Err(Refusal::Closed);
+        }
+        if self.items.len() == capacity {
+            return Err(Refusal::Full);
+        }
+        let number = self.accepted;
+        self.accepted += 1;
+        self.items.push(Item {
+            word,
+            priority,
+            number,
+        });
+        Ok(())
+    }
+}
+
 struct Channel {
     state: Mutex<State>,
     capacity: usize,
@@ -69,20 +88,22 @@ impl Channel {
     }
 
     fn try_send(&self, word: String, priority: i64) -> Result<(), Refusal> {
+        self.state
+            .lock()
+            .unwrap()
+            .send(self.capacity, word, priority)
+    }
+
+    /// Sends pairs up to the first that is refused, and tells how many were not sent.
+    fn try_sendv(&self, pairs: Vec<(String, i64)>) -> Result<(), (Refusal, usize)> {
         let mut state = self.state.lock().unwrap();
-        if state.is_closed {
-            return Err(Refusal::Closed);
+        let mut left = pairs.len();
+        for (word, priority) in pairs {
+            state
+                .send(self.capacity, word, priority)
+                .map_err(|refusal| (refusal, left))?;
+            left -= 1;
         }
-        if state.items.len() == self.capacity {
-            return Err(Refusal::Full);
-        }
-        let number = state.accepted;
-        state.accepted += 1;
-        state.items.push(Item {
-            word,
-            priority,
-            number,
-        });
         Ok(())
     }
 
@@ -105,6 +126,7 @@ impl Channel {
 
 enum Call<'a> {
     Send(i64, &'a str),
+    Sendv(Vec<(String, i64)>),
     Recv,
     Close,
 }
@@ -119,18 +141,33 @@ fn parse_opening(line: &[u8]) -> Option<usize> {
 
 fn parse_call(line: &[u8]) -> Option<Call<'_>> {
     let text = std::str::from_utf8(line).ok()?;
+    if let Some(pairs) = text.strip_prefix("sendv ") {
+        return parse_pairs(pairs).map(Call::Sendv);
+    }
     let mut fields = text.split(' ');
     match (fields.next(), fields.next(), fields.next(), fields.next()) {
         (Some("send"), Some(priority), Some(word), None) => {
-            if word.is_empty() || !word.bytes().all(|b| b.is_ascii_graphic()) {
-                return None;
-            }
-            Some(Call::Send(parse_priority(priority)?, word))
+            Some(Call::Send(parse_priority(priority)?, parse_word(word)?))
         }
         (Some("recv"), None, None, None) => Some(Call::Recv),
         (Some("close"), None, None, None) => Some(Call::Close),
         _ => None,
     }
+}
+
+fn parse_pairs(text: &str) -> Option<Vec<(String, i64)>> {
+    let mut pairs = Vec::new();
+    let mut fields = text.split(' ');
+    while let Some(priority) = fields.next() {
+        let word = parse_word(fields.next()?)?;
+        pairs.push((word.to_string(), parse_priority(priority)?));
+    }
+    Some(pairs)
+}
+
+fn parse_word(field: &str) -> Option<&str> {
+    let is_word = !field.is_empty() && field.bytes().all(|b| b.is_ascii_graphic());
+    is_word.then_some(field)
 }
 
 fn parse_priority(field: &str) -> Option<i64> {
@@ -176,6 +213,11 @@ fn run() -> io::Result<()> {
                 };
                 answers.write_all(answer)?;
             }
+            Call::Sendv(pairs) => match channel.try_sendv(pairs) {
+                Ok(()) => answers.write_all(b"ok\n")?,
+                Err((Refusal::Full, left)) => writeln!(answers, "full {left}")?,
+                Err((_, left)) => writeln!(answers, "closed {left}")?,
+            },
             Call::Recv => match channel.try_recv() {
                 Ok((word, priority)) => writeln!(answers, "{word} {priority}")?,
                 Err(Refusal::Empty) => answers.write_all(b"empty\n")?,

@@ -1,0 +1,163 @@
+//! The calls by which messages go and come.
+
+use crate::load::Load;
+use anyhow::{bail, ensure};
+use async_priority_channel::{
+    Ends, Receiver, Sender, TryRecvError, TrySendError, bounded, unbounded,
+};
+use futures::StreamExt;
+use futures::executor::block_on;
+use futures::future::ready;
+use std::alloc::{AllocError, AllocGlobal};
+use std::random::RandomSource;
+use std::str::FromStr;
+use std::sync::Wait;
+use std::thread;
+
+#[derive(Clone, Copy)]
+pub enum Calls {
+    /// `try_send` and `try_recv` until they are met, with a yield between.
+    Try,
+    /// `send_blocking` and `recv_blocking`.
+    Blocking,
+    /// `block_on` of `send` and of `recv`, for each message.
+    Future,
+    /// `block_on` of `sendv` and of a fold over a stream, for all; for one message as `Future`.
+    Stream,
+}
+
+impl FromStr for Calls {
+    type Err = anyhow::Error;
+
+    fn from_str(word: &str) -> anyhow::Result<Calls> {
+        match word {
+            "try" => Ok(Calls::Try),
+            "blocking" => Ok(Calls::Blocking),
+            "future" => Ok(Calls::Future),
+            "stream" => Ok(Calls::Stream),
+            _ => bail!("no calls: {word}"),
+        }
+    }
+}
+
+impl Calls {
+    pub fn send<R>(
+        self,
+        rt: &R,
+        tx: &Sender<u64, i64, R>,
+        msg: u64,
+        priority: i64,
+    ) -> anyhow::Result<()>
+    where
+        R: Wait + Clone + RandomSource + AllocGlobal,
+    {
+        match self {
+            Calls::Try => send_by_tries(tx, msg, priority)?,
+            Calls::Blocking => tx.send_blocking(msg, priority)?,
+            Calls::Future | Calls::Stream => block_on(rt, tx.send(msg, priority))??,
+        }
+        Ok(())
+    }
+
+    pub fn recv<R>(self, rt: &R, rx: &Receiver<u64, i64, R>) -> anyhow::Result<u64>
+    where
+        R: Wait + Clone + RandomSource + AllocGlobal,
+    {
+        let (msg, _) = match self {
+            Calls::Try => recv_by_tries(rx)?,
+            Calls::Blocking => rx.recv_blocking()?,
+            Calls::Future | Calls::Stream => block_on(rt, rx.recv())??,
+        };
+        Ok(msg)
+    }
+
+    /// Sends so many numbers, from `first` on.
+    pub fn send_all<R>(
+        self,
+        rt: &R,
+        tx: &Sender<u64, i64, R>,
+        first: u64,
+        count: u64,
+    ) -> anyhow::Result<()>
+    where
+        R: Wait + Clone + RandomSource + AllocGlobal,
+    {
+        if let Calls::Stream = self {
+            return send_stream(rt, tx, first, count);
+        }
+        for place in 0..count {
+            let number = first.wrapping_add(place);
+            self.send(rt, tx, number, Load::Random.priority(number))?;
+        }
+        Ok(())
+    }
+
+    /// The sum of so many numbers.
+    pub fn recv_all<R>(self, rt: &R, rx: &Receiver<u64, i64, R>, count: u64) -> anyhow::Result<u64>
+    where
+        R: Wait + Clone + RandomSource + AllocGlobal,
+    {
+        if let Calls::Stream = self {
+            return recv_stream(rt, rx, count);
+        }
+        let mut sum = 0u64;
+        for _ in 0..count {
+            sum = sum.wrapping_add(self.recv(rt, rx)?);
+        }
+        Ok(sum)
+    }
+}
+
+fn send_by_tries<R: Wait + Clone>(
+    tx: &Sender<u64, i64, R>,
+    msg: u64,
+    priority: i64,
+) -> Result<(), TrySendError<(u64, i64)>> {
+    for _ in 0..u64::MAX {
+        match tx.try_send(msg, priority) {
+            Err(TrySendError::Full(_)) => thread::yield_now(),
+            answer => return answer,
+        }
+    }
+    Err(TrySendError::Full((msg, priority)))
+}
+
+fn recv_by_tries<R: Wait + Clone>(rx: &Receiver<u64, i64, R>) -> Result<(u64, i64), TryRecvError> {
+    for _ in 0..u64::MAX {
+        match rx.try_recv() {
+            Err(TryRecvError::Empty) => thread::yield_now(),
+            answer => return answer,
+        }
+    }
+    Err(TryRecvError::Empty)
+}
+
+fn send_stream<R>(rt: &R, tx: &Sender<u64, i64, R>, first: u64, count: u64) -> anyhow::Result<()>
+where
+    R: Wait + Clone + RandomSource + AllocGlobal,
+{
+    let msgs = (first..first.saturating_add(count)).map(|i| (i, Load::Random.priority(i)));
+    let sent = block_on(rt, tx.sendv(msgs.peekable()))?;
+    ensure!(sent.is_ok(), "not all was sent");
+    Ok(())
+}
+
+fn recv_stream<R>(rt: &R, rx: &Receiver<u64, i64, R>, count: u64) -> anyhow::Result<u64>
+where
+    R: Wait + Clone + RandomSource + AllocGlobal,
+{
+    let msgs = rx.stream().take(usize::try_from(count)?);
+    let sum = msgs.fold(0u64, |sum, (msg, _)| ready(sum.wrapping_add(msg)));
+    Ok(block_on(rt, sum)?)
+}
+
+/// With so many places, or with no limit for 0.
+pub fn channel<R>(rt: &R, places: u64) -> Result<Ends<u64, i64, R>, AllocError>
+where
+    R: Wait + Clone + AllocGlobal,
+{
+    if places == 0 {
+        return unbounded(rt, rt.alloc());
+    }
+    bounded(rt, rt.alloc(), places)
+}
