@@ -84,6 +84,10 @@ impl<W, A: Allocator> Entries<W, A> {
         ensures taken { result.items ≡ self.old }
         ensures empty { self.new ≡ [] }
     {
+        // Mostly nobody is listed.
+        if self.listed.is_empty() {
+            return Vec::new(alloc);
+        }
         mem::replace(&mut self.listed, Vec::new(alloc))
     }
 }
