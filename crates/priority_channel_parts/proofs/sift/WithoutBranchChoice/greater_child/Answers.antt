@@ -1,5 +1,4 @@
-use Rattle.std.proofs.Common.{◌+◌, ◌*◌, length, arith, refl}
-use Rattle.std.specs.BinaryHeap.Sift.{IsGreaterChild}
+use Rattle.std.proofs.Common.{◌+◌, ◌*◌, arith, refl}
 use Rattle.std.proofs.HeapSift as heap
 use Rattle.priority_channel_parts.specs.Heap.{item_cmp}
 use Rattle.priority_channel_parts.proofs.ItemOrder.{item_total, compared}
