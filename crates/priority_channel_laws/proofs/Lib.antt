@@ -2,6 +2,7 @@ pub mod AlikeCalls
 pub mod AlikeLists
 pub mod AlikePolls
 pub mod AlikeSteps
+pub mod AtOnce
 pub mod Callings
 pub mod Effects
 pub mod Events

@@ -1,9 +1,7 @@
 -- What is kept of a future that was polled.
-use Rattle.std.proofs.Common.{◌≡◌, ◌≤◌, ℕ, List, length, drop, ap, refl, subst, inl, inr, arith}
+use Rattle.std.proofs.Common.{◌≡◌, ℕ, List, drop, refl, subst, inl, inr}
 use Rattle.std.specs.Prelude.{Option, None, Some, IfSome, IfErr, Result, Ok, Err}
 use Rattle.futures.specs.declared.task.Poll.{Poll}
-use Rattle.futures.specs.declared.task.Poll.TheVariants as poll
-use Rattle.futures.specs.Poll.{IfReady, OnPending}
 use Rattle.std.specs.declared.cmp.Ordering.{Ordering}
 use Rattle.priority_channel_core.specs.declared.calls.Call.{Call}
 use Rattle.priority_channel_core.specs.declared.calls.Call.TheVariants as call
@@ -13,24 +11,16 @@ use Rattle.priority_channel_core.specs.declared.calls.CorePoll.{CorePoll}
 use Rattle.priority_channel_core.specs.declared.calls.CorePoll.TheVariants.{Ready, Pending}
 use Rattle.priority_channel_parts.specs.declared.errors.SendFault.{SendFault}
 use Rattle.priority_channel_parts.specs.declared.errors.SendFault.TheVariants as send_fault
-use Rattle.priority_channel_parts.specs.declared.errors.RecvError.{RecvError}
-use Rattle.priority_channel_parts.specs.declared.errors.RecvFault.TheVariants as recv_fault
-use Rattle.priority_channel_parts.specs.declared.errors.TryRecvError.TheVariants as recv_error
 use Rattle.priority_channel_core.specs.State.{State, Handed, room}
-use Rattle.priority_channel_core.specs.Good.{IsGood}
-use Rattle.priority_channel_core.specs.Step.{Step}
-use Rattle.priority_channel_core.specs.Channel.{CountedState, search_bound}
-use Rattle.priority_channel_core.proofs.PollLemmas.{sent_searches_less}
 use Rattle.priority_channel_parts.specs.declared.errors.TrySendError.{TrySendError}
 use Rattle.priority_channel_parts.specs.declared.errors.TrySendError.TheVariants as send_error
 use Rattle.priority_channel_parts.specs.Errors.{refused}
 use Rattle.priority_channel_core.specs.Sends.{Sends}
-use Rattle.priority_channel_core.specs.Polls.{PollsSend, unlisted}
+use Rattle.priority_channel_core.specs.Polls.{PollsSend}
 use Rattle.priority_channel_core.specs.Bulk.{kept_by, Performs, SamePoll, SameReply}
 use Rattle.priority_channel_laws.specs.Future.{Task, poll_of, polled}
 use Rattle.priority_channel_laws.specs.Future.Task.{Sendv}
-use Rattle.priority_channel_laws.specs.States.{Holding, done, told_by, left_by, told_at_once, left_at_once, handed_back, HoldsTail, send_of, recv_of, IsKeptOf, PollsKept}
-use Rattle.priority_channel_laws.specs.World.{GivesUpTicket}
+use Rattle.priority_channel_laws.specs.States.{Holding, told_by, left_by, handed_back, HoldsTail, send_of, IsKeptOf, PollsKept}
 
 pub send_left : {T P W : Type 0} (pair : T × P) (waker : W) (reply : CorePoll (Result (Unit {0}) (SendFault (T × P))) (T × P))
     → IsKeptOf send_of (left_by reply) (polled (send_of pair) waker (answer.PollSend reply))
@@ -61,90 +51,9 @@ module _ {T P W M K R : Type 0} (Performs : State T P W → Call T P W M → Ans
       rw is (record { reply = reply; tells = tells; step = step; leaves = rw leaves k })
 
 -- a fact of whatever there is
-if_some : {M : Type 0} (Q : M → Type 0) (held : Option M) → ((m : M) → held ≡ Some m → Q m) → IfSome held Q
+pub if_some : {M : Type 0} (Q : M → Type 0) (held : Option M) → ((m : M) → held ≡ Some m → Q m) → IfSome held Q
 if_some Q None h = tt
 if_some Q (Some m) h = h m refl
-
--- who gave up a ticket, if there was one, is in neither list
-pub given_up : {T P W : Type 0} (cmp : P → P → Ordering) (is_clone : W → W → Type 0) (mid new : State T P W) (given : Option ℕ) → IsGood mid
-    → GivesUpTicket cmp is_clone mid given new → (new ≡ unlisted given mid) × IsGood new
-given_up cmp is_clone mid new None good same = (same, rw same good)
-given_up cmp is_clone mid new (Some ticket) good gave = (gave.moves.1, gave.good)
-
-module _ {T P W : Type 0} (cmp : P → P → Ordering) (is_clone : W → W → Type 0) (old mid new : State T P W) (handed : Handed W) where
-  -- a try that is answered, and then the ticket given up, are a poll with whatever waker
-  pub received_at_once : (holding : Holding (Unit {0})) (pair : T × P) → Step cmp is_clone old call.TryRecv (answer.TryRecv (Ok pair)) handed mid
-      → GivesUpTicket cmp is_clone mid holding.ticket new
-      → IfSome holding.kept (λ kept. (waker : W) → PollsKept (Step cmp is_clone) recv_of (λ reply. answer.PollRecv reply)
-      kept holding.ticket waker old (poll.Ready (Ok pair)) handed new done)
-  received_at_once holding pair step gave =
-      let gone = given_up cmp is_clone mid new holding.ticket step.good gave in
-      if_some _ holding.kept (λ kept is waker. record {
-        reply = Ready (Ok pair);
-        tells = refl;
-        step = record { moves = (mid, step.moves, gone.0); good = gone.1 };
-        leaves = record { task = refl; ticket = refl };
-      })
-
-  pub closed_at_once : (holding : Holding (Unit {0})) (fault : RecvError)
-      → Step cmp is_clone old call.TryRecv (answer.TryRecv (Err recv_error.Closed)) handed mid
-      → GivesUpTicket cmp is_clone mid holding.ticket new
-      → IfSome holding.kept (λ kept. (waker : W) → PollsKept (Step cmp is_clone) recv_of (λ reply. answer.PollRecv reply)
-      kept holding.ticket waker old (poll.Ready (Err (recv_fault.Closed fault))) handed new done)
-  closed_at_once holding fault step gave =
-      let gone = given_up cmp is_clone mid new holding.ticket step.good gave in
-      if_some _ holding.kept (λ kept is waker. record {
-        reply = Ready (Err (recv_fault.Closed fault));
-        tells = refl;
-        step = record { moves = (mid, step.moves, gone.0); good = gone.1 };
-        leaves = record { task = refl; ticket = refl };
-      })
-
-  SentAtOnce : Result (Unit {0}) (TrySendError (T × P)) → T × P → Option ℕ → Type 0
-  SentAtOnce tried pair given = IfReady (told_at_once tried) (λ _. (waker : W) → PollsKept (Step cmp is_clone) send_of (λ reply. answer.PollSend reply)
-      pair given waker old (told_at_once tried) handed new (left_at_once given tried))
-
-  sent : (tried : Result (Unit {0}) (TrySendError (T × P))) (pair : T × P) (given : Option ℕ)
-      → Step cmp is_clone old (call.TrySend pair.0 pair.1) (answer.TrySend tried) handed mid
-      → IfReady (told_at_once tried) (λ _. GivesUpTicket cmp is_clone mid given new) → SentAtOnce tried pair given
-  unfolding SentAtOnce
-  sent (Ok _) pair given step gave = λ waker.
-      let gone = given_up cmp is_clone mid new given step.good gave in
-      record { reply = Ready (Ok tt); tells = refl; step = record { moves = (mid, step.moves, gone.0); good = gone.1 }; leaves = record { task = refl; ticket = refl } }
-  sent (Err (send_error.Closed held)) pair given step gave = λ waker.
-      let gone = given_up cmp is_clone mid new given step.good gave in
-      record { reply = Ready (Err (send_fault.Closed (record { 0 = held }))); tells = refl; step = record { moves = (mid, step.moves, gone.0); good = gone.1 }; leaves = record { task = refl; ticket = refl } }
-  sent (Err (send_error.Memory held)) pair given step gave = λ waker.
-      let gone = given_up cmp is_clone mid new given step.good gave in
-      record { reply = Ready (Err (send_fault.Memory held)); tells = refl; step = record { moves = (mid, inl step.moves, gone.0); good = gone.1 }; leaves = record { task = refl; ticket = refl } }
-  sent (Err (send_error.Full held)) pair given step gave = tt
-
-  pub sent_at_once : (holding left : Holding (T × P)) (tried : Result (Unit {0}) (TrySendError (T × P))) (told : Poll (Result (Unit {0}) (SendFault (T × P))))
-      (pair : T × P) (given : Option ℕ) → holding ≡ record { kept = Some pair; ticket = given }
-      → told ≡ told_at_once tried → left ≡ left_at_once given tried
-      → Step cmp is_clone old (call.TrySend pair.0 pair.1) (answer.TrySend tried) handed mid
-      → IfReady told (λ _. GivesUpTicket cmp is_clone mid given new)
-      → IfSome holding.kept (λ kept. IfReady told (λ _. (waker : W) → PollsKept (Step cmp is_clone) send_of (λ reply. answer.PollSend reply)
-      kept holding.ticket waker old told handed new left))
-  unfolding SentAtOnce
-  sent_at_once holding left tried told pair given is tells leaves step gave =
-      rw (is, tells, leaves) (sent tried pair given step (rw tells at gave))
-
-  -- a try leaves no more to search
-  pub tried_searches_less : (tried : Result (Unit {0}) (TrySendError (T × P))) (msg : T) (priority : P)
-      → Step cmp is_clone old (call.TrySend msg priority) (answer.TrySend tried) handed mid → search_bound mid ≤ search_bound old
-  tried_searches_less (Ok _) msg priority step = sent_searches_less old mid _ handed step.moves.2.1
-  tried_searches_less (Err (send_error.Closed held)) msg priority step = let same = step.moves.2.1 in rw same (omega arith)
-  tried_searches_less (Err (send_error.Full held)) msg priority step = sent_searches_less old mid _ handed step.moves.2.1
-  tried_searches_less (Err (send_error.Memory held)) msg priority step = sent_searches_less old mid _ handed step.moves.4.1
-
--- who gives up a ticket takes no pair
-pub pending_stays : {T P W R : Type 0} (cmp : P → P → Ordering) (is_clone : W → W → Type 0) (mid new : CountedState T P W) (told : Poll R) (given : Option ℕ)
-    → IsGood mid.state → IfReady told (λ _. GivesUpTicket cmp is_clone mid.state given new.state) → OnPending told (new ≡ mid)
-    → length new.state.pending ≡ length mid.state.pending
-pending_stays {T} {P} {W} cmp is_clone mid new (poll.Ready r) given good gave waits =
-    ap (λ (s : State T P W). length s.pending) (given_up cmp is_clone mid.state new.state given good gave).0
-pending_stays {T} {P} {W} cmp is_clone mid new poll.Pending given good gave waits = ap (λ (s : CountedState T P W). length s.state.pending) waits
 
 -- what waits was kept by the core's poll
 pub left_kept : {M : Type 0} (Q : M → Type 0) (reply : CorePoll (Result (Unit {0}) (SendFault M)) M)

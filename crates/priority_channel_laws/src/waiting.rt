@@ -318,6 +318,34 @@ impl<M: Drop> SendvState<M> {
 }
 
 impl<T: Drop, P: Ord + Drop, I: Iterator<Item = (T, P)>> SendvState<Peekable<I>> {
+    /// Sends what there is room for, and nothing more where that was not all: it then answers `Pending`, as a state that
+    /// is done does, and waits on under the ticket that it had. Else it is a poll with whatever waker.
+    pub fn try_on<W: Clone, A: Allocator + Copy>(
+        &mut self,
+        core: &mut PriorityQueueChannel<T, P, W, A>,
+    ) -> (Poll<Result<(), SendFault<Peekable<I>>>>, Wakes<W, A>)
+        requires { ForSome self.old.kept (peekable_can I.can_next) }
+        ensures step { IfSome self.old.kept (λ msgs. IfReady result.0 (λ _. (waker : W) → PollsKept (Performs (HasList I.next_gives) P.cmp W.is_clone) sendv_of (λ reply. Answer.PollSendv reply)
+            msgs self.old.ticket waker core.old.state result.0 result.1 core.new.state self.new)) }
+        ensures tried { IfSome self.old.kept (λ msgs. (reply : _) × (result.0 ≡ told_at_once reply) × (self.new ≡ left_at_once self.old.ticket reply)
+            × (OnPending result.0 (Performs (HasList I.next_gives) P.cmp W.is_clone core.old.state (Call.TrySendv msgs) (Answer.TrySendv reply) result.1 core.new.state))) }
+        ensures done { self.old.kept ≡ None → (result.0 ≡ Poll.Pending) × (result.1 ≡ nobody) × (self.new ≡ self.old) × (core.new ≡ core.old) }
+        ensures unsent { IfSome self.old.kept (λ msgs. IfSome (handed_back result.0) (HoldsTail (HasList I.next_gives) msgs)) }
+        ensures kept { IfSome self.old.kept (λ msgs. IfSome self.new.kept (HoldsTail (HasList I.next_gives) msgs)) }
+        ensures answered { IfReady result.0 (λ _. self.new ≡ done) }
+        ensures waits { OnPending result.0 (is_some self.new.kept ≡ is_some self.old.kept) }
+
+        // Whether or not the iterator has one list.
+        ensures unsent_callable { IfSome (handed_back result.0) (peekable_can I.can_next) }
+        ensures kept_callable { ForSome self.new.kept (peekable_can I.can_next) }
+    {
+        let Some((rest, ticket)) = self.rest.take() else {
+            return (Poll::Pending, core.nobody());
+        };
+        let (tried, wakes) = core.try_sendv(rest);
+        (self.rest.keep_tried(tried, ticket, core), wakes)
+    }
+
     /// Sends what there is room for, and waits for room with the rest and the waker. A state that is done answers
     /// `Pending`, and changes nothing.
     pub fn poll_on<W: Clone, A: Allocator + Copy>(

@@ -1,5 +1,5 @@
 //! The future that sends many messages.
-ghost use Rattle.std.specs.Prelude.{◌≡◌, None, is_some};
+ghost use Rattle.std.specs.Prelude.{◌≡◌, None, is_some, true};
 ghost use Rattle.std.specs.Option.{ForSome};
 ghost use Rattle.std.specs.Iterator.Adapters.{peekable_can};
 ghost use Rattle.futures.specs.Task.{Covers, Keeps};
@@ -64,6 +64,56 @@ impl<
     I: Iterator<Item = (T, P)>,
     R: Wait + Clone,
     A: Allocator + Copy,
+> Sendv<'_, T, P, Peekable<I>, R, A> {
+    // Sends what there is room for, in one hold of the lock and without memory for waiting.
+    fn try_once(&mut self) -> Poll<Result<(), SendFault<Peekable<I>>>>
+        requires { ForSome self.old.state.kept (peekable_can I.can_next) }
+        ensures value { IfReady result (HandsBackTail (HasList I.next_gives) (peekable_can I.can_next) self.old) }
+        ensures again { ForSome self.new.state.kept (peekable_can I.can_next) }
+        ensures same { OnPending result ((x : _) → HandsBackTail (HasList I.next_gives) (peekable_can I.can_next) self.new x → HandsBackTail (HasList I.next_gives) (peekable_can I.can_next) self.old x) }
+        ensures channel { self.new.channel ≡ self.old.channel }
+        ensures answered { IfReady result (λ _. self.new.state ≡ done) }
+        ensures waits { OnPending result (is_some self.new.state.kept ≡ is_some self.old.state.kept) }
+    {
+        let sender = self.sender;
+        let handle = &sender.handle;
+        let (tried, wakes) = self.state.try_on(&mut handle.lock());
+        handle.wake_all(wakes);
+        tried
+    }
+
+    // Leaves the waker, and sends or waits.
+    fn wait(&mut self, cx: &mut Context<'_>) -> Poll<Result<(), SendFault<Peekable<I>>>>
+        requires callable { ForSome self.old.state.kept (peekable_can I.can_next) }
+        requires kept { is_some self.old.state.kept ≡ true }
+        ensures value { IfReady result (HandsBackTail (HasList I.next_gives) (peekable_can I.can_next) self.old) }
+        ensures again { ForSome self.new.state.kept (peekable_can I.can_next) }
+        ensures same { OnPending result ((x : _) → HandsBackTail (HasList I.next_gives) (peekable_can I.can_next) self.new x → HandsBackTail (HasList I.next_gives) (peekable_can I.can_next) self.old x) }
+        ensures registered { OnPending result (Covers cx.new (λ source. source ≡ self.new.channel.room)) }
+        ensures kept { Keeps cx.old cx.new }
+        ensures channel { self.new.channel ≡ self.old.channel }
+        ensures answered { IfReady result (λ _. self.new.state ≡ done) }
+        ensures waits { OnPending result (is_some self.new.state.kept ≡ is_some self.old.state.kept) }
+    {
+        let sender = self.sender;
+        let handle = &sender.handle;
+        let Some(waker) = handle.register(cx, handle.room(), &mut self.place) else {
+            let unsent = self.state.give_up_on(&mut handle.lock());
+            let Some(rest) = unsent else { unreachable!() };
+            return Poll::Ready(Err(SendFault::Memory(rest)));
+        };
+        let (polled, wakes) = self.state.poll_on(&mut handle.lock(), waker);
+        handle.wake_all(wakes);
+        polled
+    }
+}
+
+impl<
+    T: Drop,
+    P: Ord + Drop,
+    I: Iterator<Item = (T, P)>,
+    R: Wait + Clone,
+    A: Allocator + Copy,
 > Future for Sendv<'_, T, P, Peekable<I>, R, A> {
     type Output = Result<(), SendFault<Peekable<I>>>;
 
@@ -88,18 +138,10 @@ impl<
         if self.state.is_done() {
             return cx.yield_now();
         }
-        let sender = self.sender;
-        let handle = &sender.handle;
-        let Some(waker) = handle.register(cx, handle.room(), &mut self.place) else {
-            let unsent = self.state.give_up_on(&mut handle.lock());
-            let Some(rest) = unsent else { unreachable!() };
-            return Poll::Ready(Err(SendFault::Memory(rest)));
-        };
-        let mut core = handle.lock();
-        let (polled, wakes) = self.state.poll_on(&mut core, waker);
-        drop(core);
-        handle.wake_all(wakes);
-        polled
+        match self.try_once() {
+            Poll::Ready(sent) => Poll::Ready(sent),
+            Poll::Pending => self.wait(cx),
+        }
     }
 }
 
@@ -111,11 +153,12 @@ impl<T: Drop, P: Ord + Drop, M: Drop, R: Wait + Clone, A: Allocator + Copy> Drop
             mut state,
             place,
         } = self;
-        let mut core = sender.handle.lock();
-        let unsent = state.give_up_on(&mut core);
-        drop(core);
+        let mut unsent = None;
+        if state.ticket().is_some() {
+            unsent = state.give_up_on(&mut sender.handle.lock());
+        }
         // A message may hold a handle of this channel, and a waker wakes as it is dropped.
-        drop(unsent);
+        drop((unsent, state));
         drop(place);
     }
 }

@@ -84,6 +84,8 @@ fn a_future_that_answers_at_once_takes_no_memory(rt: HostRuntime) -> Result<(), 
     alloc.refuse_nth(1);
     assert_eq!(rt; block_on(&rt, tx.send("x", 1u64))?, Ok(()));
     assert_eq!(rt; block_on(&rt, rx.recv())?, Ok(("x", 1)));
+    assert!(rt; block_on(&rt, tx.sendv([("z", 3)].into_iter().peekable()))?.is_ok());
+    assert_eq!(rt; block_on(&rt, rx.recv())?, Ok(("z", 3)));
     assert!(rt; tx.close());
     let unsent = block_on(&rt, tx.send("y", 2))?;
     assert_eq!(rt; unsent, Err(SendFault::Closed(SendError(("y", 2)))));

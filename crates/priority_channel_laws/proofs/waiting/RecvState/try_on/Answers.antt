@@ -4,7 +4,7 @@ use Rattle.priority_channel_core.specs.declared.calls.Call.TheVariants as call
 use Rattle.priority_channel_core.specs.declared.calls.Answer.TheVariants as answer
 use Rattle.priority_channel_core.specs.Step.{Step}
 use Rattle.priority_channel_core.proofs.PollLemmas.{received_searches_less}
-use Rattle.priority_channel_laws.proofs.StateLemmas.{received_at_once, closed_at_once}
+use Rattle.priority_channel_laws.proofs.AtOnce.{received_at_once, closed_at_once}
 use Rattle.priority_channel_laws.proofs.waiting.RecvState.try_on.Goals as goal
 
 pub returns-in-Ok-clause-step : goal.returns-in-Ok-clause-step

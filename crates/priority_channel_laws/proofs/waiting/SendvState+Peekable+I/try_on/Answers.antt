@@ -1,0 +1,33 @@
+use Rattle.std.proofs.Common.{sym, ◌∙◌}
+use Rattle.std.specs.Iterator.Adapters.{peekable_can}
+use Rattle.priority_channel_core.specs.Lists.{HasList}
+use Rattle.priority_channel_laws.specs.States.{HoldsTail}
+use Rattle.priority_channel_laws.proofs.StateLemmas.{refused_tail}
+use Rattle.priority_channel_laws.proofs.AtOnce.{sentv_at_once, tried_in_vain, handed_back_at_once, kept_at_once}
+use Rattle.priority_channel_laws.proofs.waiting.SendvState+Peekable+I.try_on.Goals as goal
+
+pub returns-clause-step : goal.returns-clause-step
+returns-clause-step g c =
+    sentv_at_once (HasList g.I.Iterator.next_gives) g.P.Ord.cmp g.W.Clone.is_clone _ _ _ _ _ _ _ _ _ _
+    (sym c.self.view_is ∙ c.in-Some.ensures.taken) c.keep_tried.ensures.told c.keep_tried.ensures.left c.try_sendv-tried.ensures.good c.try_sendv-tried.ensures.step c.keep_tried.ensures.answered
+
+pub returns-clause-tried : goal.returns-clause-tried
+returns-clause-tried g c =
+    rw (← c.self.view_is, c.in-Some.ensures.taken) (
+      c.try_sendv-tried.result.0,
+      c.keep_tried.ensures.told,
+      c.keep_tried.ensures.left,
+      tried_in_vain (HasList g.I.Iterator.next_gives) g.P.Ord.cmp g.W.Clone.is_clone _ _ _ _ _ _ _ c.keep_tried.ensures.waits c.try_sendv-tried.ensures.step,
+    )
+
+pub returns-clause-unsent : goal.returns-clause-unsent
+returns-clause-unsent g c =
+    rw (← c.self.view_is, c.in-Some.ensures.taken, c.keep_tried.ensures.told)
+    (handed_back_at_once (HoldsTail (HasList g.I.Iterator.next_gives) c.in-Some.rest) c.try_sendv-tried.result.0
+    (refused_tail (HasList g.I.Iterator.next_gives) g.P.Ord.cmp g.W.Clone.is_clone _ _ _ _ _ c.try_sendv-tried.ensures.step))
+
+pub returns-clause-kept : goal.returns-clause-kept
+returns-clause-kept g c =
+    rw (← c.self.view_is, c.in-Some.ensures.taken, c.keep_tried.ensures.left)
+    (kept_at_once (HoldsTail (HasList g.I.Iterator.next_gives) c.in-Some.rest) _ c.try_sendv-tried.result.0
+    (refused_tail (HasList g.I.Iterator.next_gives) g.P.Ord.cmp g.W.Clone.is_clone _ _ _ _ _ c.try_sendv-tried.ensures.step))
