@@ -1,4 +1,6 @@
 //! What the handles of a channel share, and the calls that both kinds of handle make.
+//!
+//! The small calls of the hot path are inlined by force: their answers would go through memory, and be read back at once.
 ghost use Rattle.std.specs.Prelude.{◌≡◌, IfOk, IsSome};
 ghost use Rattle.futures.specs.Task.{Hears, IsArmed, Keeps};
 ghost use Rattle.priority_channel_core.specs.State.{opening};

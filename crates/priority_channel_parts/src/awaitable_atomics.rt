@@ -1,4 +1,6 @@
 //! A count with a closed bit in one word, and the parties that wait for the count to change.
+//!
+//! The small calls of the hot path are inlined by force: their answers would go through memory, and be read back at once.
 ghost use Rattle.std.specs.Prelude.{◌≡◌, ◌+◌, ◌-◌, ◌<◌, ◌≤◌, ◌^◌, ◌==◌, if◌then◌else◌, [], IfSome, IsSome, true, false, IfNone, Some};
 ghost use Rattle.priority_channel_parts.specs.Word.{nobody};
 ghost use Rattle.priority_channel_parts.specs.Waiting.{is_given_listed};

@@ -1,4 +1,6 @@
 //! Pending pairs, kept as a binary heap in one vector.
+//!
+//! The small calls of the hot path are inlined by force: their answers would go through memory, and be read back at once.
 ghost use Rattle.std.specs.Prelude.{◌≡◌, List, ◌↔◌, ◌+◌, ◌*◌, ◌<◌, ◌≤◌, ◌^◌, [], ◌∷◌, ◌++◌, length, IfOk, IfNone, OnOk, OnErr, IsTrue, MatchOption, vec_capacity};
 ghost use Rattle.priority_channel_parts.specs.Digits.{digits};
 ghost use Rattle.priority_channel_parts.specs.Greatest.{TakesGreatest};
