@@ -1,5 +1,5 @@
 -- What a bulk send gives back is a tail of what it was given, over all of its polls.
-use Rattle.std.proofs.Common.{◌≡◌, List, refl}
+use Rattle.std.proofs.Common.{◌≡◌, List}
 use Rattle.std.specs.Prelude.{Option, None, Some, IfSome, is_some, Result, Ok, Err}
 use Rattle.std.specs.Option.{ForSome}
 use Rattle.futures.specs.declared.task.Poll.{Poll}

@@ -1,14 +1,9 @@
 -- What comes back of an attempt is what the core hands back, and an error of the call holds it.
 use Rattle.std.specs.Prelude.{◌≡◌, IfErr, IfSome, IsErrAnd, Result, Ok, Err}
-use Rattle.priority_channel_core.specs.declared.calls.CorePoll.{CorePoll}
-use Rattle.priority_channel_core.specs.declared.calls.CorePoll.TheVariants.{Ready, Pending}
 use Rattle.priority_channel_parts.specs.declared.errors.TrySendError.{TrySendError}
 use Rattle.priority_channel_parts.specs.declared.errors.TrySendError.TheVariants.{Full, Closed, Memory}
-use Rattle.priority_channel_parts.specs.declared.errors.SendFault.{SendFault}
-use Rattle.priority_channel_parts.specs.declared.errors.SendFault.TheVariants as send_fault
 use Rattle.priority_channel_parts.specs.Errors.{refused}
-use Rattle.priority_channel_core.specs.Bulk.{kept_by}
-use Rattle.async_priority_channel.specs.Waits.{left_over, outcome_of_try, outcome_of_poll}
+use Rattle.async_priority_channel.specs.Waits.{left_over, outcome_of_try}
 
 module _ {C : Type 0} (Q : C → Type 0) where
   pub left_of_try : (reply : Result (Unit {0}) (TrySendError C)) → IfErr reply (λ error. Q (refused error)) → IfSome (left_over (outcome_of_try reply)) Q
@@ -16,12 +11,6 @@ module _ {C : Type 0} (Q : C → Type 0) where
   left_of_try (Err (Full rest)) h = h
   left_of_try (Err (Closed rest)) h = h
   left_of_try (Err (Memory rest)) h = h
-
-  pub left_of_poll : (reply : CorePoll (Result (Unit {0}) (SendFault C)) C) → IfSome (kept_by reply) Q → IfSome (left_over (outcome_of_poll reply)) Q
-  left_of_poll (Ready (Ok sent)) h = tt
-  left_of_poll (Ready (Err (send_fault.Closed error))) h = h
-  left_of_poll (Ready (Err (send_fault.Memory rest))) h = h
-  left_of_poll (Pending rest ticket) h = h
 
 -- what an error holds is what came back of the call that it was made from
 pub held_by_error : {C F X : Type 0} (Q : C → Type 0) (Tells : F → Type 0) (held : F → C) (back : C) (result : Result X F)

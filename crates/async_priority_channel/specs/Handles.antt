@@ -3,12 +3,19 @@ use Rattle.std.specs.Prelude.{◌≡◌, ℕ, Bool, true, List, [], IfErr, IfSom
 use Rattle.priority_channel_parts.specs.declared.errors.SendFault.{SendFault}
 use Rattle.priority_channel_parts.specs.Errors.{unsent}
 use Rattle.priority_channel_laws.specs.States.{Holding, HoldsTail}
+use Rattle.async_priority_channel.specs.declared.attempts.Side.{Side}
+use Rattle.async_priority_channel.specs.declared.attempts.Side.TheVariants.{Room, Message}
 
 -- what never changes of a channel: its capacity, and the sources at which tasks wait for room and for a message
 pub record Channel : Type 0 where
   pub capacity : ℕ
   pub room : ℕ
   pub message : ℕ
+
+-- the source at which tasks wait for this
+abbrev pub source_of : Side → Channel → ℕ
+source_of Room channel = channel.room
+source_of Message channel = channel.message
 
 -- handles of one channel
 abbrev pub SameChannel : Channel → Channel → Type 0

@@ -1,4 +1,5 @@
 pub mod Handles
+pub mod Lines
 pub mod Waits
 pub mod Tails
 pub mod Batches

@@ -40,14 +40,7 @@ outcome_of_try (Err (try_send.Full rest)) = Blocked rest
 outcome_of_try (Err (try_send.Closed rest)) = Closed rest
 outcome_of_try (Err (try_send.Memory rest)) = Memory rest
 
--- and to a poll of one
-abbrev pub outcome_of_poll : {C : Type 0} → CorePoll (Result (Unit {0}) (SendFault C)) C → Outcome (Unit {0}) C
-outcome_of_poll (Ready (Ok done)) = Done done
-outcome_of_poll (Ready (Err (send_fault.Closed error))) = Closed error.0
-outcome_of_poll (Ready (Err (send_fault.Memory rest))) = Memory rest
-outcome_of_poll (Pending rest ticket) = Blocked rest
-
--- to a try of a receive
+-- and to one of a receive
 abbrev pub recv_tried : {X : Type 0} → Receive → Result X TryRecvError → Outcome X Receive
 recv_tried call (Ok pair) = Done pair
 recv_tried call (Err try_recv.Empty) = Blocked call

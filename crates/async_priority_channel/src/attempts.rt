@@ -1,21 +1,29 @@
 //! What a party is to do on the core: at once, or once it has waited.
-ghost use Rattle.std.specs.Prelude.{◌≡◌, ⊤, IfSome, refl};
+ghost use Rattle.std.specs.Prelude.{◌≡◌, ⊤, IfSome, IfOk, IfErr, Some, refl};
 ghost use Rattle.std.proofs.Common.{◌∙◌};
 ghost use Rattle.std.specs.Iterator.Adapters.{peekable_can};
 ghost use Rattle.priority_channel_core.specs.Lists.{HasList};
 ghost use Rattle.priority_channel_core.specs.Step.{Step};
 ghost use Rattle.priority_channel_core.specs.Bulk.{Performs};
 ghost use Rattle.priority_channel_laws.specs.States.{HoldsTail};
-ghost use Rattle.async_priority_channel.specs.Waits.{left_over, waits_under, outcome_of_try, outcome_of_poll, recv_tried, recv_polled};
+ghost use Rattle.async_priority_channel.specs.Waits.{left_over, given_back, waits_under, outcome_of_try, recv_tried, recv_polled};
 ghost use Rattle.async_priority_channel.specs.Tails.{tail_of_itself, tail_of_tail};
 
 use crate::kept_waker::KeptWaker;
 use crate::shared::Core;
+use crate::timeouts::Ended;
 use priority_channel_core::awaitable_atomics::Wakes;
 use priority_channel_core::calls::{Answer, Call, CorePoll};
-use priority_channel_core::errors::{RecvFault, SendError, SendFault, TryRecvError, TrySendError};
+use priority_channel_core::errors::{RecvFault, TryRecvError, TrySendError};
 use std::alloc::Allocator;
 use std::iter::Peekable;
+
+/// What a blocked call waits for.
+#[derive(Clone, Copy)]
+pub enum Side {
+    Room,
+    Message,
+}
 
 /// What came of an attempt. What was not done comes back.
 pub enum Outcome<D, C> {
@@ -24,6 +32,21 @@ pub enum Outcome<D, C> {
     Blocked(C),
     Closed(C),
     Memory(C),
+}
+
+impl<D, C> Outcome<D, C> {
+    /// The answer, where it is one; the call, where that is blocked.
+    pub fn answer<O>(self) -> Result<Result<D, Ended<C, O>>, C>
+        ensures answered { IfOk result (λ answer. IfErr answer (λ ended. left_over self ≡ Some (given_back ended))) }
+        ensures blocked { IfErr result (λ call. left_over self ≡ Some call) }
+    {
+        match self {
+            Outcome::Done(done) => Ok(Ok(done)),
+            Outcome::Blocked(call) => Err(call),
+            Outcome::Closed(call) => Ok(Err(Ended::Closed(call))),
+            Outcome::Memory(call) => Ok(Err(Ended::Memory(call))),
+        }
+    }
 }
 
 /// A call that can be attempted until it is done. It need not be `Drop`: whoever attempts it can lose nothing of it.
@@ -36,18 +59,11 @@ pub trait Attempt<T, P: Ord, A: Allocator + Copy>: Sized {
     // Holds of a call and of what may come back of it.
     ghost leaves: { Self → Self → Type 0 };
 
+    /// What it waits for where it is blocked.
+    fn side() -> Side;
+
     /// The call, in one step.
     fn try_on(self, core: &mut Core<T, P, A>) -> (Outcome<Self::Done, Self>, Wakes<KeptWaker<A>, A>)
-        requires { can_attempt self }
-        ensures { IfSome (left_over result.0) (λ rest. can_attempt rest × leaves self rest) };
-
-    /// The call, in one step, or to wait under the ticket in the place, where it is blocked.
-    fn poll_on(
-        self,
-        core: &mut Core<T, P, A>,
-        ticket: &mut Option<u64>,
-        place: &KeptWaker<A>,
-    ) -> (Outcome<Self::Done, Self>, Wakes<KeptWaker<A>, A>)
         requires { can_attempt self }
         ensures { IfSome (left_over result.0) (λ rest. can_attempt rest × leaves self rest) };
 
@@ -69,6 +85,12 @@ impl<T, P: Ord, A: Allocator + Copy> Attempt<T, P, A> for Receive {
 
     ghost still = { λ _ _ _ _ _. tt };
 
+    fn side() -> Side
+        ensures { result ≡ Side.Message }
+    {
+        Side::Message
+    }
+
     fn try_on(self, core: &mut Core<T, P, A>) -> (Outcome<(T, P), Self>, Wakes<KeptWaker<A>, A>)
         ensures step { (reply : _) × (result.0 ≡ recv_tried self reply)
             × Step P.cmp ⟦<KeptWaker<A> as Clone>⟧.is_clone core.old.state
@@ -82,8 +104,11 @@ impl<T, P: Ord, A: Allocator + Copy> Attempt<T, P, A> for Receive {
         };
         (outcome, wakes)
     }
+}
 
-    fn poll_on(
+impl Receive {
+    /// Receives in one step, or waits under the ticket in the place.
+    pub fn poll_on<T, P: Ord, A: Allocator + Copy>(
         self,
         core: &mut Core<T, P, A>,
         ticket: &mut Option<u64>,
@@ -129,25 +154,6 @@ fn send_tried<C>(sent: Result<(), TrySendError<C>>) -> Outcome<(), C>
     }
 }
 
-fn send_polled<C>(
-    sent: CorePoll<Result<(), SendFault<C>>, C>,
-    ticket: &mut Option<u64>,
-) -> Outcome<(), C>
-    ensures outcome { result ≡ outcome_of_poll sent }
-    ensures ticket { ticket.new ≡ waits_under sent }
-{
-    *ticket = None;
-    match sent {
-        CorePoll::Ready(Ok(())) => Outcome::Done(()),
-        CorePoll::Ready(Err(SendFault::Closed(SendError(rest)))) => Outcome::Closed(rest),
-        CorePoll::Ready(Err(SendFault::Memory(rest))) => Outcome::Memory(rest),
-        CorePoll::Pending(rest, given) => {
-            *ticket = Some(given);
-            Outcome::Blocked(rest)
-        }
-    }
-}
-
 /// A send of one pair.
 impl<T, P: Ord, A: Allocator + Copy> Attempt<T, P, A> for (T, P) {
     type Done = ();
@@ -158,6 +164,12 @@ impl<T, P: Ord, A: Allocator + Copy> Attempt<T, P, A> for (T, P) {
 
     ghost still = { λ _ _ _ one other. other ∙ one };
 
+    fn side() -> Side
+        ensures { result ≡ Side.Room }
+    {
+        Side::Room
+    }
+
     fn try_on(self, core: &mut Core<T, P, A>) -> (Outcome<(), Self>, Wakes<KeptWaker<A>, A>)
         ensures whole { IfSome (left_over result.0) (λ rest. rest ≡ self) }
         ensures step { (reply : _) × (result.0 ≡ outcome_of_try reply)
@@ -167,22 +179,6 @@ impl<T, P: Ord, A: Allocator + Copy> Attempt<T, P, A> for (T, P) {
         let (msg, priority) = self;
         let (sent, wakes) = core.try_send(msg, priority);
         (send_tried(sent), wakes)
-    }
-
-    fn poll_on(
-        self,
-        core: &mut Core<T, P, A>,
-        ticket: &mut Option<u64>,
-        place: &KeptWaker<A>,
-    ) -> (Outcome<(), Self>, Wakes<KeptWaker<A>, A>)
-        ensures whole { IfSome (left_over result.0) (λ rest. rest ≡ self) }
-        ensures step { (reply : _) × (result.0 ≡ outcome_of_poll reply) × (ticket.new ≡ waits_under reply)
-            × Step P.cmp ⟦<KeptWaker<A> as Clone>⟧.is_clone core.old.state
-            (Call.PollSend self.0 self.1 ticket.old place.now) (Answer.PollSend reply) result.1 core.new.state }
-    {
-        let (msg, priority) = self;
-        let (sent, wakes) = core.poll_send(msg, priority, *ticket, place);
-        (send_polled(sent, ticket), wakes)
     }
 }
 
@@ -199,6 +195,12 @@ impl<T: Drop, P: Ord + Drop, A: Allocator + Copy, I: Iterator<Item = (T, P)>> At
 
     ghost still = { λ first mid last. tail_of_tail (HasList I.next_gives) first mid last };
 
+    fn side() -> Side
+        ensures { result ≡ Side.Room }
+    {
+        Side::Room
+    }
+
     fn try_on(self, core: &mut Core<T, P, A>) -> (Outcome<(), Self>, Wakes<KeptWaker<A>, A>)
         requires { peekable_can I.can_next self }
         ensures tail { IfSome (left_over result.0) (HoldsTail (HasList I.next_gives) self) }
@@ -209,22 +211,5 @@ impl<T: Drop, P: Ord + Drop, A: Allocator + Copy, I: Iterator<Item = (T, P)>> At
     {
         let (sent, wakes) = core.try_sendv(self);
         (send_tried(sent), wakes)
-    }
-
-    fn poll_on(
-        self,
-        core: &mut Core<T, P, A>,
-        ticket: &mut Option<u64>,
-        place: &KeptWaker<A>,
-    ) -> (Outcome<(), Self>, Wakes<KeptWaker<A>, A>)
-        requires { peekable_can I.can_next self }
-        ensures tail { IfSome (left_over result.0) (HoldsTail (HasList I.next_gives) self) }
-        ensures callable { IfSome (left_over result.0) (peekable_can I.can_next) }
-        ensures step { (reply : _) × (result.0 ≡ outcome_of_poll reply) × (ticket.new ≡ waits_under reply)
-            × Performs (HasList I.next_gives) P.cmp ⟦<KeptWaker<A> as Clone>⟧.is_clone core.old.state
-            (Call.PollSendv self ticket.old place.now) (Answer.PollSendv reply) result.1 core.new.state }
-    {
-        let (sent, wakes) = core.poll_sendv(self, *ticket, place);
-        (send_polled(sent, ticket), wakes)
     }
 }

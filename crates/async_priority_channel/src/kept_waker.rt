@@ -78,11 +78,16 @@ impl<A: Allocator> KeptWaker<A> {
         }
     }
 
+    /// Wakes the thread that is parked here, or keeps the next one that parks from it.
+    pub fn unpark(&self) {
+        self.place.parker.unpark();
+    }
+
     // Wakes the task, once the place's lock is free, and the thread.
     fn wake<R: Wait>(self, rt: &R) {
         let waker = self.place.waker.lock(rt).take();
         drop(waker);
-        self.place.parker.unpark();
+        self.unpark();
     }
 }
 

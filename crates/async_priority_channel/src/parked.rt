@@ -1,14 +1,23 @@
-//! The wait of a thread: polls of a call, each in one hold of the channel's lock, between which the thread is parked.
+//! The wait of a thread: it tries its call, each time in one hold of the channel's lock. Where that is blocked, it tries
+//! again for a while; then it joins the line of those who wait for the same, and sleeps until it is the first; and then the
+//! channel lists it, and it sleeps until it is handed out.
 ghost use Rattle.std.specs.Prelude.{IfErr, IfSome};
 ghost use Rattle.async_priority_channel.specs.Waits.{left_over, given_back};
 
-use crate::attempts::{Attempt, Outcome};
+use crate::attempts::{Attempt, Outcome, Side};
 use crate::kept_waker::KeptWaker;
+use crate::line::{Lead, Line, Listing, Queued};
 use crate::shared::Handle;
 use crate::timeouts::Ended;
 use crate::until::Until;
+use crossbeam_utils::Backoff;
 use std::alloc::Allocator;
 use std::sync::{Wait, WaitMethods};
+
+// How often a call looks again before its thread sleeps: over 959 pauses of the processor, some ten microseconds, which is
+// about what a sleep and a wake take. It lets no other thread run between: where others keep the processors busy, it would
+// not run again for milliseconds.
+const LOOKS: u32 = 20;
 
 impl<T, P: Ord, R: Wait + Clone, A: Allocator + Copy> Handle<T, P, R, A> {
     /// Makes a call at once, in one hold of the lock and without memory for waiting; and where it is blocked, waits until
@@ -22,17 +31,22 @@ impl<T, P: Ord, R: Wait + Clone, A: Allocator + Copy> Handle<T, P, R, A> {
         requires { C.can_attempt call }
         ensures { IfErr result (λ ended. C.can_attempt (given_back ended) × C.leaves call (given_back ended)) }
     {
-        let (outcome, wakes) = call.try_on(&mut self.lock());
-        self.wake_all(wakes);
-        match outcome {
-            Outcome::Done(done) => Ok(done),
-            Outcome::Blocked(call) => self.wait_parked(call, until, place),
-            Outcome::Closed(call) => Err(Ended::Closed(call)),
-            Outcome::Memory(call) => Err(Ended::Memory(call)),
+        match self.attempt(call).answer() {
+            Ok(answer) => answer,
+            Err(blocked) => self.wait_blocked(blocked, until, place),
         }
     }
 
-    fn wait_parked<C: Attempt<T, P, A>, U: Until>(
+    fn attempt<C: Attempt<T, P, A>>(&self, call: C) -> Outcome<C::Done, C>
+        requires { C.can_attempt call }
+        ensures { IfSome (left_over result) (λ rest. C.can_attempt rest × C.leaves call rest) }
+    {
+        let (outcome, wakes) = call.try_on(&mut self.lock());
+        self.wake_all(wakes);
+        outcome
+    }
+
+    fn wait_blocked<C: Attempt<T, P, A>, U: Until>(
         &self,
         call: C,
         until: &U,
@@ -41,61 +55,192 @@ impl<T, P: Ord, R: Wait + Clone, A: Allocator + Copy> Handle<T, P, R, A> {
         requires { C.can_attempt call }
         ensures { IfErr result (λ ended. C.can_attempt (given_back ended) × C.leaves call (given_back ended)) }
     {
+        if let Err(over) = until.left() {
+            return self.end_wait(call, over);
+        }
+        match self.spin(call).answer() {
+            Ok(answer) => answer,
+            Err(blocked) => self.wait_in_line(blocked, until, place),
+        }
+    }
+
+    // Makes the call again for a while, where that was of use of late. Meanwhile the first in line is not listed.
+    fn spin<C: Attempt<T, P, A>>(&self, call: C) -> Outcome<C::Done, C>
+        requires { C.can_attempt call }
+        ensures { IfSome (left_over result) (λ rest. C.can_attempt rest × C.leaves call rest) }
+    {
+        let side = C::side();
+        if !self.spins(side).are_due() {
+            return Outcome::Blocked(call);
+        }
+        let mut line = self.line(side);
+        let spinner = line.begin_spin();
+        self.unlist(&mut line);
+        drop(line);
+        let outcome = self.look_for_a_while(call);
+        let mut line = self.line(side);
+        line.end_spin(spinner);
+        self.rouse(side, &mut line);
+        outcome
+    }
+
+    fn look_for_a_while<C: Attempt<T, P, A>>(&self, call: C) -> Outcome<C::Done, C>
+        requires { C.can_attempt call }
+        ensures { IfSome (left_over result) (λ rest. C.can_attempt rest × C.leaves call rest) }
+    {
+        let spins = self.spins(C::side());
+        let backoff = Backoff::new();
         let mut rest = call;
-        let mut ticket = None;
-        for _ in self.rt().forever() {
-            let left = match until.left() {
-                Ok(left) => left,
-                Err(over) => return self.end_wait(rest, ticket, over),
-            };
-            let Some(place) = self.place_in(&mut *place) else {
-                return Err(Ended::Memory(rest));
-            };
-            match self.poll(rest, &mut ticket, place) {
-                Outcome::Done(done) => return Ok(done),
+        for _ in 0..LOOKS {
+            backoff.spin();
+            match self.attempt(rest) {
                 Outcome::Blocked(blocked) => rest = blocked,
-                Outcome::Closed(unmade) => return Err(Ended::Closed(unmade)),
-                Outcome::Memory(unmade) => return Err(Ended::Memory(unmade)),
+                outcome => {
+                    spins.note(true);
+                    return outcome;
+                }
             }
-            // It may wake early, and asks again.
-            place.park(self.rt(), left);
+        }
+        spins.note(false);
+        Outcome::Blocked(rest)
+    }
+
+    // Takes the first in line off the channel's list.
+    fn unlist(&self, line: &mut Line<A>) {
+        if let Some(ticket) = line.take_ticket() {
+            self.lock().give_up(ticket);
+        }
+    }
+
+    // Where nothing would wake the first in line, the channel lists it, and it sleeps on, or it is woken.
+    fn rouse(&self, side: Side, line: &mut Line<A>) {
+        if !line.is_unattended() {
+            return;
+        }
+        let listing = line.list_first(side, &mut self.lock());
+        match listing {
+            Listing::Listed => {}
+            Listing::Free | Listing::Refused => line.wake_first(),
+        }
+    }
+
+    fn wait_in_line<C: Attempt<T, P, A>, U: Until>(
+        &self,
+        call: C,
+        until: &U,
+        place: &mut Option<KeptWaker<A>>,
+    ) -> Result<C::Done, Ended<C, U::Over>>
+        requires { C.can_attempt call }
+        ensures { IfErr result (λ ended. C.can_attempt (given_back ended) × C.leaves call (given_back ended)) }
+    {
+        let Some(place) = self.place_in(place) else {
+            return Err(Ended::Memory(call));
+        };
+        let side = C::side();
+        let joined = self.line(side).join(place);
+        let Ok(party) = joined else {
+            return Err(Ended::Memory(call));
+        };
+        match self.sleep_in_line(side, party, until, place) {
+            Ok(lead) => {
+                let answer = self.wait_as_first(call, until, place);
+                self.hand_on(side, lead);
+                answer
+            }
+            Err(over) => self.end_wait(call, over),
+        }
+    }
+
+    // Sleeps in line until the party is the first, or the time is over.
+    fn sleep_in_line<U: Until>(
+        &self,
+        side: Side,
+        party: Queued,
+        until: &U,
+        place: &KeptWaker<A>,
+    ) -> Result<Lead, U::Over> {
+        let mut party = party;
+        for _ in self.rt().forever() {
+            let led = self.line(side).lead(party);
+            match led {
+                Ok(lead) => return Ok(lead),
+                Err(waiting) => party = waiting,
+            }
+            match until.left() {
+                Ok(left) => place.park(self.rt(), left),
+                Err(over) => {
+                    let left = self.line(side).leave(party);
+                    match left {
+                        Ok(()) => return Err(over),
+                        // It has become the first meanwhile.
+                        Err(waiting) => party = waiting,
+                    }
+                }
+            }
         }
         unreachable!()
     }
 
-    fn poll<C: Attempt<T, P, A>>(
+    fn wait_as_first<C: Attempt<T, P, A>, U: Until>(
         &self,
         call: C,
-        ticket: &mut Option<u64>,
+        until: &U,
         place: &KeptWaker<A>,
-    ) -> Outcome<C::Done, C>
+    ) -> Result<C::Done, Ended<C, U::Over>>
+        requires { C.can_attempt call }
+        ensures { IfErr result (λ ended. C.can_attempt (given_back ended) × C.leaves call (given_back ended)) }
+    {
+        let side = C::side();
+        let mut rest = call;
+        for _ in self.rt().forever() {
+            let left = match until.left() {
+                Ok(left) => left,
+                Err(over) => return self.end_wait(rest, over),
+            };
+            let listing = self.line(side).list_first(side, &mut self.lock());
+            match listing {
+                // It may wake early, or for what another one has taken by now.
+                Listing::Listed => place.park(self.rt(), left),
+                Listing::Free => {}
+                Listing::Refused => return Err(Ended::Memory(rest)),
+            }
+            match self.look_again(rest).answer() {
+                Ok(answer) => return answer,
+                Err(blocked) => rest = blocked,
+            }
+        }
+        unreachable!()
+    }
+
+    // What a woken thread was woken for is no find of its spinning.
+    fn look_again<C: Attempt<T, P, A>>(&self, call: C) -> Outcome<C::Done, C>
         requires { C.can_attempt call }
         ensures { IfSome (left_over result) (λ rest. C.can_attempt rest × C.leaves call rest) }
     {
-        let (outcome, wakes) = call.poll_on(&mut self.lock(), ticket, place);
-        self.wake_all(wakes);
-        outcome
+        match self.attempt(call) {
+            Outcome::Blocked(blocked) => self.spin(blocked),
+            outcome => outcome,
+        }
     }
 
-    // A last attempt and the end of the wait in one hold of the lock, without memory for waiting. Who leaves has taken
-    // nobody else's wake: what lets one go on hands out all who are listed for it.
+    // Makes the next one in line the first.
+    fn hand_on(&self, side: Side, lead: Lead) {
+        let mut line = self.line(side);
+        self.unlist(&mut line);
+        line.move_up(lead);
+        self.rouse(side, &mut line);
+    }
+
+    // A last attempt, without memory for waiting.
     fn end_wait<C: Attempt<T, P, A>, O: Drop>(
         &self,
         call: C,
-        ticket: Option<u64>,
         over: O,
     ) -> Result<C::Done, Ended<C, O>>
         requires { C.can_attempt call }
         ensures { IfErr result (λ ended. C.can_attempt (given_back ended) × C.leaves call (given_back ended)) }
     {
-        let mut core = self.lock();
-        if let Some(ticket) = ticket {
-            core.give_up(ticket);
-        }
-        let (outcome, wakes) = call.try_on(&mut core);
-        drop(core);
-        self.wake_all(wakes);
-        match outcome {
+        match self.attempt(call) {
             Outcome::Done(done) => Ok(done),
             // Memory that was refused only now is no reason: there was none in time.
             Outcome::Blocked(call) | Outcome::Memory(call) => Err(Ended::Over(call, over)),

@@ -27,8 +27,9 @@ use std::sync::Wait;
 /// `is_full`, `len`, `capacity`, `sender_count` and `receiver_count`.
 ///
 /// A call that answers at once takes the channel's lock for one step, and then wakes whom it lets go on: a message wakes
-/// all receivers that wait, and those that find nothing wait again. A call that waits makes such a step each time that it
-/// looks. `capacity`, `same_channel`, `downgrade` and what makes a future or a guard take no lock. A handle can be moved to
+/// all tasks that wait for one, of which those that find nothing wait again, and the first of the threads that do. A call
+/// that waits makes such a step each time that it looks; on a thread it looks again for some microseconds before it sleeps,
+/// where that was of use of late. `capacity`, `same_channel`, `downgrade` and what makes a future or a guard take no lock. A handle can be moved to
 /// other threads, lent to them, and cloned; the channel closes when its last sender is dropped.
 ///
 /// Of its user's code the channel calls under the lock the order of priorities, and the iterator of a bulk send and its

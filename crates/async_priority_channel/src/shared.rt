@@ -5,8 +5,12 @@ ghost use Rattle.std.specs.Prelude.{◌≡◌, IfOk, IsSome};
 ghost use Rattle.futures.specs.Task.{Hears, IsArmed, Keeps};
 ghost use Rattle.priority_channel_core.specs.State.{opening};
 ghost use Rattle.priority_channel_core.specs.Receives.{capacity_told};
+ghost use Rattle.async_priority_channel.specs.Handles.{source_of};
 
+use crate::attempts::Side;
 use crate::kept_waker::{KeptWaker, wake_all};
+use crate::line::Line;
+use crate::spins::Spins;
 use futures::task::{Context, Source};
 use priority_channel_core::awaitable_atomics::Wakes;
 use priority_channel_core::channel::PriorityQueueChannel;
@@ -18,13 +22,39 @@ use std::sync::{Arc, Mutex, MutexGuard, OnceLock, Wait, WaitMethods};
 
 pub type Core<T, P, A> = PriorityQueueChannel<T, P, KeptWaker<A>, A>;
 
+/// Where those wait who wait for the same: tasks at a source, and threads in a line.
+#[derive(Drop)]
+struct Waits<A: Allocator> {
+    source: Source,
+    // Its lock is taken before the core's where both are, and never within it.
+    line: Mutex<Line<A>>,
+    spins: Spins,
+}
+
+impl<A: Allocator> Model for Waits<A> {
+    ghost use Rattle.std.specs.Prelude.{ℕ};
+
+    ghost Value = { ℕ };
+
+    ghost view = { λ w. w.source.id };
+}
+
+impl<A: Allocator> Waits<A> {
+    fn new(alloc: A) -> Self {
+        Waits {
+            source: Source::new(),
+            line: Mutex::new(Line::new(alloc)),
+            spins: Spins::new(),
+        }
+    }
+}
+
 #[derive(Drop)]
 struct Shared<T, P: Ord, A: Allocator + Copy> {
     alloc: A,
     capacity: u64,
-    // Where tasks wait for room, and for a message.
-    room: Source,
-    message: Source,
+    room: Waits<A>,
+    message: Waits<A>,
     core: Mutex<Core<T, P, A>>,
     // Whether what is pending goes with the last receiver.
     lets_go: AtomicBool,
@@ -37,7 +67,7 @@ impl<T, P: Ord, A: Allocator + Copy> Model for Shared<T, P, A> {
 
     ghost Value = { Channel };
 
-    ghost view = { λ s. record { capacity = s.capacity; room = s.room.id; message = s.message.id } };
+    ghost view = { λ s. record { capacity = s.capacity; room = s.room; message = s.message } };
 }
 
 /// A party's part in a channel: what all of them share, and the permission to wait for its lock.
@@ -75,8 +105,8 @@ impl<T: Drop, P: Ord + Drop, R: Wait + Clone, A: Allocator + Copy> Handle<T, P, 
                 Shared {
                     alloc,
                     capacity,
-                    room: Source::new(),
-                    message: Source::new(),
+                    room: Waits::new(alloc),
+                    message: Waits::new(alloc),
                     core: Mutex::new(core),
                     lets_go: AtomicBool::new(false),
                     identity: OnceLock::new(),
@@ -112,13 +142,32 @@ impl<T, P: Ord, R: Wait + Clone, A: Allocator + Copy> Handle<T, P, R, A> {
     pub fn room(&self) -> &Source
         ensures { result.now.id ≡ self.now.room }
     {
-        &self.shared.room
+        &self.shared.room.source
     }
 
     pub fn message(&self) -> &Source
         ensures { result.now.id ≡ self.now.message }
     {
-        &self.shared.message
+        &self.shared.message.source
+    }
+
+    fn waits(&self, side: Side) -> &Waits<A>
+        ensures { result.now ≡ source_of side self.now }
+    {
+        match side {
+            Side::Room => &self.shared.room,
+            Side::Message => &self.shared.message,
+        }
+    }
+
+    /// The line of the threads that wait for this.
+    pub fn line(&self, side: Side) -> MutexGuard<'_, Line<A>> {
+        self.waits(side).line.lock(&self.rt)
+    }
+
+    /// Whether spinning for this was of use.
+    pub fn spins(&self, side: Side) -> &Spins {
+        &self.waits(side).spins
     }
 
     pub fn rt(&self) -> &R {

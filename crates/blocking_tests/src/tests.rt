@@ -3,6 +3,7 @@ mod ends;
 mod errors;
 mod happy;
 mod limits;
+mod line;
 mod loops;
 mod memory;
 mod mixed;

@@ -1,6 +1,6 @@
 -- Polls of a send, by what the send left and how the poll ended.
 use Rattle.std.proofs.Common.{◌≡◌, ℕ, ◌*◌, ◌≤◌, ◌⊎◌, Bool, true, false, List, [], ◌∷◌, length, refl, ap, arith, inl, inr}
-use Rattle.std.specs.Prelude.{Result, Ok, Err, Option, None, Some, IfSome, ◌==◌, if◌then◌else◌}
+use Rattle.std.specs.Prelude.{Result, Ok, Err, Option, None, Some, IfSome, IfNone, ◌==◌, if◌then◌else◌}
 use Rattle.std.proofs.lemmas.Bool.{cases_lt}
 use Rattle.std.proofs.lemmas.Bool.Decides.{eqb_tells}
 use Rattle.std.specs.declared.cmp.Ordering.{Ordering}
@@ -12,16 +12,17 @@ use Rattle.priority_channel_parts.specs.declared.errors.TrySendError.{TrySendErr
 use Rattle.priority_channel_parts.specs.declared.errors.TrySendError.TheVariants as send_error
 use Rattle.priority_channel_parts.specs.declared.errors.SendFault.{SendFault}
 use Rattle.priority_channel_parts.specs.declared.errors.SendFault.TheVariants as send_fault
-use Rattle.priority_channel_core.specs.State.{State, Handed, room}
+use Rattle.priority_channel_core.specs.State.{State, Handed, nobody, room}
 use Rattle.priority_channel_parts.specs.Waiting.{is_given_listed}
 use Rattle.priority_channel_core.specs.Good.{IsGood}
 use Rattle.priority_channel_core.specs.Sends.{AddsFront, Sends}
 use Rattle.priority_channel_core.specs.Receives.{Receives}
 use Rattle.priority_channel_parts.specs.Digits.{digits}
 use Rattle.priority_channel_core.specs.Channel.{CountedState, ComparesAtMost, search_bound}
-use Rattle.priority_channel_core.specs.Polls.{poll_as_list, unlisted, WaitsForRoom, KeepsWaiting, PollsFront, PollsSend}
+use Rattle.priority_channel_core.specs.Polls.{poll_as_list, send_waits, unlisted, WaitsForRoom, KeepsWaiting, PollsFront, PollsSend}
 use Rattle.priority_channel_core.specs.Bulk.{kept_by, SameReply, SamePoll, Performs}
 use Rattle.priority_channel_core.proofs.ChannelLemmas.{digits_shorter}
+use Rattle.priority_channel_core.proofs.SendLemmas.{refuses_full}
 
 -- a poll of one pair that found a full channel
 pub polls_full : {T P W : Type 0} (is_clone : W → W → Type 0) (old mid new : State T P W) (handed : Handed W) (sent pair : T × P) (given : Option ℕ) (waker : W)
@@ -31,6 +32,13 @@ polls_full is_clone old mid new handed sent pair given waker (Ready (Ok done)) s
 polls_full is_clone old mid new handed sent pair given waker (Ready (Err (send_fault.Closed e))) sends waits = absurd waits
 polls_full is_clone old mid new handed sent pair given waker (Ready (Err (send_fault.Memory held))) sends waits = rw waits.0 (mid, inr sends, waits.1)
 polls_full is_clone old mid new handed sent pair given waker (Pending held ticket) sends waits = rw waits.0 (mid, sends, waits.1)
+
+-- to be listed for room, or to be refused that, is a poll of a send into a full channel
+pub lists_full : {T P W : Type 0} (is_clone : W → W → Type 0) (old new : State T P W) (pair : T × P) (given : Option ℕ) (waker : W) (listed : Option ℕ)
+    → room old ≡ 0 → old.is_closed ≡ false → IfSome listed (λ ticket. WaitsForRoom is_clone given waker old ticket new)
+    → IfNone listed (new ≡ unlisted given old) → PollsSend is_clone old (pair ∷ []) given waker (poll_as_list (send_waits pair listed)) nobody new
+lists_full is_clone old new pair given waker (Some ticket) full opened waits refused = (old, refuses_full old (pair ∷ []) full opened, waits)
+lists_full is_clone old new pair given waker None full opened waits refused = (old, inr (refuses_full old (pair ∷ []) full opened), refused)
 
 -- what is kept can be polled again
 pub kept_callable : {T P W M : Type 0} (can : M → Type 0) (is_clone : W → W → Type 0) (given : Option ℕ) (waker : W) (m : M) (mid new : State T P W)

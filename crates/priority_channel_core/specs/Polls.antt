@@ -1,5 +1,5 @@
 -- Polls: a send or a receive, and then a place in a waiting list where the channel was full or empty.
-use Rattle.std.specs.Prelude.{◌≡◌, ℕ, ◌⊎◌, List, [], ◌∷◌, ⊤, Option, Result, Ok, Err}
+use Rattle.std.specs.Prelude.{◌≡◌, ℕ, ◌⊎◌, List, [], ◌∷◌, ⊤, Option, Some, None, Result, Ok, Err}
 use Rattle.std.specs.declared.cmp.Ordering.{Ordering}
 use Rattle.priority_channel_core.specs.declared.calls.CorePoll.{CorePoll}
 use Rattle.priority_channel_core.specs.declared.calls.CorePoll.TheVariants.{Ready, Pending}
@@ -21,6 +21,16 @@ poll_as_list (Ready (Ok done)) = Ready (Ok done)
 poll_as_list (Ready (Err (send_fault.Closed e))) = Ready (Err (send_fault.Closed (record { 0 = e.0 ∷ [] })))
 poll_as_list (Ready (Err (send_fault.Memory pair))) = Ready (Err (send_fault.Memory (pair ∷ [])))
 poll_as_list (Pending pair ticket) = Pending (pair ∷ []) ticket
+
+-- the answer of a receive's poll that found no message: it waits under this ticket, or was refused that
+abbrev pub recv_waits : {A : Type 0} → Option ℕ → CorePoll (Result A RecvFault) (Unit {0})
+recv_waits (Some ticket) = Pending tt ticket
+recv_waits None = Ready (Err recv_fault.Memory)
+
+-- and of a send's poll that found no room
+abbrev pub send_waits : {K : Type 0} → K → Option ℕ → CorePoll (Result (Unit {0}) (SendFault K)) K
+send_waits kept (Some ticket) = Pending kept ticket
+send_waits kept None = Ready (Err (send_fault.Memory kept))
 
 -- a fact for the answer Memory of a send's poll alone
 abbrev pub OnMemoryFault : {A : Type 0} → CorePoll (Result (Unit {0}) (SendFault A)) A → Type 0 → Type 0

@@ -1,6 +1,6 @@
 -- A ticket in a waiting list whose tickets rise.
 use Rattle.std.proofs.Common.{◌≡◌, ℕ, zero, suc, ◌+◌, ◌<◌, ◌≤◌, ◌≢◌, Bool, true, false, not, List, [], ◌∷◌, length, get_or, set, refl, sym, ap, ◌∙◌, subst, arith, inl, inr}
-use Rattle.std.specs.Prelude.{◌==◌, if◌then◌else◌, Some}
+use Rattle.std.specs.Prelude.{◌==◌, ◌++◌, if◌then◌else◌, Option, Some, None, option_to_list}
 use Rattle.std.specs.List.{All, AllWithin, HoldsAt, filter, remove}
 use Rattle.std.proofs.lemmas.Bool.{cases_lt, ne_eqb}
 use Rattle.std.proofs.Common.{eq-eqb}
@@ -117,3 +117,8 @@ module _ {W : Type 0} where
 
   pub rising-without : (xs : List (ℕ × W)) (t : ℕ) → IsRising xs → IsRising (without t xs)
   rising-without xs t rising = AllPairs-filter (λ a b. a.0 < b.0) (λ a. not (a.0 == t)) xs rising
+
+  -- those behind the first rise as before
+  pub rising-behind : (first : Option (ℕ × W)) (others : List (ℕ × W)) → IsRising (option_to_list first ++ others) → IsRising others
+  rising-behind None others rising = rising
+  rising-behind (Some first) others rising = λ i j d before within. rising (suc i) (suc j) d (omega arith) (omega arith)

@@ -1,5 +1,5 @@
-//! The parts of a channel's core: the bag of pending pairs, the word with its two waiting lists, the counter of comparisons
-//! that contracts alone see, and the errors.
+//! The parts of a channel's core: the bag of pending pairs, the word with its two waiting lists, the waiting list itself,
+//! the counter of comparisons that contracts alone see, and the errors.
 //!
 //! A caller has them in `priority_channel_core`, which is made of them.
 #![tactic(auto)]
@@ -11,4 +11,4 @@ pub mod errors;
 pub mod item;
 pub mod laws;
 mod sift;
-mod waiting_list;
+pub mod waiting_list;

@@ -1,5 +1,5 @@
 //! The parties that wait for one thing.
-ghost use Rattle.std.specs.Prelude.{◌≡◌, ℕ, ◌+◌, ◌<◌, ◌≤◌, false, IfSome, IsSome, true, IfNone, None, List, [], length, ◌^◌};
+ghost use Rattle.std.specs.Prelude.{◌≡◌, ℕ, ◌+◌, ◌<◌, ◌≤◌, false, IfSome, IsSome, true, IfNone, None, List, [], ◌++◌, length, option_to_list, ◌^◌};
 ghost use Rattle.std.specs.List.{All, HoldsAt};
 ghost use Rattle.priority_channel_parts.specs.Digits.{digits};
 ghost use Rattle.priority_channel_parts.specs.Waiting.{is_listed, is_given_listed, without, with_waker, without_given, TakesPlace};
@@ -79,6 +79,16 @@ impl<W, A: Allocator> WaitingList<W, A> {
         if let Some(ticket) = ticket {
             self.remove(ticket, comparisons);
         }
+    }
+
+    /// Takes off the party with the least ticket, if there is one.
+    pub fn take_first(&mut self) -> Option<(u64, W)>
+    where
+        W: Drop,
+        ensures taken { self.old ≡ option_to_list result ++ self.new }
+        ensures nobody { IfNone result (self.old ≡ []) }
+    {
+        self.entries.take_first()
     }
 
     /// Takes the whole list. Takes no memory.

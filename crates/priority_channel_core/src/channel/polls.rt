@@ -1,11 +1,11 @@
 //! The calls that wait: a send or a receive, and then a place in a waiting list where the channel was full or empty.
-ghost use Rattle.std.specs.Prelude.{◌≡◌, ◌≢◌, ◌⊎◌, ◌+◌, ◌-◌, ◌*◌, ◌^◌, ℕ, List, [], length, false, true, Some, IfSome, Err};
+ghost use Rattle.std.specs.Prelude.{◌≡◌, ◌≢◌, ◌⊎◌, ◌+◌, ◌-◌, ◌*◌, ◌^◌, ℕ, List, [], length, false, true, Some, IfSome, IfNone, IsSome, Err};
 ghost use Rattle.std.specs.Iterator.Adapters.{peekable_can};
 ghost use Rattle.std.specs.declared.iter.Ahead.{Ahead};
 ghost use Rattle.priority_channel_parts.specs.Digits.{digits};
 ghost use Rattle.priority_channel_core.specs.Lists.{HasList};
 ghost use Rattle.priority_channel_parts.specs.Waiting.{is_given_listed};
-ghost use Rattle.priority_channel_core.specs.Polls.{unlisted, KeepsWaiting, PollsFront, OnMemoryFault};
+ghost use Rattle.priority_channel_core.specs.Polls.{unlisted, recv_waits, send_waits, WaitsForRoom, WaitsForMessage, KeepsWaiting, PollsFront, OnMemoryFault};
 
 use crate::awaitable_atomics::Wakes;
 use crate::calls::{Answer, Call, CorePoll};
@@ -40,6 +40,22 @@ impl<T, P: Ord, W: Clone, A: Allocator + Copy> PriorityQueueChannel<T, P, W, A> 
         }
     }
 
+    /// Lists a party that waits for a message: the poll of a receive from an empty and open channel. The answer is its
+    /// ticket, under which a later poll finds it; None where that poll would answer `Memory`.
+    ///
+    /// It is for a caller that has the party's waker and not its turn, such as one that lets go of a place in a line.
+    pub fn list_for_message(&mut self, ticket: Option<u64>, waker: &W) -> Option<u64>
+        requires empty { self.old.state.pending ≡ [] }
+        requires opened { self.old.state.is_closed ≡ false }
+        ensures step { Step P.cmp W.is_clone self.old.state (Call.PollRecv ticket waker.now) (Answer.PollRecv (recv_waits result)) nobody self.new.state }
+        ensures listed { IfSome result (λ given. WaitsForMessage W.is_clone ticket waker.now self.old.state given self.new.state) }
+        ensures refused { IfNone result (self.new.state ≡ unlisted ticket self.old.state) }
+        ensures renewed { is_given_listed ticket self.old.state.message_waiters ≡ true → W.is_infallible waker.now → IsSome result }
+        ensures cost { ComparesAtMost 0 (search_bound self.old.state) self.old self.new }
+    {
+        self.length.listen_incr(ticket, waker)
+    }
+
     fn wait_for_message(
         &mut self,
         ticket: Option<u64>,
@@ -51,7 +67,7 @@ impl<T, P: Ord, W: Clone, A: Allocator + Copy> PriorityQueueChannel<T, P, W, A> 
         ensures renewed { is_given_listed ticket self.old.state.message_waiters ≡ true → W.is_infallible waker.now → (given : ℕ) × (result ≡ CorePoll.Pending tt given) }
         ensures cost { ComparesAtMost 0 (search_bound self.old.state) self.old self.new }
     {
-        match self.length.listen_incr(ticket, waker) {
+        match self.list_for_message(ticket, waker) {
             Some(ticket) => CorePoll::Pending((), ticket),
             None => CorePoll::Ready(Err(RecvFault::Memory)),
         }
@@ -95,6 +111,22 @@ impl<T, P: Ord, W: Clone, A: Allocator + Copy> PriorityQueueChannel<T, P, W, A> 
         }
     }
 
+    /// Lists a party that waits for room, as `list_for_message` does one that waits for a message: the poll of a send of
+    /// any pair into a full and open channel.
+    pub fn list_for_room(&mut self, ticket: Option<u64>, waker: &W) -> Option<u64>
+        requires full { room self.old.state ≡ 0 }
+        requires opened { self.old.state.is_closed ≡ false }
+        ensures step { (msg : T) (priority : P) → Step P.cmp W.is_clone self.old.state (Call.PollSend msg priority ticket waker.now)
+            (Answer.PollSend (send_waits (msg, priority) result)) nobody self.new.state }
+        ensures listed { IfSome result (λ given. WaitsForRoom W.is_clone ticket waker.now self.old.state given self.new.state) }
+        ensures refused { IfNone result (self.new.state ≡ unlisted ticket self.old.state) }
+        ensures renewed { is_given_listed ticket self.old.state.room_waiters ≡ true → W.is_infallible waker.now → IsSome result }
+        ensures good { IsGood self.new.state }
+        ensures cost { ComparesAtMost 0 (search_bound self.old.state) self.old self.new }
+    {
+        self.length.listen_decr(ticket, waker)
+    }
+
     fn wait_for_room<K>(
         &mut self,
         kept: K,
@@ -108,10 +140,10 @@ impl<T, P: Ord, W: Clone, A: Allocator + Copy> PriorityQueueChannel<T, P, W, A> 
         ensures good { IsGood self.new.state }
         ensures cost { ComparesAtMost 0 (search_bound self.old.state) self.old self.new }
     {
-        let Some(ticket) = self.length.listen_decr(ticket, waker) else {
-            return CorePoll::Ready(Err(SendFault::Memory(kept)));
-        };
-        CorePoll::Pending(kept, ticket)
+        match self.list_for_room(ticket, waker) {
+            Some(ticket) => CorePoll::Pending(kept, ticket),
+            None => CorePoll::Ready(Err(SendFault::Memory(kept))),
+        }
     }
 
     /// Sends a pair, or waits for room under the answered ticket and hands the pair back for the next poll. Tickets

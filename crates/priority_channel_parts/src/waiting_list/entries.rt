@@ -1,5 +1,5 @@
 //! The entries of a waiting list. Their tickets are seen in this file alone, so who looks for one has to count.
-ghost use Rattle.std.specs.Prelude.{◌≡◌, ◌+◌, ◌<◌, OnErr, OnOk, [], ◌∷◌, ◌++◌, length, set};
+ghost use Rattle.std.specs.Prelude.{◌≡◌, ◌+◌, ◌<◌, OnErr, OnOk, IfNone, [], ◌∷◌, ◌++◌, length, set, option_to_list};
 ghost use Rattle.std.specs.List.{HoldsAt, remove};
 ghost use Rattle.std.specs.Ordering.{nat_cmp};
 
@@ -76,6 +76,19 @@ impl<W, A: Allocator> Entries<W, A> {
         ensures { self.new ≡ remove self.old place }
     {
         let _entry = self.listed.remove(place);
+    }
+
+    /// Takes off what is listed first.
+    pub fn take_first(&mut self) -> Option<(u64, W)>
+    where
+        W: Drop,
+        ensures taken { self.old ≡ option_to_list result ++ self.new }
+        ensures nobody { IfNone result (self.old ≡ []) }
+    {
+        if self.listed.is_empty() {
+            return None;
+        }
+        Some(self.listed.remove(0))
     }
 
     /// Takes the whole list. Takes no memory.

@@ -1,4 +1,4 @@
-use Rattle.async_priority_channel.proofs.shared.Handle.wait_parked.Given as goal
+use Rattle.async_priority_channel.proofs.shared.Handle.look_for_a_while.Given as goal
 
 -- what is left of the call came back of it, and may be attempted
 abbrev pub invariant-loop : goal.invariant-loop
