@@ -15,6 +15,7 @@ use std::time::Duration;
 /// A waker wakes its task also when it is dropped. Were each poll to make a new one, then a poll of a future that is
 /// still listed would drop the listed one, wake its own task, and be polled again at once, for ever. In a shared place
 /// a poll finds the waker of its own task, and leaves it.
+#[derive(Drop)]
 pub struct KeptWaker<A: Allocator> {
     place: Arc<Place, A>,
 }
@@ -100,12 +101,6 @@ impl<A: Allocator> Clone for KeptWaker<A> {
     fn clone(&self) -> Result<Self, AllocError> {
         let place = Arc::try_clone(&self.place)?;
         Ok(KeptWaker { place })
-    }
-}
-
-impl<A: Allocator> Drop for KeptWaker<A> {
-    fn drop(self) {
-        let KeptWaker { place: _ } = self;
     }
 }
 

@@ -87,5 +87,5 @@ fn ends<T: Drop, P: Ord + Drop, R: Wait + Clone, A: Allocator + Copy>(
     ensures same { IfOk result (λ ends. ends.1 ≡ ends.0) }
 {
     let (sending, receiving) = Handle::pair(rt, alloc, cap, core)?;
-    Ok((Sender::over(sending), Receiver::over(receiving)))
+    Ok((Sender { handle: sending }, Receiver { handle: receiving }))
 }

@@ -38,8 +38,9 @@ impl<T, P: Ord, R: Wait + Clone, A: Allocator + Copy> Receiver<T, P, R, A> {
     {
         make_place(batch, limit, self.len());
         let place = limit.min(batch.capacity() - batch.len());
-        let (received, wakes) = self.handle.lock().try_recv_many(batch, place);
-        self.handle.wake_all(wakes);
+        let mut core = self.handle.lock();
+        let (received, wakes) = core.try_recv_many(batch, place);
+        self.handle.release(core, wakes);
         match received {
             Ok(0) if limit > 0 => Err(TryRecvManyError::Memory),
             Ok(count) => Ok(count),

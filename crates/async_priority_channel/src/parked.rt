@@ -41,8 +41,9 @@ impl<T, P: Ord, R: Wait + Clone, A: Allocator + Copy> Handle<T, P, R, A> {
         requires { C.can_attempt call }
         ensures { IfSome (left_over result) (λ rest. C.can_attempt rest × C.leaves call rest) }
     {
-        let (outcome, wakes) = call.try_on(&mut self.lock());
-        self.wake_all(wakes);
+        let mut core = self.lock();
+        let (outcome, wakes) = call.try_on(&mut core);
+        self.release(core, wakes);
         outcome
     }
 

@@ -25,10 +25,12 @@ use std::sync::Wait;
 /// `is_full`, `len`, `capacity`, `sender_count` and `receiver_count`.
 ///
 /// A call that answers at once takes the channel's lock for one step, and then wakes whom it lets go on: a receive wakes
-/// all senders that wait, and those that find no room wait again. A call that waits makes such a step each time that it
-/// looks, and a receive of many looks at the length before. `capacity`, `same_channel`, `downgrade` and what makes a
-/// future, a stream, an iterator or a guard take no lock. A handle can be moved to other threads, lent to them, and
-/// cloned: each message goes to one receiver. The channel closes when its last receiver is dropped.
+/// all tasks that wait for room, of which those that find none wait again, and the first of the threads that do. A call
+/// that waits makes such a step each time that it looks; on a thread it looks again for some microseconds before it
+/// sleeps, where that was of use of late. A receive of many looks at the length before. `capacity`, `same_channel`,
+/// `downgrade` and what makes a future, a stream, an iterator or a guard take no lock. A handle can be moved to other
+/// threads, lent to them, and cloned: each message goes to one receiver. The channel closes when its last receiver is
+/// dropped.
 ///
 /// Of its user's code the channel calls under the lock the order of priorities, what `peek_with` is given, and the clone
 /// of a priority that `peek_priority` makes. These must neither use the channel nor own a handle of it.
@@ -66,12 +68,6 @@ impl<T: Drop, P: Ord + Drop, R: Wait + Clone, A: Allocator + Copy> Receiver<T, P
 }
 
 impl<T, P: Ord, R: Wait + Clone, A: Allocator + Copy> Receiver<T, P, R, A> {
-    pub(crate) fn over(handle: Handle<T, P, R, A>) -> Self
-        ensures { result ≡ handle }
-    {
-        Receiver { handle }
-    }
-
     /// Receives a message at once, with its priority. The error is `Empty` where none is pending, and `Closed` where
     /// none can come any more; what is pending in a closed channel is still received.
     ///
@@ -86,8 +82,9 @@ impl<T, P: Ord, R: Wait + Clone, A: Allocator + Copy> Receiver<T, P, R, A> {
     /// }
     /// ```
     pub fn try_recv(&self) -> Result<(T, P), TryRecvError> {
-        let (received, wakes) = self.handle.lock().try_recv();
-        self.handle.wake_all(wakes);
+        let mut core = self.handle.lock();
+        let (received, wakes) = core.try_recv();
+        self.handle.release(core, wakes);
         received
     }
 
@@ -179,8 +176,7 @@ impl<T: Drop, P: Ord + Drop, R: Wait + Clone, A: Allocator + Copy> Drop for Rece
             core.nobody()
         };
         let receivers = core.receiver_count();
-        drop(core);
-        handle.wake_all(wakes);
+        handle.release(core, wakes);
         if receivers == 0 && handle.lets_go() {
             let_go(&handle);
         }
@@ -192,8 +188,9 @@ fn let_go<T: Drop, P: Ord + Drop, R: Wait + Clone, A: Allocator + Copy>(
     handle: &Handle<T, P, R, A>,
 ) {
     for _ in 0..handle.len() {
-        let (received, wakes) = handle.lock().try_recv();
-        handle.wake_all(wakes);
+        let mut core = handle.lock();
+        let (received, wakes) = core.try_recv();
+        handle.release(core, wakes);
         drop(received);
     }
 }

@@ -29,8 +29,9 @@ use std::sync::Wait;
 /// A call that answers at once takes the channel's lock for one step, and then wakes whom it lets go on: a message wakes
 /// all tasks that wait for one, of which those that find nothing wait again, and the first of the threads that do. A call
 /// that waits makes such a step each time that it looks; on a thread it looks again for some microseconds before it sleeps,
-/// where that was of use of late. `capacity`, `same_channel`, `downgrade` and what makes a future or a guard take no lock. A handle can be moved to
-/// other threads, lent to them, and cloned; the channel closes when its last sender is dropped.
+/// where that was of use of late. `capacity`, `same_channel`, `downgrade` and what makes a future or a guard take no
+/// lock. A handle can be moved to other threads, lent to them, and cloned; the channel closes when its last sender is
+/// dropped.
 ///
 /// Of its user's code the channel calls under the lock the order of priorities, and the iterator of a bulk send and its
 /// drop. These must neither use the channel nor own a handle of it.
@@ -66,8 +67,9 @@ impl<T: Drop, P: Ord + Drop, R: Wait + Clone, A: Allocator + Copy> Sender<T, P, 
         ensures tail { IfErr result (λ error. HoldsTail (HasList I.next_gives) msgs (refused error)) }
         ensures callable { IfErr result (λ error. peekable_can I.can_next (refused error)) }
     {
-        let (sent, wakes) = self.handle.lock().try_sendv(msgs);
-        self.handle.wake_all(wakes);
+        let mut core = self.handle.lock();
+        let (sent, wakes) = core.try_sendv(msgs);
+        self.handle.release(core, wakes);
         sent
     }
 
@@ -108,12 +110,6 @@ impl<T: Drop, P: Ord + Drop, R: Wait + Clone, A: Allocator + Copy> Sender<T, P, 
 }
 
 impl<T, P: Ord, R: Wait + Clone, A: Allocator + Copy> Sender<T, P, R, A> {
-    pub(crate) fn over(handle: Handle<T, P, R, A>) -> Self
-        ensures { result ≡ handle }
-    {
-        Sender { handle }
-    }
-
     /// Sends a message at once, or gives it back: `Closed` where the channel is closed, `Full` where it has no room,
     /// and `Memory` where none could be made.
     ///
@@ -128,8 +124,9 @@ impl<T, P: Ord, R: Wait + Clone, A: Allocator + Copy> Sender<T, P, R, A> {
     pub fn try_send(&self, msg: T, priority: P) -> Result<(), TrySendError<(T, P)>>
         ensures { IfErr result (λ error. refused error ≡ (msg, priority)) }
     {
-        let (sent, wakes) = self.handle.lock().try_send(msg, priority);
-        self.handle.wake_all(wakes);
+        let mut core = self.handle.lock();
+        let (sent, wakes) = core.try_send(msg, priority);
+        self.handle.release(core, wakes);
         sent
     }
 
@@ -220,8 +217,7 @@ impl<T: Drop, P: Ord + Drop, R: Wait + Clone, A: Allocator + Copy> Drop for Send
         } else {
             core.nobody()
         };
-        drop(core);
-        handle.wake_all(wakes);
+        handle.release(core, wakes);
     }
 }
 

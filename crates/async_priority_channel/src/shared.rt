@@ -133,9 +133,11 @@ impl<T, P: Ord, R: Wait + Clone, A: Allocator + Copy> Handle<T, P, R, A> {
         self.shared.core.lock(&self.rt)
     }
 
-    /// Wakes those whom a call handed out. Its lock must be free.
+    /// Frees the lock, and then wakes those whom the call in this hold handed out. Nothing else wakes them, so none is
+    /// woken under the lock.
     #[inline(always)]
-    pub fn wake_all(&self, wakes: Wakes<KeptWaker<A>, A>) {
+    pub fn release(&self, core: MutexGuard<'_, Core<T, P, A>>, wakes: Wakes<KeptWaker<A>, A>) {
+        drop(core);
         wake_all(&self.rt, wakes);
     }
 
@@ -229,8 +231,9 @@ impl<T, P: Ord, R: Wait + Clone, A: Allocator + Copy> Handle<T, P, R, A> {
     }
 
     pub fn close(&self) -> bool {
-        let (was_open, wakes) = self.lock().close();
-        self.wake_all(wakes);
+        let mut core = self.lock();
+        let (was_open, wakes) = core.close();
+        self.release(core, wakes);
         was_open
     }
 

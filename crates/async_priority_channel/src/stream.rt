@@ -78,8 +78,7 @@ impl<A: Allocator + Copy> Receives<A> {
         if !matches!(&outcome, Outcome::Blocked(_)) {
             self.give_up_on(&mut core);
         }
-        drop(core);
-        handle.wake_all(wakes);
+        handle.release(core, wakes);
         outcome
     }
 
@@ -96,8 +95,9 @@ impl<A: Allocator + Copy> Receives<A> {
         let Some(place) = handle.register(cx, handle.message(), &mut self.place) else {
             return Outcome::Memory(Receive);
         };
-        let (outcome, wakes) = Receive.poll_on(&mut handle.lock(), &mut self.ticket, place);
-        handle.wake_all(wakes);
+        let mut core = handle.lock();
+        let (outcome, wakes) = Receive.poll_on(&mut core, &mut self.ticket, place);
+        handle.release(core, wakes);
         outcome
     }
 

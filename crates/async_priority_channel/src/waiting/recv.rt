@@ -68,8 +68,9 @@ impl<T: Drop, P: Ord + Drop, R: Wait + Clone, A: Allocator + Copy> Future for Re
         }
         let receiver = self.receiver;
         let handle = &receiver.handle;
-        let (tried, wakes) = self.state.try_on(&mut handle.lock());
-        handle.wake_all(wakes);
+        let mut core = handle.lock();
+        let (tried, wakes) = self.state.try_on(&mut core);
+        handle.release(core, wakes);
         if let Poll::Ready(received) = tried {
             return Poll::Ready(received);
         }
@@ -77,8 +78,9 @@ impl<T: Drop, P: Ord + Drop, R: Wait + Clone, A: Allocator + Copy> Future for Re
             self.state.give_up_on(&mut handle.lock());
             return Poll::Ready(Err(RecvFault::Memory));
         };
-        let (polled, wakes) = self.state.poll_on(&mut handle.lock(), waker);
-        handle.wake_all(wakes);
+        let mut core = handle.lock();
+        let (polled, wakes) = self.state.poll_on(&mut core, waker);
+        handle.release(core, wakes);
         polled
     }
 }

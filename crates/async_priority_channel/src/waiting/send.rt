@@ -70,8 +70,9 @@ impl<T: Drop, P: Ord + Drop, R: Wait + Clone, A: Allocator + Copy> Future for Se
         }
         let sender = self.sender;
         let handle = &sender.handle;
-        let (tried, wakes) = self.state.try_on(&mut handle.lock());
-        handle.wake_all(wakes);
+        let mut core = handle.lock();
+        let (tried, wakes) = self.state.try_on(&mut core);
+        handle.release(core, wakes);
         if let Poll::Ready(sent) = tried {
             return Poll::Ready(sent);
         }
@@ -80,8 +81,9 @@ impl<T: Drop, P: Ord + Drop, R: Wait + Clone, A: Allocator + Copy> Future for Se
             let Some(pair) = unsent else { unreachable!() };
             return Poll::Ready(Err(SendFault::Memory(pair)));
         };
-        let (polled, wakes) = self.state.poll_on(&mut handle.lock(), waker);
-        handle.wake_all(wakes);
+        let mut core = handle.lock();
+        let (polled, wakes) = self.state.poll_on(&mut core, waker);
+        handle.release(core, wakes);
         polled
     }
 }

@@ -77,8 +77,9 @@ impl<
     {
         let sender = self.sender;
         let handle = &sender.handle;
-        let (tried, wakes) = self.state.try_on(&mut handle.lock());
-        handle.wake_all(wakes);
+        let mut core = handle.lock();
+        let (tried, wakes) = self.state.try_on(&mut core);
+        handle.release(core, wakes);
         tried
     }
 
@@ -102,8 +103,9 @@ impl<
             let Some(rest) = unsent else { unreachable!() };
             return Poll::Ready(Err(SendFault::Memory(rest)));
         };
-        let (polled, wakes) = self.state.poll_on(&mut handle.lock(), waker);
-        handle.wake_all(wakes);
+        let mut core = handle.lock();
+        let (polled, wakes) = self.state.poll_on(&mut core, waker);
+        handle.release(core, wakes);
         polled
     }
 }
