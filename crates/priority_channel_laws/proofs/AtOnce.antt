@@ -1,5 +1,5 @@
 -- Tries of what is kept of a future: where they answer they are polls, with whatever waker.
-use Rattle.std.proofs.Common.{◌≡◌, ◌≤◌, ℕ, List, length, ap, refl, inl, arith}
+use Rattle.std.proofs.Common.{◌≡◌, ◌≤◌, ◌*◌, ℕ, List, length, ap, refl, inl, arith}
 use Rattle.std.specs.Prelude.{Option, None, Some, IfSome, IfErr, Result, Ok, Err}
 use Rattle.futures.specs.declared.task.Poll.{Poll}
 use Rattle.futures.specs.declared.task.Poll.TheVariants as poll
@@ -12,6 +12,7 @@ use Rattle.priority_channel_parts.specs.declared.errors.SendFault.TheVariants as
 use Rattle.priority_channel_parts.specs.declared.errors.TryRecvError.TheVariants as recv_error
 use Rattle.priority_channel_parts.specs.declared.errors.TrySendError.{TrySendError}
 use Rattle.priority_channel_parts.specs.declared.errors.TrySendError.TheVariants as send_error
+use Rattle.priority_channel_parts.specs.Digits.{digits}
 use Rattle.priority_channel_parts.specs.Errors.{refused}
 use Rattle.priority_channel_core.specs.declared.calls.Call.TheVariants as call
 use Rattle.priority_channel_core.specs.declared.calls.Answer.TheVariants as answer
@@ -21,10 +22,11 @@ use Rattle.priority_channel_core.specs.Good.{IsGood}
 use Rattle.priority_channel_core.specs.Step.{Step}
 use Rattle.priority_channel_core.specs.Bulk.{Performs}
 use Rattle.priority_channel_core.specs.Polls.{unlisted}
-use Rattle.priority_channel_core.specs.Channel.{CountedState, search_bound}
+use Rattle.priority_channel_core.specs.Sends.{AddsFront}
+use Rattle.priority_channel_core.specs.Channel.{CountedState, ComparesAtMost, search_bound}
 use Rattle.priority_channel_core.proofs.PollLemmas.{performs_poll, sent_searches_less}
 use Rattle.priority_channel_laws.specs.Future.Task.{Sendv}
-use Rattle.priority_channel_laws.specs.States.{Holding, done, told_at_once, left_at_once, handed_back, send_of, recv_of, PollsKept}
+use Rattle.priority_channel_laws.specs.States.{Holding, done, told_at_once, left_at_once, handed_back, send_of, recv_of, TriesFront, PollsKept}
 use Rattle.priority_channel_laws.specs.World.{GivesUpTicket}
 use Rattle.priority_channel_laws.proofs.StateLemmas.{if_some}
 
@@ -108,6 +110,35 @@ pub pending_stays : {T P W R : Type 0} (cmp : P → P → Ordering) (is_clone : 
 pending_stays {T} {P} {W} cmp is_clone mid new (poll.Ready r) given good gave waits =
     ap (λ (s : State T P W). length s.pending) (given_up cmp is_clone mid.state new.state given good gave).0
 pending_stays {T} {P} {W} cmp is_clone mid new poll.Pending given good gave waits = ap (λ (s : CountedState T P W). length s.state.pending) waits
+
+-- whatever its iterator, a try of a bulk send sends a front, and leaves a good state
+module _ {T P W R : Type 0} (cmp : P → P → Ordering) (is_clone : W → W → Type 0) (mid new : CountedState T P W) (given : Option ℕ) where
+  answered_unlisted : (told : Poll R) → IsGood mid.state → IfReady told (λ _. GivesUpTicket cmp is_clone mid.state given new.state)
+      → IfReady told (λ _. new.state ≡ unlisted given mid.state)
+  answered_unlisted (poll.Ready r) good gave = (given_up cmp is_clone mid.state new.state given good gave).0
+  answered_unlisted poll.Pending good gave = tt
+
+  waits_same : (told : Poll R) → OnPending told (new ≡ mid) → OnPending told (new.state ≡ mid.state)
+  waits_same (poll.Ready r) same = tt
+  waits_same poll.Pending same = ap (λ (s : CountedState T P W). s.state) same
+
+  pub tries_front : (old : CountedState T P W) (told : Poll R) (front : List (T × P)) (handed : Handed W) → IsGood mid.state → AddsFront old.state front handed mid.state
+      → ComparesAtMost (length front * digits (length mid.state.pending)) 0 old mid → ComparesAtMost 0 (search_bound mid.state) mid new
+      → IfReady told (λ _. GivesUpTicket cmp is_clone mid.state given new.state) → OnPending told (new ≡ mid)
+      → (f : List (T × P)) × TriesFront old.state given f told handed new.state
+      × ComparesAtMost (length f * digits (length new.state.pending)) (search_bound old.state) old new
+  tries_front old told front handed good adds tried ended gave waits =
+      let same = ap (λ (n : ℕ). length front * digits n) (pending_stays cmp is_clone mid new told given good gave waits) in
+      let less = sent_searches_less old.state mid.state front handed adds in (
+        front,
+        record { mid = mid.state; adds = adds; answered = answered_unlisted told good gave; waits = waits_same told waits },
+        (omega (arith, tried.0, ended.0, same), omega (arith, tried.1, ended.1, less)),
+      )
+
+  pub tried_good : (told : Poll R) → IsGood mid.state → IfReady told (λ _. GivesUpTicket cmp is_clone mid.state given new.state)
+      → OnPending told (new ≡ mid) → IsGood new.state
+  tried_good (poll.Ready r) good gave waits = (given_up cmp is_clone mid.state new.state given good gave).1
+  tried_good poll.Pending good gave waits = rw waits good
 
 -- what a try hands back, and what it keeps, was not sent
 pub handed_back_at_once : {M : Type 0} (Q : M → Type 0) (tried : Result (Unit {0}) (TrySendError M)) → IfErr tried (λ error. Q (refused error))

@@ -1,6 +1,7 @@
 -- What the code keeps of a future between its polls.
 use Rattle.std.specs.Prelude.{◌≡◌, ℕ, List, drop, Option, Some, None, Result, Ok, Err}
 use Rattle.std.specs.Option.{option_map}
+use Rattle.futures.specs.Poll.{IfReady, OnPending}
 use Rattle.futures.specs.declared.task.Poll.{Poll}
 use Rattle.futures.specs.declared.task.Poll.TheVariants as poll
 use Rattle.priority_channel_core.specs.declared.calls.Call.{Call}
@@ -13,6 +14,8 @@ use Rattle.priority_channel_parts.specs.declared.errors.TrySendError.{TrySendErr
 use Rattle.priority_channel_parts.specs.declared.errors.TrySendError.TheVariants as send_error
 use Rattle.priority_channel_parts.specs.Errors.{unsent}
 use Rattle.priority_channel_core.specs.State.{State, Handed}
+use Rattle.priority_channel_core.specs.Sends.{AddsFront}
+use Rattle.priority_channel_core.specs.Polls.{unlisted}
 use Rattle.priority_channel_laws.specs.Future.{Task, Tasks, Standing, Future, ticket_of, poll_of, polled}
 use Rattle.priority_channel_laws.specs.Future.Task.{Send, Recv}
 use Rattle.priority_channel_laws.specs.Future.Standing.{Done}
@@ -55,6 +58,14 @@ left_at_once ticket tried = done
 abbrev pub handed_back : {K : Type 0} → Poll (Result (Unit {0}) (SendFault K)) → Option K
 handed_back (poll.Ready (Err fault)) = Some (unsent fault)
 handed_back polled = None
+
+-- A try of a bulk send sends this front, where there is one. Once it is answered its ticket is in neither list.
+pub record TriesFront {T P W R : Type 0} (old : State T P W) (given : Option ℕ) (front : List (T × P)) (told : Poll R)
+    (handed : Handed W) (new : State T P W) : Type 0 where
+  pub mid : State T P W
+  pub adds : AddsFront old front handed mid
+  pub answered : IfReady told (λ _. new ≡ unlisted given mid)
+  pub waits : OnPending told (new ≡ mid)
 
 -- whatever list the old one holds, the new one holds a tail of it
 pub record HoldsTail {X M : Type 0} (holds : M → List X → Type 0) (old new : M) : Type 0 where

@@ -13,7 +13,7 @@ ghost use Rattle.priority_channel_core.specs.Bulk.{Performs};
 ghost use Rattle.priority_channel_core.specs.Channel.{ComparesAtMost, search_bound};
 ghost use Rattle.priority_channel_laws.specs.Future.Task.{Sendv as sendv_of};
 ghost use Rattle.priority_channel_laws.specs.World.{GivesUpTicket};
-ghost use Rattle.priority_channel_laws.specs.States.{unpolled, done, told_by, left_by, told_at_once, left_at_once, handed_back, HoldsTail, send_of, recv_of, PollsKept};
+ghost use Rattle.priority_channel_laws.specs.States.{unpolled, done, told_by, left_by, told_at_once, left_at_once, handed_back, HoldsTail, send_of, recv_of, TriesFront, PollsKept};
 ghost use Rattle.futures.specs.Poll.{IfReady, OnPending};
 
 use futures::task::Poll;
@@ -338,6 +338,9 @@ impl<T: Drop, P: Ord + Drop, I: Iterator<Item = (T, P)>> SendvState<Peekable<I>>
         // Whether or not the iterator has one list.
         ensures unsent_callable { IfSome (handed_back result.0) (peekable_can I.can_next) }
         ensures kept_callable { ForSome self.new.kept (peekable_can I.can_next) }
+        ensures front { IfSome self.old.kept (λ _. (front : List (T × P)) × TriesFront core.old.state self.old.ticket front result.0 result.1 core.new.state
+            × ComparesAtMost (length front * digits (length core.new.state.pending)) (search_bound core.old.state) core.old core.new) }
+        ensures good { IfSome self.old.kept (λ _. IsGood core.new.state) }
     {
         let Some((rest, ticket)) = self.rest.take() else {
             return (Poll::Pending, core.nobody());

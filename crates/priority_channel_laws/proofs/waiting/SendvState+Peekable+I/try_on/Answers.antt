@@ -1,9 +1,8 @@
 use Rattle.std.proofs.Common.{sym, ◌∙◌}
-use Rattle.std.specs.Iterator.Adapters.{peekable_can}
 use Rattle.priority_channel_core.specs.Lists.{HasList}
 use Rattle.priority_channel_laws.specs.States.{HoldsTail}
 use Rattle.priority_channel_laws.proofs.StateLemmas.{refused_tail}
-use Rattle.priority_channel_laws.proofs.AtOnce.{sentv_at_once, tried_in_vain, handed_back_at_once, kept_at_once}
+use Rattle.priority_channel_laws.proofs.AtOnce.{sentv_at_once, tried_in_vain, handed_back_at_once, kept_at_once, tries_front, tried_good}
 use Rattle.priority_channel_laws.proofs.waiting.SendvState+Peekable+I.try_on.Goals as goal
 
 pub returns-clause-step : goal.returns-clause-step
@@ -31,3 +30,19 @@ returns-clause-kept g c =
     rw (← c.self.view_is, c.in-Some.ensures.taken, c.keep_tried.ensures.left)
     (kept_at_once (HoldsTail (HasList g.I.Iterator.next_gives) c.in-Some.rest) _ c.try_sendv-tried.result.0
     (refused_tail (HasList g.I.Iterator.next_gives) g.P.Ord.cmp g.W.Clone.is_clone _ _ _ _ _ c.try_sendv-tried.ensures.step))
+
+pub returns-clause-front : goal.returns-clause-front
+returns-clause-front g c =
+    let mid = c.try_sendv-tried.new.self in
+    let tried = c.try_sendv-tried.ensures in
+    let ended = c.keep_tried.ensures in
+    rw (← c.self.view_is, c.in-Some.ensures.taken)
+    (tries_front g.P.Ord.cmp g.W.Clone.is_clone mid c.keep_tried.new.core _ c.args.core.now c.keep_tried.result tried.front.0 c.try_sendv-tried.result.1
+    tried.good tried.front.1 tried.front.2 ended.cost ended.answered ended.waits)
+
+pub returns-clause-good : goal.returns-clause-good
+returns-clause-good g c =
+    let mid = c.try_sendv-tried.new.self in
+    let ended = c.keep_tried.ensures in
+    rw (← c.self.view_is, c.in-Some.ensures.taken)
+    (tried_good g.P.Ord.cmp g.W.Clone.is_clone mid c.keep_tried.new.core _ c.keep_tried.result c.try_sendv-tried.ensures.good ended.answered ended.waits)
