@@ -8,13 +8,18 @@ ghost use Rattle.std.specs.Prelude.{◌≡◌, ◌+◌, ◌==◌, ℕ};
 use std::alloc::{AllocError, Allocator};
 use std::cell::Cell;
 
+mod rounds;
 #[cfg(test)]
 mod tests;
+
+pub use rounds::{Rounds, Vacuous};
 
 // Which of the requests to come are refused.
 #[derive(Clone, Copy)]
 enum Refusals {
     Never,
+    // none any more, and the one that was named never came
+    Unmet,
     // the one that comes after so many others, and no other
     After(u64),
     Always,
@@ -36,7 +41,7 @@ impl Refusals {
         ensures later { (k : ℕ) → refuses_after self.new k ≡ refuses_after self.old (k + 1) }
     {
         match *self {
-            Refusals::Never => false,
+            Refusals::Never | Refusals::Unmet => false,
             Refusals::After(0) => {
                 *self = Refusals::Never;
                 true
@@ -61,13 +66,12 @@ impl Refusals {
 ///
 /// ```
 /// let alloc = Refusing::new(rt.alloc());
-/// for n in 1..1000 {
+/// for round in alloc.rounds() {
+///     let n = round?;
 ///     alloc.refuse_nth(n);
 ///     let filled = fill(&alloc);
-///     if alloc.refuse_none() {
-///         break; // It made fewer than n requests, so each of them was refused once.
-///     }
-///     assert!(rt; filled.is_err(), "at {n}");
+///     let met_none = alloc.refuse_none();
+///     assert_eq!(rt; filled.is_ok(), met_none, "at {n}");
 /// }
 /// ```
 ///
@@ -103,7 +107,26 @@ impl<B: Allocator> Refusing<B> {
     /// From now on refuses no request. Tells whether the one that `refuse_nth` named was still to come. So it is false
     /// once that was refused, and where none was named, as after `refuse_all` or `refuse_nth(0)`.
     pub fn refuse_none(&self) -> bool {
-        matches!(self.refusals.replace(Refusals::Never), Refusals::After(_))
+        let is_to_come = matches!(self.refusals.get(), Refusals::After(_));
+        self.refusals.set(if is_to_come {
+            Refusals::Unmet
+        } else {
+            Refusals::Never
+        });
+        is_to_come
+    }
+
+    /// Numbers for `refuse_nth`, from 1 on, until no request was left to refuse. So each was refused once.
+    pub fn rounds(&self) -> Rounds<'_, B> {
+        Rounds::new(self)
+    }
+
+    // From now on refuses no request. Tells whether the one that was named in this round never came.
+    fn end_round(&self) -> bool {
+        matches!(
+            self.refusals.replace(Refusals::Never),
+            Refusals::Unmet | Refusals::After(_)
+        )
     }
 }
 

@@ -1,3 +1,4 @@
+//! Which requests are refused, and when rounds end.
 use super::*;
 use std::test::Fail;
 
@@ -92,4 +93,70 @@ fn only_what_is_not_refused_is_passed_on(rt: HostRuntime) {
     outer.refuse_nth(2);
     let refused = [(); 4].map(|()| is_refused(&outer));
     assert_eq!(rt; refused, [false, true, true, false]);
+}
+
+#[test]
+fn rounds_refuse_each_request_once(rt: HostRuntime) -> Result<(), Fail> {
+    let alloc = Refusing::new(rt.alloc());
+    let mut refused = Vec::new(rt.alloc());
+    for round in alloc.rounds() {
+        let n = round?;
+        assert!(rt; !is_refused(&alloc), "before round {n}");
+        alloc.refuse_nth(n);
+        refused.push([(); 3].map(|()| is_refused(&alloc)))?;
+        assert_eq!(rt; alloc.refuse_none(), n == 4, "at {n}");
+        assert!(rt; !is_refused(&alloc), "behind round {n}");
+    }
+    assert_eq!(rt;
+        refused.as_slice(),
+        [
+            [true, false, false],
+            [false, true, false],
+            [false, false, true],
+            [false, false, false],
+        ]
+        .as_slice()
+    );
+    Ok(())
+}
+
+#[test]
+fn a_round_need_not_ask_whether_its_refusal_came(rt: HostRuntime) -> Result<(), Fail> {
+    let alloc = Refusing::new(rt.alloc());
+    let mut last = 0;
+    for round in alloc.rounds() {
+        last = round?;
+        alloc.refuse_nth(last);
+        let _ = [(); 2].map(|()| is_refused(&alloc));
+    }
+    assert_eq!(rt; last, 3);
+    assert!(rt; !is_refused(&alloc));
+    Ok(())
+}
+
+#[test]
+fn rounds_without_a_request_are_an_error(rt: HostRuntime) {
+    let alloc = Refusing::new(rt.alloc());
+    for asks in [false, true] {
+        let mut rounds = alloc.rounds();
+        assert_eq!(rt; rounds.next(), Some(Ok(1)));
+        alloc.refuse_nth(1);
+        if asks {
+            assert!(rt; alloc.refuse_none());
+        }
+        assert_eq!(rt; rounds.next(), Some(Err(Vacuous::NoRequest)));
+        assert_eq!(rt; rounds.next(), None);
+    }
+}
+
+#[test]
+fn rounds_without_an_end_are_an_error(rt: HostRuntime) {
+    let alloc = Refusing::new(rt.alloc());
+    let mut rounds = alloc.rounds();
+    for n in 1..=1000u64 {
+        assert_eq!(rt; rounds.next(), Some(Ok(n)));
+        alloc.refuse_all();
+    }
+    assert_eq!(rt; rounds.next(), Some(Err(Vacuous::NoEnd)));
+    assert_eq!(rt; rounds.next(), None);
 }
