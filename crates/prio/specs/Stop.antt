@@ -1,7 +1,7 @@
 use Rattle.std.specs.Prelude.{ℕ, List, ◌++◌, codes}
 use Rattle.std.specs.Fmt.{decimal}
-use Rattle.prio.specs.declared.run.Fault.{Fault}
-use Rattle.prio.specs.declared.run.Fault.TheVariants.{NotACall, NoMemory, Failed}
+use Rattle.prio.specs.declared.faults.Fault.{Fault}
+use Rattle.prio.specs.declared.faults.Fault.TheVariants.{NotACall, NoMemory, Failed}
 
 -- what is told of a script that a fault ended at this line
 abbrev pub fault_text : Fault → ℕ → List ℕ

@@ -2,7 +2,7 @@
 //!
 //! Each is a function of its own that is not inlined: together they would share one frame, of which each call would
 //! clear the whole.
-use crate::run::Fault;
+use crate::faults::Fault;
 use async_priority_channel::{Receiver, Sender, TryRecvError, TrySendError};
 use itoa::Buffer;
 use std::alloc::Allocator;
@@ -11,9 +11,9 @@ use std::io::Write;
 use std::sync::Wait;
 
 #[inline(never)]
-pub fn answer_send<H: Wait + Clone, A: Allocator + Copy, W: Write>(
+pub fn answer_send<R: Wait + Clone, A: Allocator + Copy, W: Write>(
     answers: &mut W,
-    tx: &Sender<String<A>, i64, H, A>,
+    tx: &Sender<String<A>, i64, R, A>,
     word: String<A>,
     priority: i64,
 ) -> Result<(), Fault> {
@@ -28,9 +28,9 @@ pub fn answer_send<H: Wait + Clone, A: Allocator + Copy, W: Write>(
 
 /// With how many pairs were refused, where some were.
 #[inline(never)]
-pub fn answer_sendv<H: Wait + Clone, A: Allocator + Copy, W: Write>(
+pub fn answer_sendv<R: Wait + Clone, A: Allocator + Copy, W: Write>(
     answers: &mut W,
-    tx: &Sender<String<A>, i64, H, A>,
+    tx: &Sender<String<A>, i64, R, A>,
     pairs: Vec<(String<A>, i64), A>,
 ) -> Result<(), Fault> {
     let (answer, rest) = match tx.try_sendv(pairs.into_iter().peekable()) {
@@ -44,9 +44,9 @@ pub fn answer_sendv<H: Wait + Clone, A: Allocator + Copy, W: Write>(
 }
 
 #[inline(never)]
-pub fn answer_recv<H: Wait + Clone, A: Allocator + Copy, W: Write>(
+pub fn answer_recv<R: Wait + Clone, A: Allocator + Copy, W: Write>(
     answers: &mut W,
-    rx: &Receiver<String<A>, i64, H, A>,
+    rx: &Receiver<String<A>, i64, R, A>,
 ) -> Result<(), Fault> {
     match rx.try_recv() {
         Ok((word, priority)) => {
@@ -62,26 +62,26 @@ pub fn answer_recv<H: Wait + Clone, A: Allocator + Copy, W: Write>(
 }
 
 #[inline(never)]
-pub fn answer_close<H: Wait + Clone, A: Allocator + Copy, W: Write>(
+pub fn answer_close<R: Wait + Clone, A: Allocator + Copy, W: Write>(
     answers: &mut W,
-    tx: &Sender<String<A>, i64, H, A>,
+    tx: &Sender<String<A>, i64, R, A>,
 ) -> Result<(), Fault> {
     let was_open = tx.close();
     Ok(writeln!(answers, "{was_open}")?)
 }
 
 #[inline(never)]
-pub fn answer_len<H: Wait + Clone, A: Allocator + Copy, W: Write>(
+pub fn answer_len<R: Wait + Clone, A: Allocator + Copy, W: Write>(
     answers: &mut W,
-    tx: &Sender<String<A>, i64, H, A>,
+    tx: &Sender<String<A>, i64, R, A>,
 ) -> Result<(), Fault> {
     Ok(write_number(answers, tx.len())?)
 }
 
 #[inline(never)]
-pub fn answer_capacity<H: Wait + Clone, A: Allocator + Copy, W: Write>(
+pub fn answer_capacity<R: Wait + Clone, A: Allocator + Copy, W: Write>(
     answers: &mut W,
-    tx: &Sender<String<A>, i64, H, A>,
+    tx: &Sender<String<A>, i64, R, A>,
 ) -> Result<(), Fault> {
     match tx.capacity() {
         Some(capacity) => Ok(write_number(answers, capacity)?),

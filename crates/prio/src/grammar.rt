@@ -1,11 +1,13 @@
 //! Which lines are calls.
-ghost use Rattle.std.specs.Prelude.{◌≡◌, ◌≢◌, ◌↔◌, ◌<◌, ◌≤◌, ◌++◌, ℕ, ℤ, List, Option, FitsSigned, IfSome, IfNone, IsTrue, slice_index};
+ghost use Rattle.std.specs.Prelude.{◌≡◌, ◌≢◌, ◌↔◌, ◌<◌, ◌≤◌, ◌++◌, ℕ, ℤ, List, Option, String, All, FitsSigned, IfOk, IfSome, IfNone, IsTrue, slice_index};
 ghost use Rattle.std.specs.Int.{w64, IsInRange};
 ghost use Rattle.std.specs.Option.{option_copied};
 ghost use Rattle.std.specs.Fmt.{decimal, signed_decimal};
-ghost use Rattle.prio.specs.Fields.{IsWord, fields_of, further_text, name_of, pair_text};
+ghost use Rattle.prio.specs.Fields.{IsPair, IsWord, fields_of, further_text, name_of, pair_text, pairs_text};
 ghost use Rattle.prio.specs.Call.{CanCall, call_text};
 ghost use Rattle.prio.specs.Opening.{CanOpen, opening_text};
+
+use std::alloc::{AllocError, Allocator};
 
 /// What a first line asks for.
 pub enum Opening {
@@ -23,7 +25,7 @@ const MOST_RESERVED: u64 = (1 << 63) - 1;
 /// What any other line asks for.
 pub enum Call<'a> {
     Send { priority: i64, word: &'a str },
-    /// What follows the name, for `take_pair` to take the pairs off it.
+    /// What follows the name, for `parse_pairs`.
     Sendv { pairs: Option<&'a str> },
     Recv,
     Close,
@@ -68,6 +70,28 @@ pub fn parse_call(line: &str) -> Option<Call<'_>>
     }
 }
 
+/// All pairs of a bulk send, from what follows its name, if that is pairs.
+#[tactic(auto, using(crate::proofs::Pairs::pairs_more, crate::proofs::Pairs::no_pairs))]
+pub fn parse_pairs<A: Allocator + Copy>(
+    alloc: A,
+    fields: Option<&str>,
+) -> Result<Option<Vec<(String<A>, i64), A>>, AllocError>
+    ensures sound { IfOk result (λ parsed. IfSome parsed (λ pairs. All IsPair pairs.items × (further_text (option_copied fields.entry) ≡ pairs_text pairs.items))) }
+    ensures complete { IfOk result (λ parsed. IfNone parsed ((pairs : List (String A × ℤ)) → All IsPair pairs → further_text (option_copied fields.entry) ≢ pairs_text pairs)) }
+{
+    let mut pairs = Vec::new(alloc);
+    let mut further = fields;
+    while let Some(fields) = further {
+        let Some(((priority, word), rest)) = take_pair(fields) else {
+            return Ok(None);
+        };
+        let word = String::from_str(alloc, word)?;
+        pairs.push((word, priority)).or(Err(AllocError))?;
+        further = rest;
+    }
+    Ok(Some(pairs))
+}
+
 // The first field, and what follows the space behind it.
 fn name_and_fields(line: &str) -> (&str, Option<&str>)
     ensures name { result.0.now ≡ name_of line.now }
@@ -93,8 +117,8 @@ fn parse_pair(fields: &str) -> Option<(i64, &str)>
     }
 }
 
-/// `PRIORITY WORD`, taken off the front of the fields, and what follows the space behind it.
-pub fn take_pair(fields: &str) -> Option<((i64, &str), Option<&str>)>
+// `PRIORITY WORD`, taken off the front of the fields, and what follows the space behind it.
+fn take_pair(fields: &str) -> Option<((i64, &str), Option<&str>)>
     ensures sound { IfSome result (λ taken. IsWord taken.0.1.now × (fields.now ≡ pair_text taken.0.0 taken.0.1.now ++ further_text (option_copied taken.1))) }
     ensures complete { IfNone result ((z : ℤ) (word : List ℕ) (further : Option (List ℕ)) → FitsSigned w64 z → IsWord word → fields.now ≢ pair_text z word ++ further_text further) }
 {

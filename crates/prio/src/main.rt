@@ -2,6 +2,7 @@
 #![tactic(auto)]
 
 mod answers;
+mod faults;
 mod grammar;
 mod run;
 mod script;

@@ -1,3 +1,4 @@
+//! Whole scripts, with their answers.
 mod failures;
 mod memory;
 mod refusals;

@@ -1,3 +1,4 @@
+//! A failed read or write ends the script, and what came before stays told.
 use super::{EXAMPLE, as_text, first_answers, long_word};
 use crate::run::prio_run;
 use std::alloc::{AllocError, Global};

@@ -1,3 +1,4 @@
+//! Lines that are no calls end the script.
 use super::assert_run;
 use std::alloc::AllocError;
 

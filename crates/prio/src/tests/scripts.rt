@@ -1,5 +1,7 @@
-// Random scripts in which all priorities differ, so that no tie decides. Their answers are those that a plain program of
-// the same grammar over the Rust crate async-priority-channel 0.2.0 printed; `reserved N` made a bounded channel there.
+//! Random scripts are answered as a plain program over the Rust crate answers them.
+//!
+//! All priorities differ, so that no tie decides. The answers are those that a program of the same
+//! grammar over async-priority-channel 0.2.0 printed; `reserved N` made a bounded channel there.
 mod script_1;
 mod script_2;
 mod script_3;

@@ -1,3 +1,4 @@
+//! Each answer is there before the next line is waited for.
 use super::{EXAMPLE, as_text};
 use crate::run::prio_run;
 use std::cell::RefCell;

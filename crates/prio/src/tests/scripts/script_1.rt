@@ -1,3 +1,4 @@
+//! A random script on a bounded channel of 2, and its answers.
 pub const SCRIPT: &str = r#"bounded 2
 send 2796396837008117857 -_$R
 sendv -1007428432199280040 l.I$ 0 x<W}$d= -2846324991276127175 [F#V 8618508352017306108 GEl` -8586482847673412536 TVv7 4394299721970817643 Yu

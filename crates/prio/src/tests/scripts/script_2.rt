@@ -1,3 +1,4 @@
+//! A random script on a bounded channel of 17, and its answers.
 pub const SCRIPT: &str = r#"bounded 17
 recv
 recv

@@ -1,3 +1,4 @@
+//! A random script on a bounded channel of 3, and its answers.
 pub const SCRIPT: &str = r#"bounded 3
 len
 sendv 0 Bg>9|]fg 6659682425412122666 r4cR 5114077339585716056 l&G 6742787359027594307 m}R|WS~j

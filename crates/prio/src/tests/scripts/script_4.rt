@@ -1,3 +1,4 @@
+//! A random script on a bounded channel of 64, and its answers.
 pub const SCRIPT: &str = r#"bounded 64
 send -10 (=ceO
 send -73 <$sBC

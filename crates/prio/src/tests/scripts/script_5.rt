@@ -1,3 +1,4 @@
+//! A random script on a reserved channel of 17, and its answers.
 pub const SCRIPT: &str = r#"reserved 17
 capacity
 recv

@@ -1,3 +1,4 @@
+//! A random script on a bounded channel of 8, and its answers.
 pub const SCRIPT: &str = r#"bounded 8
 send -2339778122483877183 C
 sendv 3358261907748049152 igz~

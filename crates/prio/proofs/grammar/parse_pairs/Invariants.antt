@@ -1,7 +1,7 @@
 use Rattle.std.proofs.Common.{◌≡◌, ◌++◌, All, length}
 use Rattle.std.specs.Option.{option_copied}
 use Rattle.prio.specs.Fields.{further_text, IsPair, pairs_text}
-use Rattle.prio.proofs.script.read_pairs.Given as goal
+use Rattle.prio.proofs.grammar.parse_pairs.Given as goal
 
 abbrev pub invariant-loop-further : goal.invariant-loop-further
 invariant-loop-further g l = record {
