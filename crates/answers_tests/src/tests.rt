@@ -1,3 +1,4 @@
+//! Handles answer as the core does.
 mod bulk;
 mod mirror;
 mod orders;

@@ -3,8 +3,8 @@ use Rattle.std.specs.Prelude.{◌≡◌, ℕ, Bool, true, List, [], IfErr, IfSom
 use Rattle.priority_channel_parts.specs.declared.errors.SendFault.{SendFault}
 use Rattle.priority_channel_parts.specs.Errors.{unsent}
 use Rattle.priority_channel_laws.specs.States.{Holding, HoldsTail}
-use Rattle.async_priority_channel.specs.declared.attempts.Side.{Side}
-use Rattle.async_priority_channel.specs.declared.attempts.Side.TheVariants.{Room, Message}
+use Rattle.priority_channel_parts.specs.declared.side.Side.{Side}
+use Rattle.priority_channel_parts.specs.declared.side.Side.TheVariants.{Room, Message}
 
 -- what never changes of a channel: its capacity, and the sources at which tasks wait for room and for a message
 pub record Channel : Type 0 where

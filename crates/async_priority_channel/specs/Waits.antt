@@ -53,11 +53,6 @@ recv_polled call (Ready (Err (recv_fault.Closed error))) = Closed call
 recv_polled call (Ready (Err recv_fault.Memory)) = Memory call
 recv_polled call (Pending kept ticket) = Blocked call
 
--- the ticket under which a polled party waits
-abbrev pub waits_under : {A K : Type 0} → CorePoll A K → Option ℕ
-waits_under (Ready answer) = None
-waits_under (Pending kept ticket) = Some ticket
-
 -- what a wait that ended in vain gives back
 abbrev pub given_back : {C O : Type 0} → Ended C O → C
 given_back (ended.Over call over) = call

@@ -2,11 +2,12 @@
 ghost use Rattle.std.specs.Prelude.{◌≡◌, ⊤, IfSome, IfOk, IfErr, Some, refl};
 ghost use Rattle.std.proofs.Common.{◌∙◌};
 ghost use Rattle.std.specs.Iterator.Adapters.{peekable_can};
-ghost use Rattle.priority_channel_core.specs.Lists.{HasList};
-ghost use Rattle.priority_channel_core.specs.Step.{Step};
-ghost use Rattle.priority_channel_core.specs.Bulk.{Performs};
+ghost use Rattle.priority_channel_core.specs.code.Lists.{HasList};
+ghost use Rattle.priority_channel_core.specs.machine.Step.{Step};
+ghost use Rattle.priority_channel_core.specs.code.Calls.{Performs};
 ghost use Rattle.priority_channel_laws.specs.States.{HoldsTail};
-ghost use Rattle.async_priority_channel.specs.Waits.{left_over, given_back, waits_under, outcome_of_try, recv_tried, recv_polled};
+ghost use Rattle.priority_channel_core.specs.code.Replies.{waits_under};
+ghost use Rattle.async_priority_channel.specs.Waits.{left_over, given_back, outcome_of_try, recv_tried, recv_polled};
 ghost use Rattle.async_priority_channel.specs.Tails.{tail_of_itself, tail_of_tail};
 
 use crate::kept_waker::KeptWaker;
@@ -15,15 +16,9 @@ use crate::timeouts::Ended;
 use priority_channel_core::awaitable_atomics::Wakes;
 use priority_channel_core::calls::{Answer, Call, CorePoll};
 use priority_channel_core::errors::{RecvFault, TryRecvError, TrySendError};
+use priority_channel_core::side::Side;
 use std::alloc::Allocator;
 use std::iter::Peekable;
-
-/// What a blocked call waits for.
-#[derive(Clone, Copy)]
-pub enum Side {
-    Room,
-    Message,
-}
 
 /// What came of an attempt. What was not done comes back.
 pub enum Outcome<D, C> {

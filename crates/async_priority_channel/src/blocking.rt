@@ -1,7 +1,7 @@
 //! The calls that wait on their thread, without a limit or for a limited time.
 ghost use Rattle.std.specs.Prelude.{◌≡◌, IfErr};
 ghost use Rattle.std.specs.Iterator.Adapters.{peekable_can};
-ghost use Rattle.priority_channel_core.specs.Lists.{HasList};
+ghost use Rattle.priority_channel_core.specs.code.Lists.{HasList};
 ghost use Rattle.priority_channel_parts.specs.Errors.{unsent};
 ghost use Rattle.priority_channel_laws.specs.States.{HoldsTail};
 ghost use Rattle.async_priority_channel.specs.Waits.{unsent_in_time};

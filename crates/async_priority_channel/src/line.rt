@@ -5,13 +5,14 @@
 //! who leads it makes the next one the first, and who spins says when that is over.
 ghost use Rattle.std.specs.Prelude.{◌≡◌, ◌≢◌, ◌↔◌, ℕ, ◌+◌, ◌-◌, ◌<◌, ◌∷◌, ◌++◌, [], option_to_list, IfOk, IfErr, IfNone, IfSome, IsSome, IsTrue, OnOk, OnErr, Some, None};
 ghost use Rattle.priority_channel_parts.specs.Waiting.{without};
-ghost use Rattle.priority_channel_core.specs.Polls.{unlisted};
-ghost use Rattle.async_priority_channel.specs.Lines.{IsFirst, IsBlocked, Lists};
+ghost use Rattle.priority_channel_parts.specs.Waiters.{unlist};
+ghost use Rattle.priority_channel_core.specs.code.Channel.{IsBlocked};
+ghost use Rattle.async_priority_channel.specs.Lines.{IsFirst, Lists};
 
-use crate::attempts::Side;
 use crate::kept_waker::KeptWaker;
 use crate::shared::Core;
 use priority_channel_core::comparisons::Comparisons;
+use priority_channel_core::side::Side;
 use priority_channel_parts::waiting_list::WaitingList;
 use std::alloc::{AllocError, Allocator};
 use std::marker::Model;
@@ -199,11 +200,11 @@ impl<A: Allocator + Copy> Line<A> {
     /// Has the channel list the first, where that has to wait: under its ticket where that is listed still.
     pub fn list_first<T, P: Ord>(&mut self, side: Side, core: &mut Core<T, P, A>) -> Listing
         ensures sleeps { result ≡ Listing.Listed → IsSome self.old.first × IsSome self.new.ticket }
-        ensures listed { result ≡ Listing.Listed → IfSome self.old.first (λ first. IfSome self.new.ticket (λ ticket.
-            IsBlocked side core.old.state × Lists side self.old.ticket first.1 core.old.state ticket core.new.state)) }
+        ensures listed { result ≡ Listing.Listed → IfSome self.old.first (λ first.
+            IsBlocked side core.old.state × Lists side self.old.ticket first.1 self.new.ticket core.old.state core.new.state) }
         ensures waits { IsBlocked side core.old.state → IsSome self.old.first → result ≢ Listing.Free }
         ensures free { result ≡ Listing.Free → (core.new.state ≡ core.old.state) × (self.new ≡ self.old) }
-        ensures refused { result ≡ Listing.Refused → IsBlocked side core.old.state × (self.new.ticket ≡ None) × (core.new.state ≡ unlisted self.old.ticket core.old.state) }
+        ensures refused { result ≡ Listing.Refused → IsBlocked side core.old.state × (self.new.ticket ≡ None) × (core.new.state ≡ record core.old.state { waiters = unlist self.old.ticket core.old.state.waiters }) }
         ensures line { self.new ≡ record self.old { ticket = self.new.ticket } }
     {
         if !is_blocked(side, core) {
@@ -212,10 +213,7 @@ impl<A: Allocator + Copy> Line<A> {
         let Some((_, place)) = &self.first else {
             return Listing::Free;
         };
-        self.ticket = match side {
-            Side::Room => core.list_for_room(self.ticket, place),
-            Side::Message => core.list_for_message(self.ticket, place),
-        };
+        self.ticket = core.list(side, self.ticket, place);
         match self.ticket {
             Some(_) => Listing::Listed,
             None => Listing::Refused,

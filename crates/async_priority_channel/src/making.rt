@@ -1,6 +1,6 @@
 //! The makings of a channel, which give its first sender and its first receiver.
 ghost use Rattle.std.specs.Prelude.{◌≡◌, ◌-◌, ◌<◌, ◌^◌, IfOk};
-ghost use Rattle.priority_channel_core.specs.State.{opening};
+ghost use Rattle.priority_channel_core.specs.machine.State.{opening};
 
 use crate::receiver::Receiver;
 use crate::sender::Sender;

@@ -4,13 +4,14 @@
 ghost use Rattle.std.specs.Prelude.{IfErr, IfSome};
 ghost use Rattle.async_priority_channel.specs.Waits.{left_over, given_back};
 
-use crate::attempts::{Attempt, Outcome, Side};
+use crate::attempts::{Attempt, Outcome};
 use crate::kept_waker::KeptWaker;
 use crate::line::{Lead, Line, Listing, Queued};
 use crate::shared::Handle;
 use crate::timeouts::Ended;
 use crate::until::Until;
 use crossbeam_utils::Backoff;
+use priority_channel_core::side::Side;
 use std::alloc::Allocator;
 use std::sync::{Wait, WaitMethods};
 

@@ -1,6 +1,6 @@
 //! The handle that receives.
 ghost use Rattle.std.specs.Prelude.{◌≡◌};
-ghost use Rattle.priority_channel_core.specs.Receives.{capacity_told};
+ghost use Rattle.priority_channel_core.specs.machine.OtherCalls.{capacity_told};
 ghost use Rattle.priority_channel_laws.specs.States.{unpolled};
 
 use crate::shared::Handle;

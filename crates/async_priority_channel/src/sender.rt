@@ -1,9 +1,9 @@
 //! The handle that sends.
 ghost use Rattle.std.specs.Prelude.{◌≡◌, IfErr};
 ghost use Rattle.std.specs.Iterator.Adapters.{peekable_can};
-ghost use Rattle.priority_channel_core.specs.Lists.{HasList};
+ghost use Rattle.priority_channel_core.specs.code.Lists.{HasList};
 ghost use Rattle.priority_channel_parts.specs.Errors.{refused};
-ghost use Rattle.priority_channel_core.specs.Receives.{capacity_told};
+ghost use Rattle.priority_channel_core.specs.machine.OtherCalls.{capacity_told};
 ghost use Rattle.priority_channel_laws.specs.States.{HoldsTail, unpolled};
 
 use crate::shared::Handle;

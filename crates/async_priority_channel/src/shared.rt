@@ -3,17 +3,17 @@
 //! The small calls of the hot path are inlined by force: their answers would go through memory, and be read back at once.
 ghost use Rattle.std.specs.Prelude.{◌≡◌, IfOk, IsSome};
 ghost use Rattle.futures.specs.Task.{Hears, IsArmed, Keeps};
-ghost use Rattle.priority_channel_core.specs.State.{opening};
-ghost use Rattle.priority_channel_core.specs.Receives.{capacity_told};
+ghost use Rattle.priority_channel_core.specs.machine.State.{opening};
+ghost use Rattle.priority_channel_core.specs.machine.OtherCalls.{capacity_told};
 ghost use Rattle.async_priority_channel.specs.Handles.{source_of};
 
-use crate::attempts::Side;
 use crate::kept_waker::{KeptWaker, wake_all};
 use crate::line::Line;
 use crate::spins::Spins;
 use futures::task::{Context, Source};
 use priority_channel_core::awaitable_atomics::Wakes;
 use priority_channel_core::channel::PriorityQueueChannel;
+use priority_channel_core::side::Side;
 use std::alloc::{AllocError, Allocator};
 use std::marker::Model;
 use std::random::RandomSource;

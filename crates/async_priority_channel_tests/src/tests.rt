@@ -1,3 +1,4 @@
+//! Handles, futures and their states.
 mod counts;
 mod joined;
 mod states;

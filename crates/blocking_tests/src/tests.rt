@@ -1,3 +1,4 @@
+//! Calls that wait on their thread.
 mod calls;
 mod ends;
 mod errors;

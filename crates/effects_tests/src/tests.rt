@@ -1,3 +1,4 @@
+//! What calls do to others who wait.
 mod calls;
 mod drops;
 mod long;

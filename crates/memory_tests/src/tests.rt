@@ -1,3 +1,4 @@
+//! Handles and futures whose requests for memory are refused.
 mod batches;
 mod bulk;
 mod counts;

@@ -7,12 +7,12 @@ use Rattle.priority_channel_core.specs.declared.calls.Call.TheVariants as call
 use Rattle.priority_channel_core.specs.declared.calls.Answer.TheVariants as answer
 use Rattle.priority_channel_parts.specs.declared.errors.TrySendError.{TrySendError}
 use Rattle.priority_channel_parts.specs.declared.errors.TrySendError.TheVariants.{Full, Closed, Memory}
-use Rattle.priority_channel_core.specs.State.{State, Handed, nobody, room}
-use Rattle.priority_channel_core.specs.Good.{IsGood}
-use Rattle.priority_channel_core.specs.Sends.{Sends}
-use Rattle.priority_channel_core.specs.Lists.{HasList}
-use Rattle.priority_channel_core.specs.Front.{HasMore, HasEnded, SendsFront}
-use Rattle.priority_channel_core.specs.Bulk.{SameReply, Performs}
+use Rattle.priority_channel_core.specs.machine.State.{State, Handed, nobody, room}
+use Rattle.priority_channel_core.specs.machine.Good.{IsGood}
+use Rattle.priority_channel_core.specs.machine.Sends.{Sends}
+use Rattle.priority_channel_core.specs.code.Lists.{HasList}
+use Rattle.priority_channel_core.specs.code.Front.{HasMore, HasEnded, SendsFront}
+use Rattle.priority_channel_core.specs.code.Calls.{SameReply, Performs}
 use Rattle.priority_channel_core.proofs.SendLemmas.{sent_full, sent_all, sent_cut, refuses_full}
 
 -- a reply is right for whatever list m holds

@@ -1,11 +1,12 @@
 -- The parts of a channel, once the loop of a bulk send has added a front to the bag and the word has risen.
 use Rattle.std.proofs.Common.{◌≡◌, ℕ, ◌+◌, ◌-◌, ◌<◌, ◌≤◌, ◌^◌, ◌⊎◌, Bool, true, false, List, [], ◌++◌, length, refl, ap, arith, inl, inr, length-append}
 use Rattle.std.specs.Prelude.{◌==◌, if◌then◌else◌}
-use Rattle.priority_channel_core.specs.State.{State, Handed, nobody}
-use Rattle.priority_channel_core.specs.Sends.{AddsFront}
+use Rattle.priority_channel_core.specs.machine.State.{State, Handed, nobody}
+use Rattle.priority_channel_core.specs.machine.Sends.{AddsFront}
 use Rattle.priority_channel_parts.specs.Bag.{Contents}
-use Rattle.priority_channel_parts.specs.Word.{Word, IsOrderly}
-use Rattle.priority_channel_core.specs.Channel.{state_of, IsSound}
+use Rattle.priority_channel_parts.specs.Word.{Word}
+use Rattle.priority_channel_parts.specs.Waiters.{HasOwnTickets}
+use Rattle.priority_channel_core.specs.code.Channel.{state_of, IsSound}
 use Rattle.std.proofs.lemmas.Bool.{cases_lt}
 use Rattle.priority_channel_parts.specs.Digits.{digits}
 use Rattle.priority_channel_parts.proofs.DigitsLemmas.{digits-mono}
@@ -14,8 +15,8 @@ use Rattle.priority_channel_core.proofs.SendLemmas.{good_adds}
 module _ {T P W : Type 0} (bag bag' : Contents T P) (word word' : Word W) (handed : Handed W) (capacity : ℕ) (is_reserved : Bool)
     (senders receivers n : ℕ) (front : List (T × P)) (long : length front ≡ n)
     (pending : bag'.pending ≡ bag.pending ++ front) (accepted : bag'.accepted ≡ bag.accepted + n)
-    (handed_is : handed ≡ (if n == 0 then nobody else record { room = []; message = word.message_waiters }))
-    (risen : word' ≡ record word { count = word.count + n; message_waiters = if n == 0 then word.message_waiters else [] }) where
+    (handed_is : handed ≡ (if n == 0 then nobody else record { room = []; message = word.waiters.message }))
+    (risen : word' ≡ record word { count = word.count + n; waiters = record word.waiters { message = if n == 0 then word.waiters.message else [] } }) where
   abbrev Old : State T P W
   Old = state_of bag word capacity is_reserved senders receivers
 
@@ -26,7 +27,7 @@ module _ {T P W : Type 0} (bag bag' : Contents T P) (word word' : Word W) (hande
   adds = rw (pending, accepted, risen, handed_is, ← long) (record { handed_is = refl; new_is = refl })
 
   pub sound_adds : IsSound bag word Old → word.is_closed ≡ false → n ≤ capacity - length bag.pending → bag.place ≤ bag'.place
-      → length bag'.pending < 2 ^ 63 → bag'.accepted < 2 ^ 64 → IsOrderly word' → IsSound bag' word' New
+      → length bag'.pending < 2 ^ 63 → bag'.accepted < 2 ^ 64 → HasOwnTickets word'.waiters → IsSound bag' word' New
   sound_adds sound opened within grown limit fits orderly =
       let l = length-append bag.pending front in
       let longer : length bag'.pending ≡ length bag.pending + n = rw pending (omega (arith, l, long)) in

@@ -2,7 +2,7 @@
 use Rattle.std.proofs.Common.{◌≡◌, ℕ, ◌+◌, ◌-◌, ◌≤◌, inl, inr, Bool, true, false, cond, ◌||◌, List, [], ◌∷◌, refl, arith, count_by}
 use Rattle.std.specs.List.{list_any}
 use Rattle.std.proofs.lemmas.List.Sums.{sum_by-cons}
-use Rattle.priority_channel_core.specs.Allowed.{count_after, ChangesCount, DropsFindHandles, AllowsSide}
+use Rattle.priority_channel_core.specs.code.Allowed.{count_after, ChangesCount, DropsFindHandles, AllowsSide}
 
 neither : (b c : Bool) → (b || c) ≡ false → (b ≡ false) × (c ≡ false)
 neither false c h = (refl, h)

@@ -3,9 +3,9 @@ use Rattle.std.proofs.Common.{◌≡◌, ℕ, ◌+◌, ◌<◌, ◌≤◌, List,
 use Rattle.std.specs.Iterator.Adapters.{peekable_steps}
 use Rattle.std.specs.declared.iter.Ahead.{Ahead}
 use Rattle.priority_channel_parts.specs.Bag.{Contents}
-use Rattle.priority_channel_core.specs.Lists.{HasList}
-use Rattle.priority_channel_core.specs.State.{State, Handed}
-use Rattle.priority_channel_core.specs.Front.{Takes, HasMore, HasEnded, MovesFront, SendsFront, StopsFor, sent_before}
+use Rattle.priority_channel_core.specs.code.Lists.{HasList}
+use Rattle.priority_channel_core.specs.machine.State.{State, Handed}
+use Rattle.priority_channel_core.specs.code.Front.{Takes, HasMore, HasEnded, MovesFront, SendsFront, StopsFor, sent_before}
 use Rattle.priority_channel_core.specs.declared.channel.bulk.Stop.{Stop}
 use Rattle.priority_channel_core.specs.declared.channel.bulk.Stop.TheVariants.{Ended, Filled, Memory}
 use Rattle.priority_channel_core.proofs.ListLemmas.{list_at_some}

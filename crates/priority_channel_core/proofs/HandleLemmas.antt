@@ -2,8 +2,8 @@
 use Rattle.std.proofs.Common.{refl, List, ◌∷◌}
 use Rattle.priority_channel_core.specs.declared.calls.Call.{Call}
 use Rattle.priority_channel_core.specs.declared.calls.Call.TheVariants.{DropSender, DropReceiver}
-use Rattle.priority_channel_core.specs.State.{State}
-use Rattle.priority_channel_core.specs.Allowed.{IsAllowed, ChangesHandles, AllowsRun}
+use Rattle.priority_channel_core.specs.machine.State.{State}
+use Rattle.priority_channel_core.specs.code.Allowed.{IsAllowed, ChangesHandles, AllowsRun}
 use Rattle.priority_channel_core.proofs.CountLemmas.{AllowsSide-more}
 
 module _ {T P W M : Type 0} where

@@ -4,7 +4,7 @@ use Rattle.std.specs.Option.{option_copied}
 use Rattle.std.specs.Iterator.Adapters.{peekable_source, peekable_peeked, peekable_steps, PeeksNext, PeekedOrNext}
 use Rattle.std.specs.Iterator.{AlwaysYields}
 use Rattle.std.specs.declared.iter.Ahead.{Ahead}
-use Rattle.priority_channel_core.specs.Lists.{HasList}
+use Rattle.priority_channel_core.specs.code.Lists.{HasList}
 
 module _ {S A : Type 0} (steps : S → Option A → S → Type 0) where
   -- the answer that was peeked comes

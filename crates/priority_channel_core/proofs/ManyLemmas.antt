@@ -9,12 +9,12 @@ use Rattle.priority_channel_core.specs.declared.calls.Call.TheVariants as call
 use Rattle.priority_channel_core.specs.declared.calls.Answer.TheVariants as answer
 use Rattle.priority_channel_parts.specs.declared.errors.TryRecvError.{TryRecvError}
 use Rattle.priority_channel_parts.specs.declared.errors.TryRecvError.TheVariants.{Empty, Closed}
-use Rattle.priority_channel_core.specs.State.{State, Handed, nobody}
+use Rattle.priority_channel_core.specs.machine.State.{State, Handed, nobody}
 use Rattle.priority_channel_parts.specs.Digits.{digits}
 use Rattle.priority_channel_parts.specs.Greatest.{TakesGreatest}
-use Rattle.priority_channel_core.specs.Step.{Step}
-use Rattle.priority_channel_core.specs.Run.{Made, Run}
-use Rattle.priority_channel_core.specs.Many.{receives, ReceivesInTurn}
+use Rattle.priority_channel_core.specs.machine.Step.{Step}
+use Rattle.priority_channel_core.specs.machine.Run.{Made, Run}
+use Rattle.priority_channel_core.specs.code.Many.{receives, ReceivesInTurn}
 use Rattle.priority_channel_parts.proofs.DigitsLemmas.{digits-mono}
 use Rattle.priority_channel_core.proofs.RunLemmas.{Run-more}
 
@@ -41,7 +41,7 @@ module _ {T P W : Type 0} (cmp : P → P → Ordering) (is_clone : W → W → T
     pub long : length pairs ≡ count
     pub counted : count + length new.pending ≡ length old.pending
     pub run : Run cmp is_clone old (receives pairs nobody) new
-    pub nobody_waits : new.room_waiters ≡ []
+    pub nobody_waits : new.waiters.room ≡ []
 
   pub received_more : (old mid new : State T P W) (before now after : List (T × P)) (count : ℕ) (pair : T × P) (handed : Handed W)
       → Received old before count mid now → Step cmp is_clone mid call.TryRecv (answer.TryRecv (Ok pair)) handed new → after ≡ now ++ pair ∷ []
@@ -57,7 +57,7 @@ module _ {T P W : Type 0} (cmp : P → P → Ordering) (is_clone : W → W → T
         run = subst (λ (run : List (Made T P W)). Run cmp is_clone old run new) (sym (receives-push r.pairs pair))
             (Run-more cmp is_clone old mid new (receives r.pairs nobody) (record { call = call.TryRecv; answer = answer.TryRecv (Ok pair); handed = nobody }) r.run
             (subst (λ (h : Handed W). Step cmp is_clone mid call.TryRecv (answer.TryRecv (Ok pair)) h new) handed_is s));
-        nobody_waits = ap (λ (s : State T P W). s.room_waiters) s.moves.2;
+        nobody_waits = ap (λ (s : State T P W). s.waiters.room) s.moves.2;
       }
 
   -- a first receive, which hands out all who wait for room, and then so many others

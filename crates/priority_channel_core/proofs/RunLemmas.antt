@@ -6,10 +6,11 @@ use Rattle.std.specs.List.{AllZip}
 use Rattle.std.proofs.lemmas.List.{map-append}
 use Rattle.std.specs.declared.cmp.Ordering.{Ordering}
 use Rattle.priority_channel_core.specs.declared.calls.Call.{Call}
-use Rattle.priority_channel_core.specs.State.{State}
-use Rattle.priority_channel_core.specs.Step.{Step, Calls}
-use Rattle.priority_channel_core.specs.Run.{Outcome, Made, Run}
-use Rattle.priority_channel_core.specs.Bulk.{SameCall, SameMade, Performs, RunsFront}
+use Rattle.priority_channel_core.specs.machine.State.{State}
+use Rattle.priority_channel_core.specs.machine.Step.{Step, Calls}
+use Rattle.priority_channel_core.specs.machine.Run.{Made, Run}
+use Rattle.priority_channel_core.specs.code.Calls.{Outcome}
+use Rattle.priority_channel_core.specs.code.Calls.{SameCall, SameMade, Performs, RunsFront}
 
 pub zip_push : {A B : Type 0} (R : A → B → Type 0) (xs : List A) (ys : List B) (x : A) (y : B) → AllZip R xs ys → R x y → AllZip R (xs ++ x ∷ []) (ys ++ y ∷ [])
 zip_push R [] [] x y a r = (r, tt)

@@ -9,4 +9,4 @@ pub mod calls;
 pub mod channel;
 pub mod laws;
 
-pub use priority_channel_parts::{awaitable_atomics, bag, comparisons, errors, item};
+pub use priority_channel_parts::{awaitable_atomics, bag, comparisons, errors, item, side};

@@ -1,12 +1,14 @@
 -- Waiting lists and states that are the same but for clones of wakers.
-use Rattle.std.proofs.Common.{◌≡◌, ℕ, Bool, true, false, not, List, [], ◌∷◌, refl, sym, ap, subst, inl, inr}
+use Rattle.std.proofs.Common.{◌≡◌, ℕ, Bool, true, false, not, List, [], ◌∷◌, refl, sym, ap, ◌∙◌, subst, inl, inr, is_some}
 use Rattle.std.specs.Prelude.{Option, Some, None, ◌==◌, if◌then◌else◌}
 use Rattle.std.specs.List.{AllZip}
 use Rattle.std.proofs.lemmas.List.Elements.{AllZip-push}
-use Rattle.priority_channel_core.specs.State.{State, Handed, nobody}
+use Rattle.priority_channel_core.specs.machine.State.{State, Handed, nobody}
 use Rattle.priority_channel_parts.specs.Waiting.{is_listed, without, without_given, with_waker, listing, Listing, fresh}
-use Rattle.priority_channel_core.specs.Polls.{unlisted}
-use Rattle.priority_channel_laws.specs.Alike.{SameWaiter, SameHanded, SameState}
+use Rattle.priority_channel_parts.specs.declared.side.Side.{Side}
+use Rattle.priority_channel_parts.specs.declared.side.Side.TheVariants.{Room, Message}
+use Rattle.priority_channel_parts.specs.Waiters.{Waiters, on_side, unlist, enlist, Enlists}
+use Rattle.priority_channel_laws.specs.Alike.{SameWaiter, SameWaiters, SameHanded, SameState}
 
 module _ {W : Type 0} (is_clone : W → W → Type 0) where
   abbrev pub SameList : List (ℕ × W) → List (ℕ × W) → Type 0
@@ -75,34 +77,76 @@ module _ {W : Type 0} (is_clone : W → W → Type 0) where
   pub nobody_same : (h h' : Handed W) → h ≡ nobody → h' ≡ nobody → SameHanded is_clone h h'
   nobody_same h h' e f = handed_same h h' _ _ e f (record { room = tt; message = tt })
 
+  pub same_unlist : (given : Option ℕ) (w v : Waiters W) → SameWaiters is_clone w v → SameWaiters is_clone (unlist given w) (unlist given v)
+  same_unlist given w v same = record {
+    room = same_without_given given _ _ same.room;
+    message = same_without_given given _ _ same.message;
+    next_ticket = same.next_ticket;
+  }
+
+  -- a place on the same side
+  same_enlist : (side : Side) (one other : Listing W) (w v : Waiters W) → SamePlace one other → SameWaiters is_clone w v
+      → SameWaiters is_clone (enlist side one w) (enlist side other v)
+  same_enlist Room one other w v place same = record { room = place.waiters; message = same.message; next_ticket = place.next }
+  same_enlist Message one other w v place same = record { room = same.room; message = place.waiters; next_ticket = place.next }
+
+  same_on_side : (side : Side) (w v : Waiters W) → SameWaiters is_clone w v → SameList (on_side side w) (on_side side v)
+  same_on_side Room w v same = same.room
+  same_on_side Message w v same = same.message
+
+  pub waiters_after : (u v w x : Waiters W) → u ≡ w → v ≡ x → SameWaiters is_clone w x → SameWaiters is_clone u v
+  waiters_after u v w x e f h = subst (λ z. SameWaiters is_clone z v) (sym e) (subst (λ z. SameWaiters is_clone w z) (sym f) h)
+
+  -- parties that are listed on the same side, or both on none
+  pub same_enlists : (side : Side) (given t u : Option ℕ) (waker : W) (old new old' new' : Waiters W) → SameWaiters is_clone old old'
+      → is_some u ≡ is_some t → Enlists is_clone side given waker t old new → Enlists is_clone side given waker u old' new'
+      → (u ≡ t) × SameWaiters is_clone new new'
+  same_enlists side given None None waker old new old' new' same both a b = (refl, waiters_after new new' _ _ a b (same_unlist given old old' same))
+  same_enlists side given None (Some u) waker old new old' new' same both a b = absurd (cc)
+  same_enlists side given (Some t) None waker old new old' new' same both a b = absurd (cc)
+  same_enlists side given (Some t) (Some u) waker old new old' new' same both a b =
+      let n = old.next_ticket in
+      let at : ℕ → Type 0 = λ m. let place = listing given b.0 (on_side side old') m in (u ≡ place.ticket) × (new' ≡ enlist side place old') in
+      let here : at n = subst at same.next_ticket b.2 in
+      let place = same_listing given n a.0 b.0 waker (on_side side old) (on_side side old') a.1 b.1 (same_on_side side old old' same) in (
+        ap (λ (m : ℕ). Some m) (here.0 ∙ (place.ticket ∙ sym a.2.0)),
+        waiters_after new new' _ _ a.2.1 here.1 (same_enlist side _ _ old old' place same),
+      )
+
+  pub waiters_same : (w : Waiters W) → SameWaiters is_clone w w
+  waiters_same w = record { room = list_same w.room; message = list_same w.message; next_ticket = refl }
+
   module _ {T P : Type 0} where
     pub state_same : (s : State T P W) → SameState is_clone s s
-    state_same s = record {
-      pending = refl;
-      accepted = refl;
-      is_closed = refl;
-      capacity = refl;
-      is_reserved = refl;
-      sender_count = refl;
-      receiver_count = refl;
-      room_waiters = list_same s.room_waiters;
-      message_waiters = list_same s.message_waiters;
-      next_ticket = refl;
-    }
+    state_same s = record { waiters = waiters_same s.waiters; others = refl }
 
     pub same_after : (k l s r : State T P W) → k ≡ s → l ≡ r → SameState is_clone s r → SameState is_clone k l
     same_after k l s r e f h = subst (λ z. SameState is_clone z l) (sym e) (subst (λ z. SameState is_clone s z) (sym f) h)
 
-    pub same_unlisted : (given : Option ℕ) (s r : State T P W) → SameState is_clone s r → SameState is_clone (unlisted given s) (unlisted given r)
-    same_unlisted given s r h = record {
-      pending = h.pending;
-      accepted = h.accepted;
-      is_closed = h.is_closed;
-      capacity = h.capacity;
-      is_reserved = h.is_reserved;
-      sender_count = h.sender_count;
-      receiver_count = h.receiver_count;
-      room_waiters = same_without_given given _ _ h.room_waiters;
-      message_waiters = same_without_given given _ _ h.message_waiters;
-      next_ticket = h.next_ticket;
+    -- states that were the same, and in which the same parties wait now
+    pub same_waiting : (k l s r : State T P W) → k ≡ record s { waiters = k.waiters } → l ≡ record r { waiters = l.waiters }
+        → SameState is_clone s r → SameWaiters is_clone k.waiters l.waiters → SameState is_clone k l
+    same_waiting k l s r e f same waiters = record {
+      waiters = waiters;
+      others = f ∙ (ap (λ (x : State T P W). record x { waiters = l.waiters }) same.others ∙ sym (ap (λ (x : State T P W). record x { waiters = l.waiters }) e));
     }
+
+    pub same_unlisted : (given : Option ℕ) (s r : State T P W) → SameState is_clone s r
+        → SameState is_clone (record s { waiters = unlist given s.waiters }) (record r { waiters = unlist given r.waiters })
+    same_unlisted given s r h = same_waiting _ _ s r refl refl h (same_unlist given s.waiters r.waiters h.waiters)
+
+    -- what two states that are the same agree in
+    pub same_pending : {s r : State T P W} → SameState is_clone s r → r.pending ≡ s.pending
+    same_pending h = ap (λ (x : State T P W). x.pending) h.others
+
+    pub same_closed : {s r : State T P W} → SameState is_clone s r → r.is_closed ≡ s.is_closed
+    same_closed h = ap (λ (x : State T P W). x.is_closed) h.others
+
+    pub same_capacity : {s r : State T P W} → SameState is_clone s r → r.capacity ≡ s.capacity
+    same_capacity h = ap (λ (x : State T P W). x.capacity) h.others
+
+    pub same_senders : {s r : State T P W} → SameState is_clone s r → r.sender_count ≡ s.sender_count
+    same_senders h = ap (λ (x : State T P W). x.sender_count) h.others
+
+    pub same_receivers : {s r : State T P W} → SameState is_clone s r → r.receiver_count ≡ s.receiver_count
+    same_receivers h = ap (λ (x : State T P W). x.receiver_count) h.others

@@ -1,25 +1,30 @@
 -- Two polls from states that are the same, with as many pairs accepted and both or neither answered by Memory.
-use Rattle.std.proofs.Common.{◌≡◌, ℕ, Bool, true, false, List, [], ◌∷◌, length, refl, ap, inl, inr}
-use Rattle.std.specs.Prelude.{Option, Result, Ok, Err}
+use Rattle.std.proofs.Common.{◌≡◌, ℕ, Bool, true, false, List, [], ◌∷◌, length, refl, sym, ap, ◌∙◌, is_some}
+use Rattle.std.specs.Prelude.{Option, None, Some, Result, Ok, Err}
 use Rattle.std.specs.Cmp.{IsTotalOrder}
 use Rattle.std.specs.declared.cmp.Ordering.{Ordering}
+use Rattle.priority_channel_core.specs.declared.calls.Call.TheVariants as call
 use Rattle.priority_channel_core.specs.declared.calls.Answer.TheVariants as answer
 use Rattle.priority_channel_core.specs.declared.calls.CorePoll.{CorePoll}
 use Rattle.priority_channel_core.specs.declared.calls.CorePoll.TheVariants.{Ready, Pending}
 use Rattle.priority_channel_parts.specs.declared.errors.TrySendError.{TrySendError}
 use Rattle.priority_channel_parts.specs.declared.errors.TrySendError.TheVariants as send_error
+use Rattle.priority_channel_parts.specs.declared.errors.TryRecvError.{TryRecvError}
 use Rattle.priority_channel_parts.specs.declared.errors.TryRecvError.TheVariants as recv_error
 use Rattle.priority_channel_parts.specs.declared.errors.SendFault.{SendFault}
 use Rattle.priority_channel_parts.specs.declared.errors.SendFault.TheVariants as send_fault
 use Rattle.priority_channel_parts.specs.declared.errors.RecvFault.{RecvFault}
 use Rattle.priority_channel_parts.specs.declared.errors.RecvFault.TheVariants as recv_fault
-use Rattle.priority_channel_core.specs.State.{State, Handed}
-use Rattle.priority_channel_core.specs.Sends.{as_list}
-use Rattle.priority_channel_core.specs.Polls.{poll_as_list, unlisted, PollsSend, PollsReceive}
-use Rattle.priority_channel_laws.specs.Accepted.{poll_sent}
+use Rattle.priority_channel_core.specs.machine.State.{State, Handed}
+use Rattle.priority_channel_core.specs.machine.Sends.{as_list}
+use Rattle.priority_channel_core.specs.machine.Polls.{send_answer, recv_answer, Ends, Polls}
+use Rattle.priority_channel_core.specs.machine.Step.{Moves}
+use Rattle.priority_channel_laws.specs.Accepted.{poll_sent, accepted_by}
 use Rattle.priority_channel_laws.specs.Alike.{is_memory, SameState}
-use Rattle.priority_channel_laws.proofs.AlikeLists.{same_after, same_unlisted}
-use Rattle.priority_channel_laws.proofs.AlikeCalls.{Both, sends_same, receives_same, waits_room_same, waits_message_same}
+use Rattle.priority_channel_parts.specs.declared.side.Side.{Side}
+use Rattle.priority_channel_laws.proofs.Effects.{poll_sent-is, accepted_one-is}
+use Rattle.priority_channel_laws.proofs.AlikeLists.{same_waiting, same_enlists}
+use Rattle.priority_channel_laws.proofs.AlikeCalls.{Both, sends_same, receives_same}
 
 -- whether a poll of a send answers Memory
 pub poll_memory : {A : Type 0} → CorePoll (Result (Unit {0}) (SendFault A)) A → Bool
@@ -35,7 +40,7 @@ is_memory-poll_sendv (Ready (Err (send_fault.Closed e))) = refl
 is_memory-poll_sendv (Ready (Err (send_fault.Memory rest))) = refl
 is_memory-poll_sendv (Pending rest ticket) = refl
 
-pub is_memory-poll_send : {T P : Type 0} (x : CorePoll (Result (Unit {0}) (SendFault (T × P))) (T × P)) → poll_memory (poll_as_list x) ≡ is_memory {T = T} {P = P} (answer.PollSend x)
+pub is_memory-poll_send : {T P : Type 0} (x : CorePoll (Result (Unit {0}) (SendFault (T × P))) (T × P)) → poll_memory x ≡ is_memory {T = T} {P = P} (answer.PollSend x)
 unfolding poll_memory
 is_memory-poll_send (Ready (Ok d)) = refl
 is_memory-poll_send (Ready (Err (send_fault.Closed e))) = refl
@@ -61,110 +66,91 @@ as_list_one (Err (send_error.Memory p)) (Err (send_error.Closed q)) h = cc
 as_list_one (Err (send_error.Memory p)) (Err (send_error.Full q)) h = cc
 as_list_one (Err (send_error.Memory p)) (Err (send_error.Memory q)) h = cc
 
-closed_with : {A : Type 0} → CorePoll (Result (Unit {0}) (SendFault (List A))) (List A) → List A
-closed_with (Ready (Err (send_fault.Closed e))) = e.0
-closed_with x = []
+-- one that waits, and one that was refused a place, do not answer alike
+only_one : {K : Type 0} (reply : Result (Unit {0}) (TrySendError K)) (u : ℕ) (x y : CorePoll (Result (Unit {0}) (SendFault K)) K)
+    → send_answer reply None ≡ Some x → send_answer reply (Some u) ≡ Some y → poll_memory y ≡ poll_memory x → ⊥
+unfolding poll_memory
+only_one (Ok done) u x y a b memory = cc
+only_one (Err (send_error.Closed rest)) u x y a b memory = cc
+only_one (Err (send_error.Memory rest)) u x y a b memory = cc
+only_one (Err (send_error.Full rest)) u x y a b memory =
+    let e : x ≡ Ready (Err (send_fault.Memory rest)) = cc in
+    let f : y ≡ Pending rest u = cc in
+    let m : poll_memory (Pending rest u) ≡ poll_memory (Ready (Err (send_fault.Memory rest))) = rw (e, f) at memory in
+    absurd (cc)
 
-closed_pair : {A : Type 0} (x y : A) → x ∷ [] ≡ y ∷ [] → x ≡ y
-closed_pair x y h = cc
+-- of two polls whose tries replied alike, both wait or neither does, where both or neither answered Memory
+sends_wait_alike : {K : Type 0} (reply : Result (Unit {0}) (TrySendError K)) (t u : Option ℕ) (x y : CorePoll (Result (Unit {0}) (SendFault K)) K)
+    → send_answer reply t ≡ Some x → send_answer reply u ≡ Some y → poll_memory y ≡ poll_memory x → is_some u ≡ is_some t
+sends_wait_alike reply None None x y a b memory = refl
+sends_wait_alike reply (Some t) (Some u) x y a b memory = refl
+sends_wait_alike reply None (Some u) x y a b memory = absurd (only_one reply u x y a b memory)
+sends_wait_alike reply (Some t) None x y a b memory = absurd (only_one reply t y x b a (sym memory))
 
-pub poll_as_list_one : {A : Type 0} (x y : CorePoll (Result (Unit {0}) (SendFault A)) A) → poll_as_list y ≡ poll_as_list x → y ≡ x
-unfolding closed_with
-poll_as_list_one (Ready (Ok d)) (Ready (Ok e)) h = refl
-poll_as_list_one (Ready (Err (send_fault.Closed d))) (Ready (Err (send_fault.Closed e))) h =
-    let same : e.0 ≡ d.0 = closed_pair e.0 d.0 (ap closed_with h) in ap (λ z. Ready (Err (send_fault.Closed (record { 0 = z })))) same
-poll_as_list_one (Ready (Ok d)) (Ready (Err (send_fault.Closed e))) h = cc
-poll_as_list_one (Ready (Ok d)) (Ready (Err (send_fault.Memory q))) h = cc
-poll_as_list_one (Ready (Ok d)) (Pending q m) h = cc
-poll_as_list_one (Ready (Err (send_fault.Closed d))) (Ready (Ok e)) h = cc
-poll_as_list_one (Ready (Err (send_fault.Closed d))) (Ready (Err (send_fault.Memory q))) h = cc
-poll_as_list_one (Ready (Err (send_fault.Closed d))) (Pending q m) h = cc
-poll_as_list_one (Ready (Err (send_fault.Memory p))) (Ready (Ok e)) h = cc
-poll_as_list_one (Ready (Err (send_fault.Memory p))) (Ready (Err (send_fault.Closed e))) h = cc
-poll_as_list_one (Ready (Err (send_fault.Memory p))) (Ready (Err (send_fault.Memory q))) h = cc
-poll_as_list_one (Ready (Err (send_fault.Memory p))) (Pending q m) h = cc
-poll_as_list_one (Pending p n) (Ready (Ok e)) h = cc
-poll_as_list_one (Pending p n) (Ready (Err (send_fault.Closed e))) h = cc
-poll_as_list_one (Pending p n) (Ready (Err (send_fault.Memory q))) h = cc
-poll_as_list_one (Pending p n) (Pending q m) h = cc
+only_one_receives : {T P : Type 0} (reply : Result (T × P) TryRecvError) (u : ℕ) (x y : CorePoll (Result (T × P) RecvFault) (Unit {0}))
+    → recv_answer reply None ≡ Some x → recv_answer reply (Some u) ≡ Some y
+    → is_memory {T = T} {P = P} (answer.PollRecv y) ≡ is_memory {T = T} {P = P} (answer.PollRecv x) → ⊥
+only_one_receives (Ok pair) u x y a b memory = cc
+only_one_receives (Err recv_error.Closed) u x y a b memory = cc
+only_one_receives {T} {P} (Err recv_error.Empty) u x y a b memory =
+    let e : x ≡ Ready (Err recv_fault.Memory) = cc in
+    let f : y ≡ Pending tt u = cc in
+    let m : false ≡ true = rw (e, f) at memory in
+    absurd (cc)
+
+recvs_wait_alike : {T P : Type 0} (reply : Result (T × P) TryRecvError) (t u : Option ℕ) (x y : CorePoll (Result (T × P) RecvFault) (Unit {0}))
+    → recv_answer reply t ≡ Some x → recv_answer reply u ≡ Some y
+    → is_memory {T = T} {P = P} (answer.PollRecv y) ≡ is_memory {T = T} {P = P} (answer.PollRecv x) → is_some u ≡ is_some t
+recvs_wait_alike reply None None x y a b memory = refl
+recvs_wait_alike reply (Some t) (Some u) x y a b memory = refl
+recvs_wait_alike {T} {P} reply None (Some u) x y a b memory = absurd (only_one_receives {T = T} {P = P} reply u x y a b memory)
+recvs_wait_alike {T} {P} reply (Some t) None x y a b memory = absurd (only_one_receives {T = T} {P = P} reply t y x b a (sym memory))
 
 module _ {T P W : Type 0} (is_clone : W → W → Type 0) {cmp : P → P → Ordering} (o : IsTotalOrder cmp) (s r k k' : State T P W) (h h' : Handed W) (same : SameState is_clone s r) where
-  ended_same : (given : Option ℕ) (m m' : State T P W) → k ≡ unlisted given m → k' ≡ unlisted given m' → Both is_clone h h' m m' → Both is_clone h h' k k'
-  ended_same given m m' a b both = record { handed = both.handed; state = same_after is_clone k k' _ _ a b (same_unlisted is_clone given m m' both.state) }
+  -- two polls of which both wait or neither does
+  ends_same : (side : Side) (given t u : Option ℕ) (waker : W) (m m' : State T P W) → Both is_clone h h' m m' → is_some u ≡ is_some t
+      → Ends is_clone side given waker t m k → Ends is_clone side given waker u m' k' → (u ≡ t) × Both is_clone h h' k k'
+  ends_same side given t u waker m m' both alike a b =
+      let listed = same_enlists is_clone side given t u waker m.waiters k.waiters m'.waiters k'.waiters both.state.waiters alike a.0 b.0 in
+      (listed.0, record { handed = both.handed; state = same_waiting is_clone k k' m m' a.1 b.1 both.state listed.1 })
 
-  pub polls_send_same : (pairs : List (T × P)) (given : Option ℕ) (waker : W) (x y : CorePoll (Result (Unit {0}) (SendFault (List (T × P)))) (List (T × P)))
-      → PollsSend is_clone s pairs given waker x h k → PollsSend is_clone r pairs given waker y h' k'
+  -- two polls whose tries went alike
+  polls_same : {R A : Type 0} {tries others : R → Handed W → State T P W → Type 0} {answer_by : R → Option ℕ → Option A} {side : Side} {given : Option ℕ}
+      {waker : W} {x y : A} (a : Polls is_clone tries answer_by side given waker x h k) (b : Polls is_clone others answer_by side given waker y h' k')
+      → b.reply ≡ a.reply → Both is_clone h h' a.mid b.mid
+      → (answer_by a.reply a.ticket ≡ Some x → answer_by a.reply b.ticket ≡ Some y → is_some b.ticket ≡ is_some a.ticket)
+      → (y ≡ x) × Both is_clone h h' k k'
+  polls_same {answer_by = answer_by} {side = side} {given = given} {waker = waker} {x = x} {y = y} a b replies both alike =
+      let answered : answer_by a.reply b.ticket ≡ Some y = rw replies at b.answered in
+      let ended = ends_same side given a.ticket b.ticket waker a.mid b.mid both (alike a.answered answered) a.ends b.ends in
+      let answers : Some y ≡ Some x = sym answered ∙ (ap (answer_by a.reply) ended.0 ∙ a.answered) in
+      (cc, ended.1)
+
+  pub polls_send_same : (msg : T) (priority : P) (given : Option ℕ) (waker : W) (x y : CorePoll (Result (Unit {0}) (SendFault (T × P))) (T × P))
+      → Moves cmp is_clone s (call.PollSend msg priority given waker) (answer.PollSend x) h k
+      → Moves cmp is_clone r (call.PollSend msg priority given waker) (answer.PollSend y) h' k'
+      → length (accepted_by (call.PollSend msg priority given waker) (answer.PollSend y)) ≡ length (accepted_by (call.PollSend msg priority given waker) (answer.PollSend x))
+      → poll_memory y ≡ poll_memory x → (y ≡ x) × Both is_clone h h' k k'
+  polls_send_same msg priority given waker x y a b count memory =
+      let mine = ap length (accepted_one-is msg priority given waker a.reply a.ticket x a.answered) in
+      let other = ap length (accepted_one-is msg priority given waker b.reply b.ticket y b.answered) in
+      let tries = sends_same is_clone s r a.mid b.mid h h' same ((msg, priority) ∷ []) (as_list a.reply) (as_list b.reply) a.tried b.tried (sym other ∙ (count ∙ mine)) in
+      polls_same a b (as_list_one a.reply b.reply tries.0) tries.1 (λ p q. sends_wait_alike a.reply a.ticket b.ticket x y p q memory)
+
+  pub polls_sendv_same : (pairs : List (T × P)) (given : Option ℕ) (waker : W) (x y : CorePoll (Result (Unit {0}) (SendFault (List (T × P)))) (List (T × P)))
+      → Moves cmp is_clone s (call.PollSendv pairs given waker) (answer.PollSendv x) h k
+      → Moves cmp is_clone r (call.PollSendv pairs given waker) (answer.PollSendv y) h' k'
       → length (poll_sent pairs y) ≡ length (poll_sent pairs x) → poll_memory y ≡ poll_memory x → (y ≡ x) × Both is_clone h h' k k'
-  unfolding poll_memory
-  polls_send_same pairs given waker (Ready (Ok d)) (Ready (Ok e)) a b count memory =
-      let t = sends_same is_clone s r a.0 b.0 h h' same pairs (Ok d) (Ok e) a.1 b.1 count in (refl, ended_same given a.0 b.0 a.2 b.2 t.1)
-  polls_send_same pairs given waker (Ready (Ok d)) (Ready (Err (send_fault.Closed e))) a b count memory =
-      let t = sends_same is_clone s r a.0 b.0 h h' same pairs (Ok d) (Err (send_error.Closed e.0)) a.1 b.1 count in let q = t.0 in absurd (cc)
-  polls_send_same pairs given waker (Ready (Ok d)) (Ready (Err (send_fault.Memory v))) a b count memory = absurd (cc)
-  polls_send_same pairs given waker (Ready (Ok d)) (Pending v u) a b count memory =
-      let t = sends_same is_clone s r a.0 b.0 h h' same pairs (Ok d) (Err (send_error.Full v)) a.1 b.1 count in let q = t.0 in absurd (cc)
-  polls_send_same pairs given waker (Ready (Err (send_fault.Closed d))) (Ready (Ok e)) a b count memory =
-      let t = sends_same is_clone s r a.0 b.0 h h' same pairs (Err (send_error.Closed d.0)) (Ok e) a.1 b.1 count in let q = t.0 in absurd (cc)
-  polls_send_same pairs given waker (Ready (Err (send_fault.Closed d))) (Ready (Err (send_fault.Closed e))) a b count memory =
-      let t = sends_same is_clone s r a.0 b.0 h h' same pairs (Err (send_error.Closed d.0)) (Err (send_error.Closed e.0)) a.1 b.1 count in
-      let q = t.0 in let z : e.0 ≡ d.0 = cc in
-      (ap (λ (l : List (T × P)). Ready (Err (send_fault.Closed (record { 0 = l })))) z, ended_same given a.0 b.0 a.2 b.2 t.1)
-  polls_send_same pairs given waker (Ready (Err (send_fault.Closed d))) (Ready (Err (send_fault.Memory v))) a b count memory = absurd (cc)
-  polls_send_same pairs given waker (Ready (Err (send_fault.Closed d))) (Pending v u) a b count memory =
-      let t = sends_same is_clone s r a.0 b.0 h h' same pairs (Err (send_error.Closed d.0)) (Err (send_error.Full v)) a.1 b.1 count in let q = t.0 in absurd (cc)
-  polls_send_same pairs given waker (Ready (Err (send_fault.Memory v))) (Ready (Err (send_fault.Memory w))) a b count memory =
-      elim a.1 [
-        | inl m ↦ elim b.1 [
-          | inl n ↦ let t = sends_same is_clone s r a.0 b.0 h h' same pairs (Err (send_error.Memory v)) (Err (send_error.Memory w)) m n count in let q = t.0 in (cc, ended_same given a.0 b.0 a.2 b.2 t.1)
-          | inr n ↦ let t = sends_same is_clone s r a.0 b.0 h h' same pairs (Err (send_error.Memory v)) (Err (send_error.Full w)) m n count in let q = t.0 in absurd (cc)
-        ]
-        | inr m ↦ elim b.1 [
-          | inl n ↦ let t = sends_same is_clone s r a.0 b.0 h h' same pairs (Err (send_error.Full v)) (Err (send_error.Memory w)) m n count in let q = t.0 in absurd (cc)
-          | inr n ↦ let t = sends_same is_clone s r a.0 b.0 h h' same pairs (Err (send_error.Full v)) (Err (send_error.Full w)) m n count in let q = t.0 in (cc, ended_same given a.0 b.0 a.2 b.2 t.1)
-        ]
-      ]
-  polls_send_same pairs given waker (Ready (Err (send_fault.Memory v))) (Ready (Ok e)) a b count memory = absurd (cc)
-  polls_send_same pairs given waker (Ready (Err (send_fault.Memory v))) (Ready (Err (send_fault.Closed e))) a b count memory = absurd (cc)
-  polls_send_same pairs given waker (Ready (Err (send_fault.Memory v))) (Pending w u) a b count memory = absurd (cc)
-  polls_send_same pairs given waker (Pending v t') (Ready (Ok e)) a b count memory =
-      let t = sends_same is_clone s r a.0 b.0 h h' same pairs (Err (send_error.Full v)) (Ok e) a.1 b.1 count in let q = t.0 in absurd (cc)
-  polls_send_same pairs given waker (Pending v t') (Ready (Err (send_fault.Closed e))) a b count memory =
-      let t = sends_same is_clone s r a.0 b.0 h h' same pairs (Err (send_error.Full v)) (Err (send_error.Closed e.0)) a.1 b.1 count in let q = t.0 in absurd (cc)
-  polls_send_same pairs given waker (Pending v t') (Ready (Err (send_fault.Memory w))) a b count memory = absurd (cc)
-  polls_send_same pairs given waker (Pending v t') (Pending w u) a b count memory =
-      let t = sends_same is_clone s r a.0 b.0 h h' same pairs (Err (send_error.Full v)) (Err (send_error.Full w)) a.1 b.1 count in
-      let l = waits_room_same is_clone a.0 b.0 k k' h h' t.1.state given waker t' u k k' a.2 b.2 in
-      let q = t.0 in let p = l.0 in
-      (cc, record { handed = t.1.handed; state = l.1 })
+  polls_sendv_same pairs given waker x y a b count memory =
+      let mine = ap length (poll_sent-is pairs a.reply a.ticket x a.answered) in
+      let other = ap length (poll_sent-is pairs b.reply b.ticket y b.answered) in
+      let tries = sends_same is_clone s r a.mid b.mid h h' same pairs a.reply b.reply a.tried b.tried (sym other ∙ (count ∙ mine)) in
+      polls_same a b tries.0 tries.1 (λ p q. sends_wait_alike a.reply a.ticket b.ticket x y p q memory)
 
   pub polls_receive_same : (given : Option ℕ) (waker : W) (x y : CorePoll (Result (T × P) RecvFault) (Unit {0}))
-      → PollsReceive cmp is_clone s given waker x h k → PollsReceive cmp is_clone r given waker y h' k'
+      → Moves cmp is_clone s (call.PollRecv given waker) (answer.PollRecv x) h k
+      → Moves cmp is_clone r (call.PollRecv given waker) (answer.PollRecv y) h' k'
       → is_memory {T = T} {P = P} (answer.PollRecv y) ≡ is_memory {T = T} {P = P} (answer.PollRecv x) → (y ≡ x) × Both is_clone h h' k k'
-  polls_receive_same given waker (Ready (Ok p)) (Ready (Ok q)) a b memory =
-      let t = receives_same is_clone s r a.0 b.0 h h' same o (Ok p) (Ok q) a.1 b.1 in let z = t.0 in (cc, ended_same given a.0 b.0 a.2 b.2 t.1)
-  polls_receive_same given waker (Ready (Ok p)) (Ready (Err (recv_fault.Closed e))) a b memory =
-      let t = receives_same is_clone s r a.0 b.0 h h' same o (Ok p) (Err recv_error.Closed) a.1 b.1 in let z = t.0 in absurd (cc)
-  polls_receive_same given waker (Ready (Ok p)) (Ready (Err recv_fault.Memory)) a b memory = absurd (cc)
-  polls_receive_same given waker (Ready (Ok p)) (Pending c u) a b memory =
-      let t = receives_same is_clone s r a.0 b.0 h h' same o (Ok p) (Err recv_error.Empty) a.1 b.1 in let z = t.0 in absurd (cc)
-  polls_receive_same given waker (Ready (Err (recv_fault.Closed d))) (Ready (Ok q)) a b memory =
-      let t = receives_same is_clone s r a.0 b.0 h h' same o (Err recv_error.Closed) (Ok q) a.1 b.1 in let z = t.0 in absurd (cc)
-  polls_receive_same given waker (Ready (Err (recv_fault.Closed d))) (Ready (Err (recv_fault.Closed e))) a b memory =
-      let t = receives_same is_clone s r a.0 b.0 h h' same o (Err recv_error.Closed) (Err recv_error.Closed) a.1 b.1 in (refl, ended_same given a.0 b.0 a.2 b.2 t.1)
-  polls_receive_same given waker (Ready (Err (recv_fault.Closed d))) (Ready (Err recv_fault.Memory)) a b memory = absurd (cc)
-  polls_receive_same given waker (Ready (Err (recv_fault.Closed d))) (Pending c u) a b memory =
-      let t = receives_same is_clone s r a.0 b.0 h h' same o (Err recv_error.Closed) (Err recv_error.Empty) a.1 b.1 in let z = t.0 in absurd (cc)
-  polls_receive_same given waker (Ready (Err recv_fault.Memory)) (Ready (Err recv_fault.Memory)) a b memory =
-      let t = receives_same is_clone s r a.0 b.0 h h' same o (Err recv_error.Empty) (Err recv_error.Empty) a.1 b.1 in (refl, ended_same given a.0 b.0 a.2 b.2 t.1)
-  polls_receive_same given waker (Ready (Err recv_fault.Memory)) (Ready (Ok q)) a b memory = absurd (cc)
-  polls_receive_same given waker (Ready (Err recv_fault.Memory)) (Ready (Err (recv_fault.Closed e))) a b memory = absurd (cc)
-  polls_receive_same given waker (Ready (Err recv_fault.Memory)) (Pending c u) a b memory = absurd (cc)
-  polls_receive_same given waker (Pending c t') (Ready (Ok q)) a b memory =
-      let t = receives_same is_clone s r a.0 b.0 h h' same o (Err recv_error.Empty) (Ok q) a.1 b.1 in let z = t.0 in absurd (cc)
-  polls_receive_same given waker (Pending c t') (Ready (Err (recv_fault.Closed e))) a b memory =
-      let t = receives_same is_clone s r a.0 b.0 h h' same o (Err recv_error.Empty) (Err recv_error.Closed) a.1 b.1 in let z = t.0 in absurd (cc)
-  polls_receive_same given waker (Pending c t') (Ready (Err recv_fault.Memory)) a b memory = absurd (cc)
-  polls_receive_same given waker (Pending c t') (Pending d u) a b memory =
-      let t = receives_same is_clone s r a.0 b.0 h h' same o (Err recv_error.Empty) (Err recv_error.Empty) a.1 b.1 in
-      let l = waits_message_same is_clone a.0 b.0 k k' h h' t.1.state given waker t' u k k' a.2 b.2 in
-      (ap (λ (n : ℕ). Pending tt n) l.0, record { handed = t.1.handed; state = l.1 })
+  polls_receive_same given waker x y a b memory =
+      let tries = receives_same is_clone s r a.mid b.mid h h' same o a.reply b.reply a.tried b.tried in
+      polls_same a b tries.0 tries.1 (λ p q. recvs_wait_alike a.reply a.ticket b.ticket x y p q memory)

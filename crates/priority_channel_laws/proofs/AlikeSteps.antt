@@ -6,47 +6,24 @@ use Rattle.std.specs.List.{AllZip}
 use Rattle.std.specs.declared.cmp.Ordering.{Ordering}
 use Rattle.priority_channel_core.specs.declared.calls.Call.TheVariants as call
 use Rattle.priority_channel_core.specs.declared.calls.Answer.TheVariants as answer
-use Rattle.priority_channel_core.specs.State.{State, Handed}
-use Rattle.priority_channel_core.specs.Sends.{as_list}
-use Rattle.priority_channel_core.specs.Receives.{capacity_told, Drops}
-use Rattle.priority_channel_core.specs.Polls.{poll_as_list}
+use Rattle.priority_channel_core.specs.machine.State.{State, Handed}
+use Rattle.priority_channel_core.specs.machine.Sends.{as_list}
+use Rattle.priority_channel_core.specs.machine.OtherCalls.{capacity_told, Drops}
 use Rattle.priority_channel_laws.specs.Accepted.{accepted_by}
 use Rattle.priority_channel_laws.specs.Alike.{is_memory, SameState, SameOutcome, IsAlike}
-use Rattle.priority_channel_core.specs.Step.{Moves, Calls, Answers}
-use Rattle.priority_channel_core.specs.Run.{Made, Run}
-use Rattle.priority_channel_laws.proofs.AlikeLists.{same_after, same_unlisted, nobody_same}
+use Rattle.priority_channel_core.specs.machine.Step.{Moves, Calls, Answers}
+use Rattle.priority_channel_core.specs.machine.Run.{Made, Run}
+use Rattle.priority_channel_laws.proofs.AlikeLists.{same_after, same_unlisted, nobody_same, same_pending, same_closed, same_capacity, same_senders, same_receivers}
 use Rattle.priority_channel_laws.proofs.AlikeCalls.{Both, sends_same, receives_same, closes_same, looks_same, clones_same, drops_same}
-use Rattle.priority_channel_laws.proofs.AlikePolls.{is_memory-poll_send, is_memory-poll_sendv, as_list_one, poll_as_list_one, polls_send_same, polls_receive_same}
+use Rattle.priority_channel_laws.proofs.AlikePolls.{is_memory-poll_send, is_memory-poll_sendv, as_list_one, polls_send_same, polls_sendv_same, polls_receive_same}
 
 module _ {T P W : Type 0} (is_clone : W → W → Type 0) {cmp : P → P → Ordering} (o : IsTotalOrder cmp) where
   -- a state changed in one count
   more_senders : (s r : State T P W) (n m : ℕ) → m ≡ n → SameState is_clone s r → SameState is_clone (record s { sender_count = n }) (record r { sender_count = m })
-  more_senders s r n m e h = record {
-    pending = h.pending;
-    accepted = h.accepted;
-    is_closed = h.is_closed;
-    capacity = h.capacity;
-    is_reserved = h.is_reserved;
-    sender_count = e;
-    receiver_count = h.receiver_count;
-    room_waiters = h.room_waiters;
-    message_waiters = h.message_waiters;
-    next_ticket = h.next_ticket;
-  }
+  more_senders s r n m e h = rw e (record { waiters = h.waiters; others = ap (λ (x : State T P W). record x { sender_count = n }) h.others })
 
   more_receivers : (s r : State T P W) (n m : ℕ) → m ≡ n → SameState is_clone s r → SameState is_clone (record s { receiver_count = n }) (record r { receiver_count = m })
-  more_receivers s r n m e h = record {
-    pending = h.pending;
-    accepted = h.accepted;
-    is_closed = h.is_closed;
-    capacity = h.capacity;
-    is_reserved = h.is_reserved;
-    sender_count = h.sender_count;
-    receiver_count = e;
-    room_waiters = h.room_waiters;
-    message_waiters = h.message_waiters;
-    next_ticket = h.next_ticket;
-  }
+  more_receivers s r n m e h = rw e (record { waiters = h.waiters; others = ap (λ (x : State T P W). record x { receiver_count = n }) h.others })
 
   module _ (s r k k' : State T P W) (h h' : Handed W) (same : SameState is_clone s r) where
     pub step_same : (made : Calls T P W) (x y : Answers T P) → Moves cmp is_clone s made x h k → Moves cmp is_clone r made y h' k'
@@ -60,43 +37,43 @@ module _ {T P W : Type 0} (is_clone : W → W → Type 0) {cmp : P → P → Ord
     step_same call.Close (answer.Close x) (answer.Close y) a b count memory =
         let t = closes_same is_clone s r k k' h h' same x y a b in (ap (λ z. answer.Close z) t.0, t.1)
     step_same call.IsClosed (answer.IsClosed x) (answer.IsClosed y) a b count memory =
-        let t = looks_same is_clone s r k k' h h' same _ _ x y same.is_closed a b in (ap (λ z. answer.IsClosed z) t.0, t.1)
+        let t = looks_same is_clone s r k k' h h' same _ _ x y (same_closed is_clone same) a b in (ap (λ z. answer.IsClosed z) t.0, t.1)
     step_same call.IsEmpty (answer.IsEmpty x) (answer.IsEmpty y) a b count memory =
-        let t = looks_same is_clone s r k k' h h' same _ _ x y (ap (λ (l : List (T × P)). length l == 0) same.pending) a b in (ap (λ z. answer.IsEmpty z) t.0, t.1)
+        let t = looks_same is_clone s r k k' h h' same _ _ x y (ap (λ (l : List (T × P)). length l == 0) (same_pending is_clone same)) a b in (ap (λ z. answer.IsEmpty z) t.0, t.1)
     step_same call.IsFull (answer.IsFull x) (answer.IsFull y) a b count memory =
-        let t = looks_same is_clone s r k k' h h' same (length s.pending == s.capacity) (length r.pending == r.capacity) x y (rw (same.pending, same.capacity) refl) a b in (ap (λ z. answer.IsFull z) t.0, t.1)
+        let t = looks_same is_clone s r k k' h h' same (length s.pending == s.capacity) (length r.pending == r.capacity) x y (rw ((same_pending is_clone same), (same_capacity is_clone same)) refl) a b in (ap (λ z. answer.IsFull z) t.0, t.1)
     step_same call.Len (answer.Len x) (answer.Len y) a b count memory =
-        let t = looks_same is_clone s r k k' h h' same (length s.pending) (length r.pending) x y (ap length same.pending) a b in (ap (λ z. answer.Len z) t.0, t.1)
+        let t = looks_same is_clone s r k k' h h' same (length s.pending) (length r.pending) x y (ap length (same_pending is_clone same)) a b in (ap (λ z. answer.Len z) t.0, t.1)
     step_same call.Capacity (answer.Capacity x) (answer.Capacity y) a b count memory =
-        let t = looks_same is_clone s r k k' h h' same (capacity_told s.capacity) (capacity_told r.capacity) x y (rw same.capacity refl) a b in (ap (λ z. answer.Capacity z) t.0, t.1)
+        let t = looks_same is_clone s r k k' h h' same (capacity_told s.capacity) (capacity_told r.capacity) x y (rw (same_capacity is_clone same) refl) a b in (ap (λ z. answer.Capacity z) t.0, t.1)
     step_same call.SenderCount (answer.SenderCount x) (answer.SenderCount y) a b count memory =
-        let t = looks_same is_clone s r k k' h h' same _ _ x y same.sender_count a b in (ap (λ z. answer.SenderCount z) t.0, t.1)
+        let t = looks_same is_clone s r k k' h h' same _ _ x y (same_senders is_clone same) a b in (ap (λ z. answer.SenderCount z) t.0, t.1)
     step_same call.ReceiverCount (answer.ReceiverCount x) (answer.ReceiverCount y) a b count memory =
-        let t = looks_same is_clone s r k k' h h' same _ _ x y same.receiver_count a b in (ap (λ z. answer.ReceiverCount z) t.0, t.1)
+        let t = looks_same is_clone s r k k' h h' same _ _ x y (same_receivers is_clone same) a b in (ap (λ z. answer.ReceiverCount z) t.0, t.1)
     step_same call.CloneSender (answer.CloneSender x) (answer.CloneSender y) a b count memory =
-        let e = same.sender_count in
+        let e = (same_senders is_clone same) in
         let t = clones_same is_clone s r k k' h h' same s.sender_count r.sender_count _ _ x y e (more_senders s r (s.sender_count + 1) (r.sender_count + 1) (omega arith) same) a b in (ap (λ z. answer.CloneSender z) t.0, t.1)
     step_same call.CloneReceiver (answer.CloneReceiver x) (answer.CloneReceiver y) a b count memory =
-        let e = same.receiver_count in
+        let e = (same_receivers is_clone same) in
         let t = clones_same is_clone s r k k' h h' same s.receiver_count r.receiver_count _ _ x y e (more_receivers s r (s.receiver_count + 1) (r.receiver_count + 1) (omega arith) same) a b in (ap (λ z. answer.CloneReceiver z) t.0, t.1)
     step_same call.DropSender answer.DropSender answer.DropSender a b count memory =
-        let e = same.sender_count in (
+        let e = (same_senders is_clone same) in (
           refl,
           drops_same is_clone s r k k' h h' same s.sender_count _ _ (more_senders s r (s.sender_count - 1) (r.sender_count - 1) (ap (λ (n : ℕ). n - 1) e) same) a
               (subst (λ (n : ℕ). Drops n (record r { sender_count = r.sender_count - 1 }) h' k') e b),
         )
     step_same call.DropReceiver answer.DropReceiver answer.DropReceiver a b count memory =
-        let e = same.receiver_count in (
+        let e = (same_receivers is_clone same) in (
           refl,
           drops_same is_clone s r k k' h h' same s.receiver_count _ _ (more_receivers s r (s.receiver_count - 1) (r.receiver_count - 1) (ap (λ (n : ℕ). n - 1) e) same) a
               (subst (λ (n : ℕ). Drops n (record r { receiver_count = r.receiver_count - 1 }) h' k') e b),
         )
     step_same (call.PollSend m p given waker) (answer.PollSend x) (answer.PollSend y) a b count memory =
-        let t = polls_send_same is_clone o s r k k' h h' same ((m, p) ∷ []) given waker (poll_as_list x) (poll_as_list y) a b count
+        let t = polls_send_same is_clone o s r k k' h h' same m p given waker x y a b count
         (is_memory-poll_send {T = T} {P = P} y ∙ (memory ∙ sym (is_memory-poll_send {T = T} {P = P} x))) in
-        (ap (λ z. answer.PollSend z) (poll_as_list_one x y t.0), t.1)
+        (ap (λ z. answer.PollSend z) t.0, t.1)
     step_same (call.PollSendv pairs given waker) (answer.PollSendv x) (answer.PollSendv y) a b count memory =
-        let t = polls_send_same is_clone o s r k k' h h' same pairs given waker x y a b count
+        let t = polls_sendv_same is_clone o s r k k' h h' same pairs given waker x y a b count
         (is_memory-poll_sendv {T = T} {P = P} y ∙ (memory ∙ sym (is_memory-poll_sendv {T = T} {P = P} x))) in
         (ap (λ z. answer.PollSendv z) t.0, t.1)
     step_same (call.PollRecv given waker) (answer.PollRecv x) (answer.PollRecv y) a b count memory =

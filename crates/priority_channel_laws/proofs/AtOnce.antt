@@ -1,5 +1,5 @@
 -- Tries of what is kept of a future: where they answer they are polls, with whatever waker.
-use Rattle.std.proofs.Common.{◌≡◌, ◌≤◌, ◌*◌, ℕ, List, length, ap, refl, inl, arith}
+use Rattle.std.proofs.Common.{◌≡◌, ◌≤◌, ◌*◌, ℕ, List, [], ◌∷◌, length, ap, refl, arith}
 use Rattle.std.specs.Prelude.{Option, None, Some, IfSome, IfErr, Result, Ok, Err}
 use Rattle.futures.specs.declared.task.Poll.{Poll}
 use Rattle.futures.specs.declared.task.Poll.TheVariants as poll
@@ -17,14 +17,18 @@ use Rattle.priority_channel_parts.specs.Errors.{refused}
 use Rattle.priority_channel_core.specs.declared.calls.Call.TheVariants as call
 use Rattle.priority_channel_core.specs.declared.calls.Answer.TheVariants as answer
 use Rattle.priority_channel_core.specs.declared.calls.CorePoll.TheVariants.{Ready}
-use Rattle.priority_channel_core.specs.State.{State, Handed}
-use Rattle.priority_channel_core.specs.Good.{IsGood}
-use Rattle.priority_channel_core.specs.Step.{Step}
-use Rattle.priority_channel_core.specs.Bulk.{Performs}
-use Rattle.priority_channel_core.specs.Polls.{unlisted}
-use Rattle.priority_channel_core.specs.Sends.{AddsFront}
-use Rattle.priority_channel_core.specs.Channel.{CountedState, ComparesAtMost, search_bound}
-use Rattle.priority_channel_core.proofs.PollLemmas.{performs_poll, sent_searches_less}
+use Rattle.priority_channel_core.specs.machine.State.{State, Handed}
+use Rattle.priority_channel_core.specs.machine.Good.{IsGood}
+use Rattle.priority_channel_core.specs.machine.Step.{Step}
+use Rattle.priority_channel_core.specs.code.Calls.{Performs}
+use Rattle.priority_channel_parts.specs.Waiters.{unlist, search_bound}
+use Rattle.priority_channel_parts.specs.declared.side.Side.{Side}
+use Rattle.priority_channel_parts.specs.declared.side.Side.TheVariants.{Room, Message}
+use Rattle.priority_channel_core.specs.machine.Sends.{as_list, AddsFront}
+use Rattle.priority_channel_core.specs.machine.Polls.{Polls}
+use Rattle.priority_channel_core.specs.code.Channel.{CountedState, ComparesAtMost}
+use Rattle.priority_channel_core.proofs.PollLemmas.{performs_poll, sent_searches_less, ends_unlisted}
+use Rattle.priority_channel_core.proofs.SendLemmas.{sends_front}
 use Rattle.priority_channel_laws.specs.Future.Task.{Sendv}
 use Rattle.priority_channel_laws.specs.States.{Holding, done, told_at_once, left_at_once, handed_back, send_of, recv_of, TriesFront, PollsKept}
 use Rattle.priority_channel_laws.specs.World.{GivesUpTicket}
@@ -32,12 +36,18 @@ use Rattle.priority_channel_laws.proofs.StateLemmas.{if_some}
 
 -- who gave up a ticket, if there was one, is in neither list
 pub given_up : {T P W : Type 0} (cmp : P → P → Ordering) (is_clone : W → W → Type 0) (mid new : State T P W) (given : Option ℕ) → IsGood mid
-    → GivesUpTicket cmp is_clone mid given new → (new ≡ unlisted given mid) × IsGood new
+    → GivesUpTicket cmp is_clone mid given new → (new ≡ record mid { waiters = unlist given mid.waiters }) × IsGood new
 given_up cmp is_clone mid new None good same = (same, rw same good)
 given_up cmp is_clone mid new (Some ticket) good gave = (gave.moves.1, gave.good)
 
 module _ {T P W : Type 0} (cmp : P → P → Ordering) (is_clone : W → W → Type 0) (old mid new : State T P W) (handed : Handed W) where
   -- a try that is answered, and then the ticket given up, are a poll with whatever waker
+  polled_at_once : {R A : Type 0} {tries : R → Handed W → State T P W → Type 0} {answer_by : R → Option ℕ → Option A} {answered : A} (side : Side)
+      (given : Option ℕ) (reply : R) (waker : W) → tries reply handed mid → answer_by reply None ≡ Some answered
+      → new ≡ record mid { waiters = unlist given mid.waiters } → Polls is_clone tries answer_by side given waker answered handed new
+  polled_at_once side given reply waker tried is gone =
+      record { reply = reply; ticket = None; mid = mid; tried = tried; answered = is; ends = ends_unlisted is_clone side given waker mid new gone }
+
   pub received_at_once : (holding : Holding (Unit {0})) (pair : T × P) → Step cmp is_clone old call.TryRecv (answer.TryRecv (Ok pair)) handed mid
       → GivesUpTicket cmp is_clone mid holding.ticket new
       → IfSome holding.kept (λ kept. (waker : W) → PollsKept (Step cmp is_clone) recv_of (λ reply. answer.PollRecv reply)
@@ -47,7 +57,7 @@ module _ {T P W : Type 0} (cmp : P → P → Ordering) (is_clone : W → W → T
       if_some _ holding.kept (λ kept is waker. record {
         reply = Ready (Ok pair);
         tells = refl;
-        step = record { moves = (mid, step.moves, gone.0); good = gone.1 };
+        step = record { moves = polled_at_once Message holding.ticket (Ok pair) waker step.moves refl gone.0; good = gone.1 };
         leaves = record { task = refl; ticket = refl };
       })
 
@@ -61,7 +71,7 @@ module _ {T P W : Type 0} (cmp : P → P → Ordering) (is_clone : W → W → T
       if_some _ holding.kept (λ kept is waker. record {
         reply = Ready (Err (recv_fault.Closed fault));
         tells = refl;
-        step = record { moves = (mid, step.moves, gone.0); good = gone.1 };
+        step = record { moves = polled_at_once Message holding.ticket (Err recv_error.Closed) waker step.moves refl gone.0; good = gone.1 };
         leaves = record { task = refl; ticket = refl };
       })
 
@@ -75,13 +85,13 @@ module _ {T P W : Type 0} (cmp : P → P → Ordering) (is_clone : W → W → T
   unfolding SentAtOnce
   sent (Ok _) pair given step gave = λ waker.
       let gone = given_up cmp is_clone mid new given step.good gave in
-      record { reply = Ready (Ok tt); tells = refl; step = record { moves = (mid, step.moves, gone.0); good = gone.1 }; leaves = record { task = refl; ticket = refl } }
+      record { reply = Ready (Ok tt); tells = refl; step = record { moves = polled_at_once Room given (Ok tt) waker step.moves refl gone.0; good = gone.1 }; leaves = record { task = refl; ticket = refl } }
   sent (Err (send_error.Closed held)) pair given step gave = λ waker.
       let gone = given_up cmp is_clone mid new given step.good gave in
-      record { reply = Ready (Err (send_fault.Closed (record { 0 = held }))); tells = refl; step = record { moves = (mid, step.moves, gone.0); good = gone.1 }; leaves = record { task = refl; ticket = refl } }
+      record { reply = Ready (Err (send_fault.Closed (record { 0 = held }))); tells = refl; step = record { moves = polled_at_once Room given (Err (send_error.Closed held)) waker step.moves refl gone.0; good = gone.1 }; leaves = record { task = refl; ticket = refl } }
   sent (Err (send_error.Memory held)) pair given step gave = λ waker.
       let gone = given_up cmp is_clone mid new given step.good gave in
-      record { reply = Ready (Err (send_fault.Memory held)); tells = refl; step = record { moves = (mid, inl step.moves, gone.0); good = gone.1 }; leaves = record { task = refl; ticket = refl } }
+      record { reply = Ready (Err (send_fault.Memory held)); tells = refl; step = record { moves = polled_at_once Room given (Err (send_error.Memory held)) waker step.moves refl gone.0; good = gone.1 }; leaves = record { task = refl; ticket = refl } }
   sent (Err (send_error.Full held)) pair given step gave = tt
 
   pub sent_at_once : (holding left : Holding (T × P)) (tried : Result (Unit {0}) (TrySendError (T × P))) (told : Poll (Result (Unit {0}) (SendFault (T × P))))
@@ -97,11 +107,10 @@ module _ {T P W : Type 0} (cmp : P → P → Ordering) (is_clone : W → W → T
 
   -- a try leaves no more to search
   pub tried_searches_less : (tried : Result (Unit {0}) (TrySendError (T × P))) (msg : T) (priority : P)
-      → Step cmp is_clone old (call.TrySend msg priority) (answer.TrySend tried) handed mid → search_bound mid ≤ search_bound old
-  tried_searches_less (Ok _) msg priority step = sent_searches_less old mid _ handed step.moves.2.1
-  tried_searches_less (Err (send_error.Closed held)) msg priority step = let same = step.moves.2.1 in rw same (omega arith)
-  tried_searches_less (Err (send_error.Full held)) msg priority step = sent_searches_less old mid _ handed step.moves.2.1
-  tried_searches_less (Err (send_error.Memory held)) msg priority step = sent_searches_less old mid _ handed step.moves.4.1
+      → Step cmp is_clone old (call.TrySend msg priority) (answer.TrySend tried) handed mid → search_bound mid.waiters ≤ search_bound old.waiters
+  tried_searches_less tried msg priority step =
+      let front = sends_front old mid ((msg, priority) ∷ []) (as_list tried) handed step.moves in
+      sent_searches_less old mid front.0 handed front.1
 
 -- who gives up a ticket takes no pair
 pub pending_stays : {T P W R : Type 0} (cmp : P → P → Ordering) (is_clone : W → W → Type 0) (mid new : CountedState T P W) (told : Poll R) (given : Option ℕ)
@@ -114,7 +123,7 @@ pending_stays {T} {P} {W} cmp is_clone mid new poll.Pending given good gave wait
 -- whatever its iterator, a try of a bulk send sends a front, and leaves a good state
 module _ {T P W R : Type 0} (cmp : P → P → Ordering) (is_clone : W → W → Type 0) (mid new : CountedState T P W) (given : Option ℕ) where
   answered_unlisted : (told : Poll R) → IsGood mid.state → IfReady told (λ _. GivesUpTicket cmp is_clone mid.state given new.state)
-      → IfReady told (λ _. new.state ≡ unlisted given mid.state)
+      → IfReady told (λ _. new.state ≡ record mid.state { waiters = unlist given mid.state.waiters })
   answered_unlisted (poll.Ready r) good gave = (given_up cmp is_clone mid.state new.state given good gave).0
   answered_unlisted poll.Pending good gave = tt
 
@@ -123,10 +132,10 @@ module _ {T P W R : Type 0} (cmp : P → P → Ordering) (is_clone : W → W →
   waits_same poll.Pending same = ap (λ (s : CountedState T P W). s.state) same
 
   pub tries_front : (old : CountedState T P W) (told : Poll R) (front : List (T × P)) (handed : Handed W) → IsGood mid.state → AddsFront old.state front handed mid.state
-      → ComparesAtMost (length front * digits (length mid.state.pending)) 0 old mid → ComparesAtMost 0 (search_bound mid.state) mid new
+      → ComparesAtMost (length front * digits (length mid.state.pending)) 0 old mid → ComparesAtMost 0 (search_bound mid.state.waiters) mid new
       → IfReady told (λ _. GivesUpTicket cmp is_clone mid.state given new.state) → OnPending told (new ≡ mid)
       → (f : List (T × P)) × TriesFront old.state given f told handed new.state
-      × ComparesAtMost (length f * digits (length new.state.pending)) (search_bound old.state) old new
+      × ComparesAtMost (length f * digits (length new.state.pending)) (search_bound old.state.waiters) old new
   tries_front old told front handed good adds tried ended gave waits =
       let same = ap (λ (n : ℕ). length front * digits n) (pending_stays cmp is_clone mid new told given good gave waits) in
       let less = sent_searches_less old.state mid.state front handed adds in (
@@ -170,7 +179,8 @@ module _ {T P W M : Type 0} (holds : M → List (T × P) → Type 0) (cmp : P �
       record {
         reply = Ready (Ok tt);
         tells = refl;
-        step = performs_poll holds is_clone cmp old mid new handed msgs given waker (Ok sent) _ step (refl, gone.0) gone.1;
+        step = performs_poll holds is_clone cmp old mid new handed msgs given None waker (Ok sent) _ step refl
+            (ends_unlisted is_clone Room given waker mid new gone.0) gone.1;
         leaves = record { task = refl; ticket = refl };
       }
   sentv (Err (send_error.Closed held)) msgs given good step gave = λ waker.
@@ -178,7 +188,8 @@ module _ {T P W M : Type 0} (holds : M → List (T × P) → Type 0) (cmp : P �
       record {
         reply = Ready (Err (send_fault.Closed (record { 0 = held })));
         tells = refl;
-        step = performs_poll holds is_clone cmp old mid new handed msgs given waker (Err (send_error.Closed held)) _ step (refl, gone.0) gone.1;
+        step = performs_poll holds is_clone cmp old mid new handed msgs given None waker (Err (send_error.Closed held)) _ step refl
+            (ends_unlisted is_clone Room given waker mid new gone.0) gone.1;
         leaves = record { task = refl; ticket = refl };
       }
   sentv (Err (send_error.Memory held)) msgs given good step gave = λ waker.
@@ -186,7 +197,8 @@ module _ {T P W M : Type 0} (holds : M → List (T × P) → Type 0) (cmp : P �
       record {
         reply = Ready (Err (send_fault.Memory held));
         tells = refl;
-        step = performs_poll holds is_clone cmp old mid new handed msgs given waker (Err (send_error.Memory held)) _ step (refl, gone.0) gone.1;
+        step = performs_poll holds is_clone cmp old mid new handed msgs given None waker (Err (send_error.Memory held)) _ step refl
+            (ends_unlisted is_clone Room given waker mid new gone.0) gone.1;
         leaves = record { task = refl; ticket = refl };
       }
   sentv (Err (send_error.Full held)) msgs given good step gave = tt

@@ -1,7 +1,7 @@
 -- How the futures stand once some tickets are handed out.
 use Rattle.std.proofs.Common.{◌≡◌, ℕ, ◌⊎◌, Bool, true, false, refl, sym, inl, inr}
 use Rattle.std.specs.Prelude.{Some, if◌then◌else◌}
-use Rattle.priority_channel_core.specs.State.{Handed}
+use Rattle.priority_channel_core.specs.machine.State.{Handed}
 use Rattle.priority_channel_laws.specs.Future.{Standing, ticket_of}
 use Rattle.priority_channel_laws.specs.World.{is_handed, called}
 use Rattle.priority_channel_laws.specs.Future.Standing.{New, Waiting, Called, Done}

@@ -1,8 +1,8 @@
 -- What a step does to the pending pairs.
-use Rattle.std.proofs.Common.{◌≡◌, ℕ, ◌-◌, ◌≤◌, ◌⊎◌, Bool, true, false, List, [], ◌∷◌, ◌++◌, length, take, drop, refl, ap, ◌∙◌, subst, arith, inl, inr, zero, suc}
-use Rattle.std.specs.Prelude.{Result, Ok, Err, Option}
-use Rattle.std.proofs.Math.Seq.{take-length}
-use Rattle.std.proofs.lemmas.List.{length-drop, append-nil}
+use Rattle.std.proofs.Common.{◌≡◌, ℕ, ◌-◌, ◌⊎◌, Bool, true, false, List, [], ◌∷◌, ◌++◌, length, refl, ap, ◌∙◌, arith, inl, inr, zero, suc, length-append}
+use Rattle.std.specs.Prelude.{Result, Ok, Err, Option, None, Some}
+use Rattle.std.proofs.Math.Seq.{take-append_seam}
+use Rattle.std.proofs.lemmas.List.{append-nil}
 use Rattle.std.specs.List.{All}
 use Rattle.std.specs.List.Sorted.{IsPermutation}
 use Rattle.std.proofs.lemmas.List.Sorted.{IsPermutation-refl, IsPermutation-middle}
@@ -22,15 +22,52 @@ use Rattle.priority_channel_parts.specs.declared.errors.SendFault.{SendFault}
 use Rattle.priority_channel_parts.specs.declared.errors.SendFault.TheVariants as send_fault
 use Rattle.priority_channel_parts.specs.declared.errors.RecvFault.{RecvFault}
 use Rattle.priority_channel_parts.specs.declared.errors.RecvFault.TheVariants as recv_fault
-use Rattle.priority_channel_core.specs.State.{State, Handed, room}
-use Rattle.priority_channel_core.specs.Sends.{as_list, Accepts, Sends}
-use Rattle.priority_channel_core.specs.Receives.{Receives, Clones, Drops}
-use Rattle.priority_channel_core.specs.Polls.{poll_as_list, PollsSend, PollsReceive}
-use Rattle.priority_channel_core.specs.Step.{Moves, Calls, Answers}
+use Rattle.priority_channel_core.specs.machine.State.{State, Handed}
+use Rattle.priority_channel_core.specs.machine.Sends.{as_list, Accepts, Sends}
+use Rattle.priority_channel_core.specs.machine.OtherCalls.{Receives, Clones, Drops}
+use Rattle.priority_channel_core.specs.machine.Polls.{send_answer, recv_answer, Polls}
+use Rattle.priority_channel_parts.specs.declared.side.Side.{Side}
+use Rattle.priority_channel_core.specs.machine.Step.{Moves, Calls, Answers}
 use Rattle.priority_channel_laws.specs.Accepted.{all_but, sent, poll_sent, accepted_by, received_by}
 
-pub all_but-drop : {A : Type 0} (n : ℕ) (pairs : List A) → n ≤ length pairs → all_but (drop n pairs) pairs ≡ take n pairs
-all_but-drop n pairs h = ap (λ k. take k pairs) (let d = length-drop n pairs in let e : length pairs - length (drop n pairs) ≡ n = omega arith in e)
+pub all_but-front : {A : Type 0} (front rest : List A) → all_but rest (front ++ rest) ≡ front
+all_but-front front rest =
+    let l = length-append front rest in let e : length (front ++ rest) - length rest ≡ length front = omega (arith, l) in
+    rw e (take-append_seam front rest)
+
+-- a poll accepts what its try does
+pub poll_sent-is : {A : Type 0} (pairs : List A) (reply : Result (Unit {0}) (TrySendError (List A))) (listed : Option ℕ)
+    (poll : CorePoll (Result (Unit {0}) (SendFault (List A))) (List A)) → send_answer reply listed ≡ Some poll → poll_sent pairs poll ≡ sent pairs reply
+poll_sent-is pairs (Ok done) None poll h = let e : poll ≡ Ready (Ok done) = cc in rw e refl
+poll_sent-is pairs (Err (send_error.Closed rest)) None poll h = let e : poll ≡ Ready (Err (send_fault.Closed (record { 0 = rest }))) = cc in rw e refl
+poll_sent-is pairs (Err (send_error.Memory rest)) None poll h = let e : poll ≡ Ready (Err (send_fault.Memory rest)) = cc in rw e refl
+poll_sent-is pairs (Err (send_error.Full rest)) None poll h = let e : poll ≡ Ready (Err (send_fault.Memory rest)) = cc in rw e refl
+poll_sent-is pairs (Err (send_error.Full rest)) (Some ticket) poll h = let e : poll ≡ Pending rest ticket = cc in rw e refl
+poll_sent-is pairs (Ok done) (Some ticket) poll h = absurd (cc)
+poll_sent-is pairs (Err (send_error.Closed rest)) (Some ticket) poll h = absurd (cc)
+poll_sent-is pairs (Err (send_error.Memory rest)) (Some ticket) poll h = absurd (cc)
+
+pub accepted_one-is : {T P W : Type 0} (msg : T) (priority : P) (given : Option ℕ) (waker : W) (reply : Result (Unit {0}) (TrySendError (T × P))) (listed : Option ℕ)
+    (poll : CorePoll (Result (Unit {0}) (SendFault (T × P))) (T × P)) → send_answer reply listed ≡ Some poll
+    → accepted_by (call.PollSend msg priority given waker) (answer.PollSend poll) ≡ sent ((msg, priority) ∷ []) (as_list reply)
+accepted_one-is msg priority given waker (Ok done) None poll h = let e : poll ≡ Ready (Ok done) = cc in rw e refl
+accepted_one-is msg priority given waker (Err (send_error.Closed rest)) None poll h = let e : poll ≡ Ready (Err (send_fault.Closed (record { 0 = rest }))) = cc in rw e refl
+accepted_one-is msg priority given waker (Err (send_error.Memory rest)) None poll h = let e : poll ≡ Ready (Err (send_fault.Memory rest)) = cc in rw e refl
+accepted_one-is msg priority given waker (Err (send_error.Full rest)) None poll h = let e : poll ≡ Ready (Err (send_fault.Memory rest)) = cc in rw e refl
+accepted_one-is msg priority given waker (Err (send_error.Full rest)) (Some ticket) poll h = let e : poll ≡ Pending rest ticket = cc in rw e refl
+accepted_one-is msg priority given waker (Ok done) (Some ticket) poll h = absurd (cc)
+accepted_one-is msg priority given waker (Err (send_error.Closed rest)) (Some ticket) poll h = absurd (cc)
+accepted_one-is msg priority given waker (Err (send_error.Memory rest)) (Some ticket) poll h = absurd (cc)
+
+-- and receives what its try does
+poll_received-is : {T P : Type 0} (reply : Result (T × P) TryRecvError) (listed : Option ℕ) (poll : CorePoll (Result (T × P) RecvFault) (Unit {0}))
+    → recv_answer reply listed ≡ Some poll → received_by {T = T} {P = P} (answer.PollRecv poll) ≡ received_by (answer.TryRecv reply)
+poll_received-is (Ok pair) None poll h = let e : poll ≡ Ready (Ok pair) = cc in rw e refl
+poll_received-is (Err recv_error.Closed) None poll h = let e : poll ≡ Ready (Err (recv_fault.Closed (record {}))) = cc in rw e refl
+poll_received-is (Err recv_error.Empty) None poll h = let e : poll ≡ Ready (Err recv_fault.Memory) = cc in rw e refl
+poll_received-is (Err recv_error.Empty) (Some ticket) poll h = let e : poll ≡ Pending tt ticket = cc in rw e refl
+poll_received-is (Ok pair) (Some ticket) poll h = absurd (cc)
+poll_received-is (Err recv_error.Closed) (Some ticket) poll h = absurd (cc)
 
 -- no pair has a greater priority than this one
 abbrev pub NoneAbove : {T P : Type 0} → (P → P → Ordering) → T × P → List (T × P) → Type 0
@@ -54,22 +91,18 @@ module _ {T P W : Type 0} (cmp : P → P → Ordering) where
     pub effect_same : (s : State T P W) → new ≡ s → s.pending ≡ old.pending → (old.is_closed ≡ true → s.is_closed ≡ true) → Effect old [] [] new
     effect_same s e same closed = effect_none (ap (λ (r : State T P W). r.pending) e ∙ same) (λ h. ap (λ (r : State T P W). r.is_closed) e ∙ closed h)
 
-    pub effect_accepts : (n : ℕ) (pairs : List (T × P)) → Accepts old n pairs handed new → Effect old (take n pairs) [] new
-    effect_accepts n pairs h = record {
+    pub effect_accepts : (front : List (T × P)) → Accepts old front handed new → Effect old front [] new
+    effect_accepts front h = record {
       moves = rw (ap (λ (r : State T P W). r.pending) h.1.new_is) (IsPermutation-refl _);
       closed = λ k. let e = h.0 in absurd (cc);
       gives = inl refl;
     }
 
     pub effect_sends : (pairs : List (T × P)) (reply : Result (Unit {0}) (TrySendError (List (T × P)))) → Sends old pairs reply handed new → Effect old (sent pairs reply) [] new
-    effect_sends pairs (Ok done) h = subst (λ acc. Effect old acc [] new) (take-length pairs) (effect_accepts (length pairs) pairs h.2)
+    effect_sends pairs (Ok done) h = effect_accepts pairs h.2
     effect_sends pairs (Err (send_error.Closed rest)) h = effect_same old h.2.1 refl (λ k. k)
-    effect_sends pairs (Err (send_error.Full rest)) h =
-        let few : room old ≤ length pairs = elim h.0 [ inl z ↦ omega arith | inr l ↦ omega arith ] in
-        rw (h.1, all_but-drop (room old) pairs few) (effect_accepts (room old) pairs h.2)
-    effect_sends pairs (Err (send_error.Memory rest)) h =
-        let few : h.0 ≤ length pairs = omega (arith, h.1) in
-        rw (h.3, all_but-drop h.0 pairs few) (effect_accepts h.0 pairs h.4)
+    effect_sends pairs (Err (send_error.Full rest)) h = rw (h.1, all_but-front h.0 rest) (effect_accepts h.0 h.4)
+    effect_sends pairs (Err (send_error.Memory rest)) h = rw (h.1, all_but-front h.0 rest) (effect_accepts h.0 h.4)
 
     pub effect_receives : (reply : Result (T × P) TryRecvError) → Receives cmp old reply handed new → Effect old [] (received_by (answer.TryRecv reply)) new
     effect_receives (Ok pair) h =
@@ -104,30 +137,11 @@ module _ {T P W : Type 0} (cmp : P → P → Ordering) where
       }
 
   module _ (is_clone : W → W → Type 0) (old new : State T P W) (handed : Handed W) where
-    effect_polls_send : (pairs : List (T × P)) (given : Option ℕ) (waker : W) (reply : CorePoll (Result (Unit {0}) (SendFault (List (T × P)))) (List (T × P)))
-        → PollsSend is_clone old pairs given waker reply handed new → Effect old (poll_sent pairs reply) [] new
-    effect_polls_send pairs given waker (Ready (Ok done)) h =
-        effect_then old h.0 new _ _ _ (effect_sends old h.0 handed pairs (Ok done) h.1) h.2 refl refl
-    effect_polls_send pairs given waker (Ready (Err (send_fault.Closed e))) h =
-        effect_then old h.0 new _ _ _ (effect_sends old h.0 handed pairs (Err (send_error.Closed e.0)) h.1) h.2 refl refl
-    effect_polls_send pairs given waker (Ready (Err (send_fault.Memory rest))) h =
-        elim h.1 [
-          | inl s ↦ effect_then old h.0 new _ _ _ (effect_sends old h.0 handed pairs (Err (send_error.Memory rest)) s) h.2 refl refl
-          | inr s ↦ effect_then old h.0 new _ _ _ (effect_sends old h.0 handed pairs (Err (send_error.Full rest)) s) h.2 refl refl
-        ]
-    effect_polls_send pairs given waker (Pending rest ticket) h =
-        effect_then old h.0 new _ _ _ (effect_sends old h.0 handed pairs (Err (send_error.Full rest)) h.1) h.2.2.1 refl refl
-
-    effect_polls_receive : (given : Option ℕ) (waker : W) (reply : CorePoll (Result (T × P) RecvFault) (Unit {0}))
-        → PollsReceive cmp is_clone old given waker reply handed new → Effect old [] (received_by (answer.PollRecv reply)) new
-    effect_polls_receive given waker (Ready (Ok pair)) h =
-        effect_then old h.0 new _ _ _ (effect_receives old h.0 handed (Ok pair) h.1) h.2 refl refl
-    effect_polls_receive given waker (Ready (Err (recv_fault.Closed e))) h =
-        effect_then old h.0 new _ _ _ (effect_receives old h.0 handed (Err recv_error.Closed) h.1) h.2 refl refl
-    effect_polls_receive given waker (Ready (Err recv_fault.Memory)) h =
-        effect_then old h.0 new _ _ _ (effect_receives old h.0 handed (Err recv_error.Empty) h.1) h.2 refl refl
-    effect_polls_receive given waker (Pending kept ticket) h =
-        effect_then old h.0 new _ _ _ (effect_receives old h.0 handed (Err recv_error.Empty) h.1) h.2.2.1 refl refl
+    -- a poll has the effect of its try
+    effect_polls : {R A : Type 0} {tries : R → Handed W → State T P W → Type 0} {answer_by : R → Option ℕ → Option A} {side : Side} {given : Option ℕ}
+        {waker : W} {answered : A} (accepted received : List (T × P)) (h : Polls is_clone tries answer_by side given waker answered handed new)
+        → Effect old accepted received h.mid → Effect old accepted received new
+    effect_polls accepted received h e = effect_then old h.mid new _ accepted received e h.ends.1 refl refl
 
     pub effect : (made : Calls T P W) (reply : Answers T P) → Moves cmp is_clone old made reply handed new
         → Effect old (accepted_by made reply) (received_by reply) new
@@ -147,8 +161,12 @@ module _ {T P W : Type 0} (cmp : P → P → Ordering) where
     effect call.CloneReceiver (answer.CloneReceiver done) h = effect_clones old new handed _ _ done refl refl h
     effect call.DropSender answer.DropSender h = effect_drops old new handed _ _ refl refl h
     effect call.DropReceiver answer.DropReceiver h = effect_drops old new handed _ _ refl refl h
-    effect (call.PollSend msg priority given waker) (answer.PollSend reply) h = effect_polls_send ((msg, priority) ∷ []) given waker (poll_as_list reply) h
-    effect (call.PollSendv pairs given waker) (answer.PollSendv reply) h = effect_polls_send pairs given waker reply h
-    effect (call.PollRecv given waker) (answer.PollRecv reply) h = effect_polls_receive given waker reply h
+    effect (call.PollSend msg priority given waker) (answer.PollSend poll) h =
+        rw (accepted_one-is msg priority given waker h.reply h.ticket poll h.answered)
+        (effect_polls _ [] h (effect_sends old h.mid handed ((msg, priority) ∷ []) (as_list h.reply) h.tried))
+    effect (call.PollSendv pairs given waker) (answer.PollSendv poll) h =
+        rw (poll_sent-is pairs h.reply h.ticket poll h.answered) (effect_polls _ [] h (effect_sends old h.mid handed pairs h.reply h.tried))
+    effect (call.PollRecv given waker) (answer.PollRecv poll) h =
+        rw (poll_received-is h.reply h.ticket poll h.answered) (effect_polls [] _ h (effect_receives old h.mid handed h.reply h.tried))
     effect (call.GiveUp ticket) answer.GiveUp h = effect_same old new handed _ h.1 refl (λ k. k)
     effect made reply h = absurd h

@@ -3,18 +3,19 @@ use Rattle.std.proofs.Common.{◌≡◌, ◌≢◌, ℕ, ◌<◌, ◌≤◌, Lis
 use Rattle.std.specs.Prelude.{Option, Some, None, slice_get}
 use Rattle.std.proofs.lemmas.Option.{slice_get_within, get_or_from_slice_get}
 use Rattle.std.specs.declared.cmp.Ordering.{Ordering}
-use Rattle.priority_channel_core.specs.State.{State, Handed, nobody}
+use Rattle.priority_channel_core.specs.machine.State.{State, Handed, nobody}
 use Rattle.priority_channel_parts.specs.Waiting.{without_given}
 use Rattle.priority_channel_laws.specs.WaitingLaw.{waker_of}
-use Rattle.priority_channel_core.specs.Good.{IsGood}
-use Rattle.priority_channel_core.specs.Polls.{unlisted}
-use Rattle.priority_channel_core.specs.Step.{Step, Answers}
+use Rattle.priority_channel_core.specs.machine.Good.{IsGood}
+use Rattle.priority_channel_core.specs.machine.Step.{Step, Answers}
 use Rattle.priority_channel_laws.specs.Future.{Tasks, Standing, Futures, ticket_of, poll_of, polled}
 use Rattle.priority_channel_laws.specs.World.{World, Event, called, call_out, PollsFuture, GivesUpTicket, Happens, Leads, IsOpening}
 use Rattle.priority_channel_laws.specs.Future.Standing.{New, Waiting, Called, Done}
 use Rattle.priority_channel_laws.specs.World.Event.{Makes, Polls, GivesUp}
-use Rattle.priority_channel_laws.specs.WaitingLaw.{Side, side_of, waiters_of, CanGoOn, NobodyIsForgotten, GivenOnce, CalledBy}
-use Rattle.priority_channel_laws.specs.WaitingLaw.Side.{Room, Message}
+use Rattle.priority_channel_parts.specs.declared.side.Side.{Side}
+use Rattle.priority_channel_parts.specs.Waiters.{Waiters, on_side, unlist}
+use Rattle.priority_channel_laws.specs.WaitingLaw.{side_of, CanGoOn, NobodyIsForgotten, GivenOnce, CalledBy}
+use Rattle.priority_channel_parts.specs.declared.side.Side.TheVariants.{Room, Message}
 use Rattle.priority_channel_laws.proofs.Places.{mapped_at, at_mapped, changed_at}
 use Rattle.priority_channel_laws.proofs.Hands.{Hands, hands}
 use Rattle.priority_channel_laws.proofs.Worlds.{Keeps, Changes, keeps-call_out, keeps-change, called_from}
@@ -35,20 +36,20 @@ some_pending (x ∷ xs) ne = omega arith
 module _ {T P W : Type 0} where
   -- next does not fall, and a ticket given before is held by whoever held it
   record Passes (old new : World T P W) : Type 0 where
-    grows : old.state.next_ticket ≤ new.state.next_ticket
+    grows : old.state.waiters.next_ticket ≤ new.state.waiters.next_ticket
     held : GivenOnce old new
 
   module _ (is_clone : W → W → Type 0) where
     record IsKept (world : World T P W) : Type 0 where
       good : IsGood world.state
-      keeps : Keeps is_clone (lists_of world.state) world.state.next_ticket world.futures
+      keeps : Keeps is_clone (lists_of world.state) world.state.waiters.next_ticket world.futures
 
     -- the world once those who are handed out are called
     called_world : (old : World T P W) (mid : State T P W) (handed : Handed W) → Hands old.state mid handed → IsKept old
-        → Keeps is_clone (lists_of mid) mid.next_ticket (call_out handed old.futures)
+        → Keeps is_clone (lists_of mid) mid.waiters.next_ticket (call_out handed old.futures)
     called_world old mid handed h k =
-        Keeps-same is_clone (lists_of mid) (lists_of mid) old.state.next_ticket mid.next_ticket _ (λ side. refl) h.next
-        (keeps-call_out is_clone (lists_of old.state) old.state.next_ticket old.futures k.keeps handed (lists_of mid) (stays_or_leaves old.state mid handed h))
+        Keeps-same is_clone (lists_of mid) (lists_of mid) old.state.waiters.next_ticket mid.waiters.next_ticket _ (λ side. refl) h.next
+        (keeps-call_out is_clone (lists_of old.state) old.state.waiters.next_ticket old.futures k.keeps handed (lists_of mid) (stays_or_leaves old.state mid handed h))
 
     passes_called : (old new : World T P W) (handed : Handed W) → Hands old.state new.state handed → new.futures ≡ call_out handed old.futures → Passes old new
     passes_called old new handed h is = record {
@@ -74,12 +75,12 @@ module _ {T P W : Type 0} where
         (i : ℕ) (f g : Futures T P W) (at : slice_get old.futures i ≡ Some f)
         (at' : slice_get (call_out handed old.futures) i ≡ Some (record { task = f.task; standing = called handed f.standing }))
         (lists' : Side → List (ℕ × W)) (next' : ℕ)
-        → Changes is_clone (lists_of mid) mid.next_ticket (call_out handed old.futures) (called_world old mid handed h k) i (record { task = f.task; standing = called handed f.standing }) g at' lists' next'
-        → ((side : Side) → lists_of new.state side ≡ lists' side) → new.state.next_ticket ≡ next' → new.futures ≡ set (call_out handed old.futures) i g → IsGood new.state
+        → Changes is_clone (lists_of mid) mid.waiters.next_ticket (call_out handed old.futures) (called_world old mid handed h k) i (record { task = f.task; standing = called handed f.standing }) g at' lists' next'
+        → ((side : Side) → lists_of new.state side ≡ lists' side) → new.state.waiters.next_ticket ≡ next' → new.futures ≡ set (call_out handed old.futures) i g → IsGood new.state
         → IsKept new × Passes old new
     changed_world old new mid handed h k i f g at at' lists' next' c same nexts futures good =
-        let keeps = keeps-change is_clone (lists_of mid) mid.next_ticket (call_out handed old.futures) (called_world old mid handed h k) i (record { task = f.task; standing = called handed f.standing }) g at' lists' next' c in (
-          record { good = good; keeps = rw futures (Keeps-same is_clone lists' (lists_of new.state) next' new.state.next_ticket _ same nexts keeps) },
+        let keeps = keeps-change is_clone (lists_of mid) mid.waiters.next_ticket (call_out handed old.futures) (called_world old mid handed h k) i (record { task = f.task; standing = called handed f.standing }) g at' lists' next' c in (
+          record { good = good; keeps = rw futures (Keeps-same is_clone lists' (lists_of new.state) next' new.state.waiters.next_ticket _ same nexts keeps) },
           record {
             grows = let n = h.next in let e = c.grows in omega arith;
             held = λ j u t there has lt.
@@ -95,9 +96,9 @@ module _ {T P W : Type 0} where
           },
         )
 
-    unlisted_lists : (given : Option ℕ) (mid new : State T P W) → new ≡ unlisted given mid → (side : Side) → lists_of new side ≡ without_given given (lists_of mid side)
-    unlisted_lists given mid new is Room = ap (λ (s : State T P W). s.room_waiters) is
-    unlisted_lists given mid new is Message = ap (λ (s : State T P W). s.message_waiters) is
+    unlisted_lists : (given : Option ℕ) (mid new : State T P W) → new.waiters ≡ unlist given mid.waiters → (side : Side) → lists_of new side ≡ without_given given (lists_of mid side)
+    unlisted_lists given mid new is Room = ap (λ (w : Waiters W). w.room) is
+    unlisted_lists given mid new is Message = ap (λ (w : Waiters W). w.message) is
 
     -- a poll of a future that is not done
     live : (cmp : P → P → Ordering) (old new : World T P W) (which : ℕ) (waker : W) (f : Futures T P W) (handed : Handed W) (reply : Answers T P)
@@ -110,12 +111,12 @@ module _ {T P W : Type 0} where
         elim (poll_end cmp is_clone old.state new.state handed given waker f.task reply step.moves) [
           | inl e ↦
               changed_world old new e.mid handed e.handing k which f (polled f.task waker reply) at at' _ _
-              (ends is_clone (lists_of e.mid) e.mid.next_ticket (call_out handed old.futures) (called_world old e.mid handed e.handing k) which _ (polled f.task waker reply) at' given own e.done)
-              (unlisted_lists given e.mid new.state e.left) (ap (λ (s : State T P W). s.next_ticket) e.left) futures step.good
+              (ends is_clone (lists_of e.mid) e.mid.waiters.next_ticket (call_out handed old.futures) (called_world old e.mid handed e.handing k) which _ (polled f.task waker reply) at' given own e.done)
+              (unlisted_lists given e.mid new.state e.left) (ap (λ (w : Waiters W). w.next_ticket) e.left) futures step.good
           | inr w ↦
-              changed_world old new w.mid handed w.handing k which f (polled f.task waker reply) at at' (lists_of new.state) new.state.next_ticket
-              (waits is_clone (lists_of w.mid) w.mid.next_ticket (call_out handed old.futures) (called_world old w.mid handed w.handing k) which _ (polled f.task waker reply) at'
-              given w.kept waker (side_of f.task) (lists_of new.state) new.state.next_ticket own w.clone refl w.goes_on
+              changed_world old new w.mid handed w.handing k which f (polled f.task waker reply) at at' (lists_of new.state) new.state.waiters.next_ticket
+              (waits is_clone (lists_of w.mid) w.mid.waiters.next_ticket (call_out handed old.futures) (called_world old w.mid handed w.handing k) which _ (polled f.task waker reply) at'
+              given w.kept waker (side_of f.task) (lists_of new.state) new.state.waiters.next_ticket own w.clone refl w.goes_on
               (still_given old.state w.mid handed w.handing k.good (side_of f.task)) w.mine w.others w.nexts w.stands)
               (λ side. refl) refl futures step.good
         ]
@@ -135,9 +136,9 @@ module _ {T P W : Type 0} where
         let g : record { task = f.task; standing = called nobody f.standing } ≡ f = ap (λ (s : Standing W). record { task = f.task; standing = s }) e in
         cc
 
-    gives_up_left : (cmp : P → P → Ordering) (old new : State T P W) (given : Option ℕ) → IsGood old → GivesUpTicket cmp is_clone old given new → IsGood new × (new ≡ unlisted given old)
-    gives_up_left cmp old new None good h = (rw h good, h)
-    gives_up_left cmp old new (Some t) good h = (h.good, h.moves.1)
+    gives_up_left : (cmp : P → P → Ordering) (old new : State T P W) (given : Option ℕ) → IsGood old → GivesUpTicket cmp is_clone old given new → IsGood new × (new.waiters ≡ unlist given old.waiters)
+    gives_up_left cmp old new None good h = (rw h good, ap (λ (s : State T P W). s.waiters) h)
+    gives_up_left cmp old new (Some t) good h = (h.good, ap (λ (s : State T P W). s.waiters) h.moves.1)
 
     gives_up_kept : (cmp : P → P → Ordering) (old new : World T P W) (which : ℕ) (f : Futures T P W) → slice_get old.futures which ≡ Some f
         → GivesUpTicket cmp is_clone old.state (ticket_of f.standing) new.state → new.futures ≡ set old.futures which (record { task = f.task; standing = Done })
@@ -150,8 +151,8 @@ module _ {T P W : Type 0} where
         let g : Futures T P W = record { task = f.task; standing = Done } in
         let left = gives_up_left cmp old.state new.state given k.good h in
         changed_world old new old.state nobody handing k which f g at at' _ _
-        (ends is_clone (lists_of old.state) old.state.next_ticket (call_out nobody old.futures) (called_world old old.state nobody handing k) which _ g at' given own refl)
-        (unlisted_lists given old.state new.state left.1) (ap (λ (s : State T P W). s.next_ticket) left.1)
+        (ends is_clone (lists_of old.state) old.state.waiters.next_ticket (call_out nobody old.futures) (called_world old old.state nobody handing k) which _ g at' given own refl)
+        (unlisted_lists given old.state new.state left.1) (ap (λ (w : Waiters W). w.next_ticket) left.1)
         (rw (call_out_nobody old.futures) futures) left.0
 
     happens_kept : (cmp : P → P → Ordering) (old new : World T P W) (event : Event T P W) (handed : Handed W)
@@ -185,18 +186,18 @@ module _ {T P W : Type 0} where
       where
         nobody_listed : (side : Side) (t : ℕ) (k : W) → waker_of t (lists_of world.state side) ≡ Some k → ⊥
         nobody_listed Room t k here =
-            let e : world.state.room_waiters ≡ [] = ap (λ (s : State T P W). s.room_waiters) o.1 in
+            let e : world.state.waiters.room ≡ [] = ap (λ (s : State T P W). s.waiters.room) o.1 in
             let n : None ≡ Some k = rw e at here in absurd (cc)
         nobody_listed Message t k here =
-            let e : world.state.message_waiters ≡ [] = ap (λ (s : State T P W). s.message_waiters) o.1 in
+            let e : world.state.waiters.message ≡ [] = ap (λ (s : State T P W). s.waiters.message) o.1 in
             let n : None ≡ Some k = rw e at here in absurd (cc)
 
-    cannot_go_on : (s : State T P W) (side : Side) (t : ℕ) (k : W) → IsGood s → waker_of t (waiters_of side s) ≡ Some k → CanGoOn s side → ⊥
+    cannot_go_on : (s : State T P W) (side : Side) (t : ℕ) (k : W) → IsGood s → waker_of t (on_side side s.waiters) ≡ Some k → CanGoOn s side → ⊥
     cannot_go_on s Room t k good here can =
-        let none : s.room_waiters ≡ [] = elim can [ inl closed ↦ (good.no_waiters_if_closed closed).0 | inr room ↦ good.room_waiters_if_full (let w = good.within_capacity in omega arith) ] in
+        let none : s.waiters.room ≡ [] = elim can [ inl closed ↦ (good.no_waiters_if_closed closed).0 | inr room ↦ good.room_waiters_if_full (let w = good.within_capacity in omega arith) ] in
         let n : None ≡ Some k = rw none at here in absurd (cc)
     cannot_go_on s Message t k good here can =
-        let none : s.message_waiters ≡ [] = elim can [ inl closed ↦ (good.no_waiters_if_closed closed).1 | inr some ↦ good.message_waiters_if_empty (some_pending s.pending some) ] in
+        let none : s.waiters.message ≡ [] = elim can [ inl closed ↦ (good.no_waiters_if_closed closed).1 | inr some ↦ good.message_waiters_if_empty (some_pending s.pending some) ] in
         let n : None ≡ Some k = rw none at here in absurd (cc)
 
     pub nobody_is_forgotten : (cmp : P → P → Ordering) (opening world : World T P W) (events : List (Event T P W)) → IsOpening opening
@@ -228,7 +229,7 @@ module _ {T P W : Type 0} where
         (leads_kept cmp earlier later after k first).1.held
 
     pub numbers_rise : (cmp : P → P → Ordering) (opening earlier later : World T P W) (before after : List (Event T P W)) → IsOpening opening
-        → Leads cmp is_clone opening before earlier → Leads cmp is_clone earlier after later → earlier.state.next_ticket ≤ later.state.next_ticket
+        → Leads cmp is_clone opening before earlier → Leads cmp is_clone earlier after later → earlier.state.waiters.next_ticket ≤ later.state.waiters.next_ticket
     numbers_rise cmp opening earlier later before after o h k =
         let first = (leads_kept cmp opening earlier before h (opening_kept opening o)).0 in
         (leads_kept cmp earlier later after k first).1.grows
@@ -239,7 +240,7 @@ module _ {T P W : Type 0} where
     changed_called old new mid handed h k i g not_called futures = λ j f t w at is.
         elim (changed_at (call_out handed old.futures) i j g f (ap (λ (fs : List (Futures T P W)). slice_get fs j) (sym futures) ∙ at)) [
           | inl s ↦ absurd (not_called t w (ap (λ (x : Futures T P W). x.standing) s.1 ∙ is))
-          | inr s ↦ called_from is_clone (lists_of old.state) old.state.next_ticket old.futures k.keeps handed (lists_of mid) (stays_or_leaves old.state mid handed h) j f t w s.1 is
+          | inr s ↦ called_from is_clone (lists_of old.state) old.state.waiters.next_ticket old.futures k.keeps handed (lists_of mid) (stays_or_leaves old.state mid handed h) j f t w s.1 is
         ]
 
     live_called : (cmp : P → P → Ordering) (old new : World T P W) (which : ℕ) (waker : W) (f : Futures T P W) (handed : Handed W) (reply : Answers T P)
@@ -263,7 +264,7 @@ module _ {T P W : Type 0} where
         → Happens cmp is_clone old event handed new → IsKept old → CalledBy is_clone old handed new
     happens_called cmp old new (Makes made) handed h k = λ j f t w at is.
         let handing = hands old.state new.state handed cmp is_clone made h.1 h.0 h.2.moves in
-        called_from is_clone (lists_of old.state) old.state.next_ticket old.futures k.keeps handed (lists_of new.state) (stays_or_leaves old.state new.state handed handing) j f t w
+        called_from is_clone (lists_of old.state) old.state.waiters.next_ticket old.futures k.keeps handed (lists_of new.state) (stays_or_leaves old.state new.state handed handing) j f t w
         (ap (λ (fs : List (Futures T P W)). slice_get fs j) (sym h.3) ∙ at) is
     happens_called cmp old new (Polls which waker) handed h k = polls_called cmp old new which waker h.0.task h.0.standing handed h.2 k
     happens_called cmp old new (GivesUp which) handed h k = λ j f t w at is.

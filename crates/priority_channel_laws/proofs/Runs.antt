@@ -14,10 +14,10 @@ use Rattle.priority_channel_core.specs.declared.calls.Call.TheVariants as call
 use Rattle.priority_channel_core.specs.declared.calls.Answer.TheVariants as answer
 use Rattle.priority_channel_parts.specs.declared.errors.TryRecvError.{TryRecvError}
 use Rattle.priority_channel_parts.specs.declared.errors.TryRecvError.TheVariants as recv_error
-use Rattle.priority_channel_core.specs.State.{State, Handed}
-use Rattle.priority_channel_core.specs.Receives.{Receives}
-use Rattle.priority_channel_core.specs.Step.{Moves, Step, Answers}
-use Rattle.priority_channel_core.specs.Run.{Made, Run}
+use Rattle.priority_channel_core.specs.machine.State.{State, Handed}
+use Rattle.priority_channel_core.specs.machine.OtherCalls.{Receives}
+use Rattle.priority_channel_core.specs.machine.Step.{Moves, Step, Answers}
+use Rattle.priority_channel_core.specs.machine.Run.{Made, Run}
 use Rattle.priority_channel_parts.proofs.HeapLemmas.{every_part}
 use Rattle.priority_channel_laws.specs.Accepted.{accepted_by, received_by, accepted_in, received_in, NeverRise}
 use Rattle.priority_channel_laws.proofs.Effects.{Effect, effect}

@@ -8,8 +8,9 @@ use Rattle.priority_channel_parts.specs.Waiting.{without_given, listing}
 use Rattle.priority_channel_laws.specs.WaitingLaw.{waker_of}
 use Rattle.priority_channel_laws.specs.Future.{Futures, ticket_of}
 use Rattle.priority_channel_laws.specs.Future.Standing.{Waiting, Done}
-use Rattle.priority_channel_laws.specs.WaitingLaw.{Side, side_of}
-use Rattle.priority_channel_laws.specs.WaitingLaw.Side.{Room, Message}
+use Rattle.priority_channel_parts.specs.declared.side.Side.{Side}
+use Rattle.priority_channel_laws.specs.WaitingLaw.{side_of}
+use Rattle.priority_channel_parts.specs.declared.side.Side.TheVariants.{Room, Message}
 use Rattle.priority_channel_laws.proofs.Places.{Some-same}
 use Rattle.priority_channel_laws.proofs.Lookups.{put, waker_of-without, waker_of-listing, waker_of-listed, place}
 use Rattle.priority_channel_laws.proofs.Worlds.{Keeps, Changes}

@@ -1,5 +1,6 @@
 -- What is kept of a future that was polled.
-use Rattle.std.proofs.Common.{◌≡◌, ℕ, List, drop, refl, subst, inl, inr}
+use Rattle.std.proofs.Common.{◌≡◌, ℕ, List, length, drop, refl, sym, subst}
+use Rattle.std.proofs.Math.Seq.{drop-append_seam}
 use Rattle.std.specs.Prelude.{Option, None, Some, IfSome, IfErr, Result, Ok, Err}
 use Rattle.futures.specs.declared.task.Poll.{Poll}
 use Rattle.std.specs.declared.cmp.Ordering.{Ordering}
@@ -11,13 +12,16 @@ use Rattle.priority_channel_core.specs.declared.calls.CorePoll.{CorePoll}
 use Rattle.priority_channel_core.specs.declared.calls.CorePoll.TheVariants.{Ready, Pending}
 use Rattle.priority_channel_parts.specs.declared.errors.SendFault.{SendFault}
 use Rattle.priority_channel_parts.specs.declared.errors.SendFault.TheVariants as send_fault
-use Rattle.priority_channel_core.specs.State.{State, Handed, room}
+use Rattle.priority_channel_core.specs.machine.State.{State, Handed}
 use Rattle.priority_channel_parts.specs.declared.errors.TrySendError.{TrySendError}
 use Rattle.priority_channel_parts.specs.declared.errors.TrySendError.TheVariants as send_error
 use Rattle.priority_channel_parts.specs.Errors.{refused}
-use Rattle.priority_channel_core.specs.Sends.{Sends}
-use Rattle.priority_channel_core.specs.Polls.{PollsSend}
-use Rattle.priority_channel_core.specs.Bulk.{kept_by, Performs, SamePoll, SameReply}
+use Rattle.priority_channel_core.specs.machine.Sends.{Sends}
+use Rattle.priority_channel_core.specs.machine.Polls.{send_answer, Polls}
+use Rattle.priority_channel_parts.specs.declared.side.Side.TheVariants.{Room}
+use Rattle.priority_channel_core.specs.code.Calls.{Performs, SamePoll, SameReply}
+use Rattle.priority_channel_core.specs.code.Replies.{kept_by}
+use Rattle.priority_channel_core.proofs.PollLemmas.{kept_callable}
 use Rattle.priority_channel_laws.specs.Future.{Task, poll_of, polled}
 use Rattle.priority_channel_laws.specs.Future.Task.{Sendv}
 use Rattle.priority_channel_laws.specs.States.{Holding, told_by, left_by, handed_back, HoldsTail, send_of, IsKeptOf, PollsKept}
@@ -61,6 +65,18 @@ pub left_kept : {M : Type 0} (Q : M → Type 0) (reply : CorePoll (Result (Unit 
 left_kept Q (Ready outcome) h = tt
 left_kept Q (Pending held ticket) h = h
 
+-- what comes back from a send is a tail
+rest_at : {T P W : Type 0} (old new : State T P W) (handed : Handed W) (back : TrySendError (List (T × P))) (list : List (T × P))
+    → Sends old list (Err back) handed new → (n : ℕ) × (refused back ≡ drop n list)
+rest_at old new handed (send_error.Closed rest) list h = (0, h.1)
+rest_at old new handed (send_error.Full rest) list h = (length h.0, rw h.1 (sym (drop-append_seam h.0 rest)))
+rest_at old new handed (send_error.Memory rest) list h = (length h.0, rw h.1 (sym (drop-append_seam h.0 rest)))
+
+tails : {T P W : Type 0} (old new : State T P W) (handed : Handed W) (reply : Result (Unit {0}) (TrySendError (List (T × P)))) (list : List (T × P))
+    → Sends old list reply handed new → IfErr reply (λ back. (n : ℕ) × (refused back ≡ drop n list))
+tails old new handed (Ok sent) list h = tt
+tails old new handed (Err back) list h = rest_at old new handed back list h
+
 module _ {T P W M : Type 0} (holds : M → List (T × P) → Type 0) (cmp : P → P → Ordering) (is_clone : W → W → Type 0)
     (old new : State T P W) (handed : Handed W) (msgs : M) where
   -- what comes back from a bulk send holds what comes back in the machine
@@ -70,13 +86,6 @@ module _ {T P W M : Type 0} (holds : M → List (T × P) → Type 0) (cmp : P �
   same_refused (send_error.Full m) told h = (send_error.Full h.0, h.1, h.2)
   same_refused (send_error.Memory m) told h = (send_error.Memory h.0, h.1, h.2)
 
-  -- and that is a tail
-  rest_at : (back : TrySendError (List (T × P))) (list : List (T × P)) → Sends old list (Err back) handed new
-      → (n : ℕ) × (refused back ≡ drop n list)
-  rest_at (send_error.Closed rest) list h = (0, h.1)
-  rest_at (send_error.Full rest) list h = (room old, h.1)
-  rest_at (send_error.Memory rest) list h = (h.0, h.3)
-
   refused_is_tail : (error : TrySendError M)
       → Performs holds cmp is_clone old (call.TrySendv msgs) (answer.TrySendv (Err error)) handed new
       → HoldsTail holds msgs (refused error)
@@ -84,7 +93,7 @@ module _ {T P W M : Type 0} (holds : M → List (T × P) → Type 0) (cmp : P �
     at = λ list has.
         let k = h.at (call.TrySendv list) (list, refl, has) in
         let same = same_refused error k.1.0 k.1.2 in
-        let tail = rest_at same.0 list (rw same.1 at (rw k.1.1 at k.2.moves)) in
+        let tail = rest_at old new handed same.0 list (rw same.1 at (rw k.1.1 at k.2.moves)) in
         (tail.0, rw (← tail.1) same.2);
   }
 
@@ -108,12 +117,9 @@ module _ {T P W M : Type 0} (holds : M → List (T × P) → Type 0) (cmp : P �
     same_kept (Pending m ticket) told h held is = (h.0, cc, kept_is _ held is h.0 h.2)
 
     tail_at : (told : CorePoll (Result (Unit {0}) (SendFault (List (T × P)))) (List (T × P))) (list rest : List (T × P))
-        → kept_by told ≡ Some rest → PollsSend is_clone old list given waker told handed new → (n : ℕ) × (rest ≡ drop n list)
-    tail_at (Ready (Ok sent)) list rest back h = absurd (cc)
-    tail_at (Ready (Err (send_fault.Closed e))) list rest back h = let s = h.1 in (0, cc)
-    tail_at (Ready (Err (send_fault.Memory held))) list rest back h =
-        elim h.1 [ inl s ↦ let e = s.3 in (s.0, cc) | inr s ↦ let e = s.1 in (room old, cc) ]
-    tail_at (Pending held ticket) list rest back h = let e = h.1.1 in (room old, cc)
+        → kept_by told ≡ Some rest → Polls is_clone (Sends old list) send_answer Room given waker told handed new → (n : ℕ) × (rest ≡ drop n list)
+    tail_at told list rest back h =
+        rw back at (kept_callable (λ r. (n : ℕ) × (r ≡ drop n list)) h.reply h.ticket told (tails old h.mid handed h.reply list h.tried) h.answered)
 
     pub polled_tail : (reply : CorePoll (Result (Unit {0}) (SendFault M)) M)
         → Performs holds cmp is_clone old (call.PollSendv msgs given waker) (answer.PollSendv reply) handed new

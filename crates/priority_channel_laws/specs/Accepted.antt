@@ -11,10 +11,9 @@ use Rattle.priority_channel_parts.specs.declared.errors.TrySendError.{TrySendErr
 use Rattle.priority_channel_parts.specs.declared.errors.TrySendError.TheVariants as send_error
 use Rattle.priority_channel_parts.specs.declared.errors.SendFault.{SendFault}
 use Rattle.priority_channel_parts.specs.declared.errors.SendFault.TheVariants as send_fault
-use Rattle.priority_channel_core.specs.Sends.{as_list}
-use Rattle.priority_channel_core.specs.Polls.{poll_as_list}
-use Rattle.priority_channel_core.specs.Step.{Calls, Answers}
-use Rattle.priority_channel_core.specs.Run.{Made}
+use Rattle.priority_channel_core.specs.machine.Sends.{as_list}
+use Rattle.priority_channel_core.specs.machine.Step.{Calls, Answers}
+use Rattle.priority_channel_core.specs.machine.Run.{Made}
 
 -- the pairs without the rest that came back
 abbrev pub all_but : {A : Type 0} → List A → List A → List A
@@ -37,7 +36,7 @@ poll_sent pairs (Pending rest ticket) = all_but rest pairs
 abbrev pub accepted_by : {T P W : Type 0} → Calls T P W → Answers T P → List (T × P)
 accepted_by (call.TrySend msg priority) (answer.TrySend reply) = sent ((msg, priority) ∷ []) (as_list reply)
 accepted_by (call.TrySendv pairs) (answer.TrySendv reply) = sent pairs reply
-accepted_by (call.PollSend msg priority given waker) (answer.PollSend reply) = poll_sent ((msg, priority) ∷ []) (poll_as_list reply)
+accepted_by (call.PollSend msg priority given waker) (answer.PollSend (Ready (Ok done))) = (msg, priority) ∷ []
 accepted_by (call.PollSendv pairs given waker) (answer.PollSendv reply) = poll_sent pairs reply
 accepted_by _ _ = []
 

@@ -6,9 +6,10 @@ use Rattle.priority_channel_core.specs.declared.calls.CorePoll.TheVariants.{Read
 use Rattle.priority_channel_parts.specs.declared.errors.TrySendError.TheVariants as send_error
 use Rattle.priority_channel_parts.specs.declared.errors.SendFault.TheVariants as send_fault
 use Rattle.priority_channel_parts.specs.declared.errors.RecvFault.TheVariants as recv_fault
-use Rattle.priority_channel_core.specs.State.{State, Handed}
-use Rattle.priority_channel_core.specs.Step.{Answers}
-use Rattle.priority_channel_core.specs.Run.{Made}
+use Rattle.priority_channel_parts.specs.Waiters.{Waiters}
+use Rattle.priority_channel_core.specs.machine.State.{State, Handed}
+use Rattle.priority_channel_core.specs.machine.Step.{Answers}
+use Rattle.priority_channel_core.specs.machine.Run.{Made}
 use Rattle.priority_channel_laws.specs.Accepted.{accepted_by}
 
 -- whether an answer is Memory
@@ -35,17 +36,15 @@ module _ {W : Type 0} (is_clone : W → W → Type 0) where
     pub room : AllZip SameWaiter one.room other.room
     pub message : AllZip SameWaiter one.message other.message
 
-  pub record SameState {T P : Type 0} (one other : State T P W) : Type 0 where
-    pub pending : other.pending ≡ one.pending
-    pub accepted : other.accepted ≡ one.accepted
-    pub is_closed : other.is_closed ≡ one.is_closed
-    pub capacity : other.capacity ≡ one.capacity
-    pub is_reserved : other.is_reserved ≡ one.is_reserved
-    pub sender_count : other.sender_count ≡ one.sender_count
-    pub receiver_count : other.receiver_count ≡ one.receiver_count
-    pub room_waiters : AllZip SameWaiter one.room_waiters other.room_waiters
-    pub message_waiters : AllZip SameWaiter one.message_waiters other.message_waiters
+  pub record SameWaiters (one other : Waiters W) : Type 0 where
+    pub room : AllZip SameWaiter one.room other.room
+    pub message : AllZip SameWaiter one.message other.message
     pub next_ticket : other.next_ticket ≡ one.next_ticket
+
+  -- the same parties wait, and all else is the same
+  pub record SameState {T P : Type 0} (one other : State T P W) : Type 0 where
+    pub waiters : SameWaiters one.waiters other.waiters
+    pub others : other ≡ record one { waiters = other.waiters }
 
   -- the same answer, and the same parties handed out
   pub record SameOutcome {T P : Type 0} (one other : Made T P W) : Type 0 where

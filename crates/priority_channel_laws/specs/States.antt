@@ -13,9 +13,9 @@ use Rattle.priority_channel_parts.specs.declared.errors.SendFault.TheVariants as
 use Rattle.priority_channel_parts.specs.declared.errors.TrySendError.{TrySendError}
 use Rattle.priority_channel_parts.specs.declared.errors.TrySendError.TheVariants as send_error
 use Rattle.priority_channel_parts.specs.Errors.{unsent}
-use Rattle.priority_channel_core.specs.State.{State, Handed}
-use Rattle.priority_channel_core.specs.Sends.{AddsFront}
-use Rattle.priority_channel_core.specs.Polls.{unlisted}
+use Rattle.priority_channel_core.specs.machine.State.{State, Handed}
+use Rattle.priority_channel_core.specs.machine.Sends.{AddsFront}
+use Rattle.priority_channel_parts.specs.Waiters.{unlist}
 use Rattle.priority_channel_laws.specs.Future.{Task, Tasks, Standing, Future, ticket_of, poll_of, polled}
 use Rattle.priority_channel_laws.specs.Future.Task.{Send, Recv}
 use Rattle.priority_channel_laws.specs.Future.Standing.{Done}
@@ -64,7 +64,7 @@ pub record TriesFront {T P W R : Type 0} (old : State T P W) (given : Option ℕ
     (handed : Handed W) (new : State T P W) : Type 0 where
   pub mid : State T P W
   pub adds : AddsFront old front handed mid
-  pub answered : IfReady told (λ _. new ≡ unlisted given mid)
+  pub answered : IfReady told (λ _. new ≡ record mid { waiters = unlist given mid.waiters })
   pub waits : OnPending told (new ≡ mid)
 
 -- whatever list the old one holds, the new one holds a tail of it

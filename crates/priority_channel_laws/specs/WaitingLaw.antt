@@ -1,7 +1,10 @@
 -- What holds of each world that events reach from an opening one.
 use Rattle.std.specs.Prelude.{◌≡◌, ◌≢◌, ℕ, ◌<◌, true, List, [], ◌∷◌, ◌==◌, if◌then◌else◌, length, slice_get, Option, Some, None, ◌⊎◌}
-use Rattle.priority_channel_core.specs.State.{State, Handed}
-use Rattle.priority_channel_core.specs.Good.{IsGood}
+use Rattle.priority_channel_parts.specs.declared.side.Side.{Side}
+use Rattle.priority_channel_parts.specs.declared.side.Side.TheVariants.{Room, Message}
+use Rattle.priority_channel_parts.specs.Waiters.{on_side}
+use Rattle.priority_channel_core.specs.machine.State.{State, Handed}
+use Rattle.priority_channel_core.specs.machine.Good.{IsGood}
 use Rattle.priority_channel_laws.specs.Future.{Tasks, Futures, ticket_of}
 use Rattle.priority_channel_laws.specs.World.{World}
 use Rattle.priority_channel_laws.specs.Future.Task.{Send, Sendv, Recv}
@@ -12,20 +15,11 @@ abbrev pub waker_of : {W : Type 0} → ℕ → List (ℕ × W) → Option W
 waker_of ticket [] = None
 waker_of ticket (a ∷ waiters) = if a.0 == ticket then Some a.1 else waker_of ticket waiters
 
--- what a party waits for
-pub data Side : Type 0 where
-  Room : Side
-  Message : Side
-
 -- sends wait for room, receives wait for a message
 abbrev pub side_of : {T P : Type 0} → Tasks T P → Side
 side_of (Send msg priority) = Room
 side_of (Sendv pairs) = Room
 side_of Recv = Message
-
-abbrev pub waiters_of : {T P W : Type 0} → Side → State T P W → List (ℕ × W)
-waiters_of Room s = s.room_waiters
-waiters_of Message s = s.message_waiters
 
 -- a send can go on where the channel is closed or not full, and a receive where it is closed or not empty
 abbrev pub CanGoOn : {T P W : Type 0} → State T P W → Side → Type 0
@@ -48,9 +42,9 @@ module _ {T P W : Type 0} (is_clone : W → W → Type 0) where
     -- the two waiting lists have exactly the waiting futures, each with a clone of its waker
     pub waiting_is_listed : (which : ℕ) (future : Futures T P W) (ticket : ℕ) (waker : W)
         → slice_get world.futures which ≡ Some future → future.standing ≡ Waiting ticket waker
-        → (kept : W) × is_clone waker kept × (waker_of ticket (waiters_of (side_of future.task) world.state) ≡ Some kept)
+        → (kept : W) × is_clone waker kept × (waker_of ticket (on_side (side_of future.task) world.state.waiters) ≡ Some kept)
     pub listed_is_waiting : (side : Side) (ticket : ℕ) (kept : W)
-        → waker_of ticket (waiters_of side world.state) ≡ Some kept → HasWaiting world.futures side ticket kept
+        → waker_of ticket (on_side side world.state.waiters) ≡ Some kept → HasWaiting world.futures side ticket kept
     -- no waiting future can go on
     pub waiting_cannot_go_on : (which : ℕ) (future : Futures T P W) (ticket : ℕ) (waker : W)
         → slice_get world.futures which ≡ Some future → future.standing ≡ Waiting ticket waker
@@ -61,7 +55,7 @@ module _ {T P W : Type 0} (is_clone : W → W → Type 0) where
         → CanGoOn world.state (side_of future.task) → (ticket : ℕ) × (waker : W) × (future.standing ≡ Called ticket waker)
     -- each ticket that a future has was given
     pub tickets_were_given : (which : ℕ) (future : Futures T P W) (ticket : ℕ)
-        → slice_get world.futures which ≡ Some future → ticket_of future.standing ≡ Some ticket → ticket < world.state.next_ticket
+        → slice_get world.futures which ≡ Some future → ticket_of future.standing ≡ Some ticket → ticket < world.state.waiters.next_ticket
     -- different futures have different tickets
     pub tickets_differ : (first second : ℕ) (one other : Futures T P W) (ticket : ℕ)
         → slice_get world.futures first ≡ Some one → slice_get world.futures second ≡ Some other
@@ -71,7 +65,7 @@ module _ {T P W : Type 0} (is_clone : W → W → Type 0) where
 abbrev pub GivenOnce : {T P W : Type 0} → World T P W → World T P W → Type 0
 GivenOnce {T} {P} {W} past now =
     (which : ℕ) (future : Futures T P W) (ticket : ℕ)
-    → slice_get now.futures which ≡ Some future → ticket_of future.standing ≡ Some ticket → ticket < past.state.next_ticket
+    → slice_get now.futures which ≡ Some future → ticket_of future.standing ≡ Some ticket → ticket < past.state.waiters.next_ticket
     → (earlier : Futures T P W) × (slice_get past.futures which ≡ Some earlier) × (ticket_of earlier.standing ≡ Some ticket)
 
 -- a future is called by an event that hands out its ticket, with a clone of the waker of its last poll

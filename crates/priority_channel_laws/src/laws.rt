@@ -6,8 +6,8 @@ ghost use Rattle.priority_channel_laws.specs.Alike.{IsAlike, SameOutcome, SameSt
 ghost use Rattle.priority_channel_core.specs.declared.calls.Call.TheVariants as call;
 ghost use Rattle.priority_channel_core.specs.declared.calls.Answer.TheVariants as answer;
 ghost use Rattle.priority_channel_parts.specs.declared.errors.TryRecvError.TheVariants as recv_error;
-ghost use Rattle.priority_channel_core.specs.State.{State, Handed};
-ghost use Rattle.priority_channel_core.specs.Run.{Run, Made};
+ghost use Rattle.priority_channel_core.specs.machine.State.{State, Handed};
+ghost use Rattle.priority_channel_core.specs.machine.Run.{Run, Made};
 ghost use Rattle.priority_channel_laws.specs.Accepted.{accepted_in, received_in, NeverRise};
 ghost use Rattle.priority_channel_laws.specs.World.{World, Event, Happens, IsOpening, Leads};
 ghost use Rattle.priority_channel_laws.specs.WaitingLaw.{NobodyIsForgotten, GivenOnce, CalledBy};
@@ -30,8 +30,11 @@ pub fn drain_law<T, P: Ord, W: Clone>()
         → map (λ made. made.call) run ≡ replicate (length old.pending + 1) call.TryRecv
         → (pairs : List (T × P)) × IsPermutation old.pending pairs × NeverRise P.cmp pairs
         × (map (λ made. made.answer) run ≡ map (λ pair. answer.TryRecv (Ok pair)) pairs ++ answer.TryRecv (Err recv_error.Closed) ∷ []) }
-    // Two runs over the same calls go alike, where each call accepts as many pairs and answers Memory or not alike.
-    ensures alike { (old new other : State T P W) (run another : List (Made T P W))
+{}
+
+/// Two runs over the same calls go alike, where each call accepts as many pairs and answers Memory or not alike.
+pub fn alike_law<T, P: Ord, W: Clone>()
+    ensures { (old new other : State T P W) (run another : List (Made T P W))
         → Run P.cmp W.is_clone old run new → Run P.cmp W.is_clone old another other
         → AllZip IsAlike run another → AllZip (SameOutcome W.is_clone) run another × SameState W.is_clone new other }
 {}
@@ -43,7 +46,7 @@ pub fn waiting_law<T, P: Ord, W: Clone>()
     ensures once { (opening earlier later : World T P W) (before after : List (Event T P W)) → IsOpening opening
         → Leads P.cmp W.is_clone opening before earlier → Leads P.cmp W.is_clone earlier after later → GivenOnce earlier later }
     ensures rising { (opening earlier later : World T P W) (before after : List (Event T P W)) → IsOpening opening
-        → Leads P.cmp W.is_clone opening before earlier → Leads P.cmp W.is_clone earlier after later → earlier.state.next_ticket ≤ later.state.next_ticket }
+        → Leads P.cmp W.is_clone opening before earlier → Leads P.cmp W.is_clone earlier after later → earlier.state.waiters.next_ticket ≤ later.state.waiters.next_ticket }
     ensures called { (opening old new : World T P W) (events : List (Event T P W)) (event : Event T P W) (handed : Handed W)
         → IsOpening opening → Leads P.cmp W.is_clone opening events old
         → Happens P.cmp W.is_clone old event handed new → CalledBy W.is_clone old handed new }

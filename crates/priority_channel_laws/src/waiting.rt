@@ -4,13 +4,14 @@ ghost use Rattle.std.specs.Prelude.{◌≡◌, ◌↔◌, ◌*◌, List, [], len
 ghost use Rattle.std.specs.Option.{ForSome};
 ghost use Rattle.std.specs.Iterator.Adapters.{peekable_can};
 ghost use Rattle.priority_channel_parts.specs.Digits.{digits};
-ghost use Rattle.priority_channel_core.specs.State.{nobody, room};
-ghost use Rattle.priority_channel_core.specs.Good.{IsGood};
-ghost use Rattle.priority_channel_core.specs.Lists.{HasList};
-ghost use Rattle.priority_channel_core.specs.Polls.{PollsFront};
-ghost use Rattle.priority_channel_core.specs.Step.{Step};
-ghost use Rattle.priority_channel_core.specs.Bulk.{Performs};
-ghost use Rattle.priority_channel_core.specs.Channel.{ComparesAtMost, search_bound};
+ghost use Rattle.priority_channel_core.specs.machine.State.{nobody, room};
+ghost use Rattle.priority_channel_core.specs.machine.Good.{IsGood};
+ghost use Rattle.priority_channel_core.specs.code.Lists.{HasList};
+ghost use Rattle.priority_channel_core.specs.code.Front.{PollsFront};
+ghost use Rattle.priority_channel_core.specs.machine.Step.{Step};
+ghost use Rattle.priority_channel_core.specs.code.Calls.{Performs};
+ghost use Rattle.priority_channel_core.specs.code.Channel.{ComparesAtMost};
+ghost use Rattle.priority_channel_parts.specs.Waiters.{search_bound};
 ghost use Rattle.priority_channel_laws.specs.Future.Task.{Sendv as sendv_of};
 ghost use Rattle.priority_channel_laws.specs.World.{GivesUpTicket};
 ghost use Rattle.priority_channel_laws.specs.States.{unpolled, done, told_by, left_by, told_at_once, left_at_once, handed_back, HoldsTail, send_of, recv_of, TriesFront, PollsKept};
@@ -114,7 +115,7 @@ impl<K: Drop> Kept<K> {
         ensures left { self.new ≡ left_at_once ticket tried }
         ensures answered { IfReady result (λ _. GivesUpTicket P.cmp W.is_clone core.old.state ticket core.new.state) }
         ensures waits { OnPending result (core.new ≡ core.old) }
-        ensures cost { ComparesAtMost 0 (search_bound core.old.state) core.old core.new }
+        ensures cost { ComparesAtMost 0 (search_bound core.old.state.waiters) core.old core.new }
     {
         *self = Kept {
             kept: None,
@@ -143,7 +144,7 @@ impl<K: Drop> Kept<K> {
         ensures kept { result ≡ self.old.kept }
         ensures done { self.new ≡ done }
         ensures left { GivesUpTicket P.cmp W.is_clone core.old.state self.old.ticket core.new.state }
-        ensures cost { ComparesAtMost 0 (search_bound core.old.state) core.old core.new }
+        ensures cost { ComparesAtMost 0 (search_bound core.old.state.waiters) core.old core.new }
     {
         let (kept, ticket) = self.take()?;
         give_up_given(ticket, core);
@@ -157,7 +158,7 @@ fn give_up_given<T, P: Ord, W: Clone, A: Allocator + Copy>(
     core: &mut PriorityQueueChannel<T, P, W, A>,
 )
     ensures left { GivesUpTicket P.cmp W.is_clone core.old.state ticket core.new.state }
-    ensures cost { ComparesAtMost 0 (search_bound core.old.state) core.old core.new }
+    ensures cost { ComparesAtMost 0 (search_bound core.old.state.waiters) core.old core.new }
 {
     if let Some(ticket) = ticket {
         core.give_up(ticket);
@@ -216,7 +217,7 @@ impl<T: Drop, P: Ord + Drop> SendState<T, P> {
         ensures waits { OnPending result.0 ((result.1 ≡ nobody) × (self.new ≡ self.old) × (core.new.state ≡ core.old.state)) }
         ensures unsent { IfSome (handed_back result.0) (λ pair. self.old.kept ≡ Some pair) }
         ensures answered { IfReady result.0 (λ _. self.new ≡ done) }
-        ensures cost { ComparesAtMost (digits (length core.new.state.pending)) (search_bound core.old.state) core.old core.new }
+        ensures cost { ComparesAtMost (digits (length core.new.state.pending)) (search_bound core.old.state.waiters) core.old core.new }
     {
         let Some((pair, ticket)) = self.pair.take() else {
             return (Poll::Pending, core.nobody());
@@ -239,7 +240,7 @@ impl<T: Drop, P: Ord + Drop> SendState<T, P> {
         ensures kept { IfSome self.new.kept (λ pair. self.old.kept ≡ Some pair) }
         ensures answered { IfReady result.0 (λ _. self.new ≡ done) }
         ensures waits { OnPending result.0 (self.new.kept ≡ self.old.kept) }
-        ensures cost { ComparesAtMost (digits (length core.new.state.pending)) (search_bound core.old.state) core.old core.new }
+        ensures cost { ComparesAtMost (digits (length core.new.state.pending)) (search_bound core.old.state.waiters) core.old core.new }
     {
         let Some(((msg, priority), ticket)) = self.pair.take() else {
             return (Poll::Pending, core.nobody());
@@ -256,7 +257,7 @@ impl<T: Drop, P: Ord + Drop> SendState<T, P> {
         ensures kept { result ≡ self.old.kept }
         ensures done { self.new ≡ done }
         ensures left { GivesUpTicket P.cmp W.is_clone core.old.state self.old.ticket core.new.state }
-        ensures cost { ComparesAtMost 0 (search_bound core.old.state) core.old core.new }
+        ensures cost { ComparesAtMost 0 (search_bound core.old.state.waiters) core.old core.new }
     {
         self.pair.give_up_on(core)
     }
@@ -311,7 +312,7 @@ impl<M: Drop> SendvState<M> {
         ensures kept { result ≡ self.old.kept }
         ensures done { self.new ≡ done }
         ensures left { GivesUpTicket P.cmp W.is_clone core.old.state self.old.ticket core.new.state }
-        ensures cost { ComparesAtMost 0 (search_bound core.old.state) core.old core.new }
+        ensures cost { ComparesAtMost 0 (search_bound core.old.state.waiters) core.old core.new }
     {
         self.rest.give_up_on(core)
     }
@@ -339,7 +340,7 @@ impl<T: Drop, P: Ord + Drop, I: Iterator<Item = (T, P)>> SendvState<Peekable<I>>
         ensures unsent_callable { IfSome (handed_back result.0) (peekable_can I.can_next) }
         ensures kept_callable { ForSome self.new.kept (peekable_can I.can_next) }
         ensures front { IfSome self.old.kept (λ _. (front : List (T × P)) × TriesFront core.old.state self.old.ticket front result.0 result.1 core.new.state
-            × ComparesAtMost (length front * digits (length core.new.state.pending)) (search_bound core.old.state) core.old core.new) }
+            × ComparesAtMost (length front * digits (length core.new.state.pending)) (search_bound core.old.state.waiters) core.old core.new) }
         ensures good { IfSome self.old.kept (λ _. IsGood core.new.state) }
     {
         let Some((rest, ticket)) = self.rest.take() else {
@@ -369,7 +370,7 @@ impl<T: Drop, P: Ord + Drop, I: Iterator<Item = (T, P)>> SendvState<Peekable<I>>
         ensures unsent_callable { IfSome (handed_back result.0) (peekable_can I.can_next) }
         ensures kept_callable { ForSome self.new.kept (peekable_can I.can_next) }
         ensures front { IfSome self.old.kept (λ _. (front : List (T × P)) × PollsFront W.is_clone core.old.state self.old.ticket waker.now front result.1 core.new.state
-            × ComparesAtMost (length front * digits (length core.new.state.pending)) (search_bound core.old.state) core.old core.new) }
+            × ComparesAtMost (length front * digits (length core.new.state.pending)) (search_bound core.old.state.waiters) core.old core.new) }
         ensures good { IfSome self.old.kept (λ _. IsGood core.new.state) }
     {
         let Some((msgs, ticket)) = self.rest.take() else {
@@ -429,7 +430,7 @@ impl RecvState {
         ensures blocked { IfSome self.old.kept (λ _. OnPending result.0 ((core.old.state.is_closed ≡ false) × (core.old.state.pending ≡ []))) }
         ensures waits { OnPending result.0 ((result.1 ≡ nobody) × (self.new ≡ self.old) × (core.new.state ≡ core.old.state)) }
         ensures answered { IfReady result.0 (λ _. self.new ≡ done) }
-        ensures cost { ComparesAtMost (2 * digits (length core.old.state.pending)) (search_bound core.old.state) core.old core.new }
+        ensures cost { ComparesAtMost (2 * digits (length core.old.state.pending)) (search_bound core.old.state.waiters) core.old core.new }
     {
         if self.is_done() {
             return (Poll::Pending, core.nobody());
@@ -460,7 +461,7 @@ impl RecvState {
         ensures answered { IfReady result.0 (λ _. self.new ≡ done) }
         ensures waits { OnPending result.0 (self.new.kept ≡ self.old.kept) }
         ensures done { self.old.kept ≡ None → (result.0 ≡ Poll.Pending) × (result.1 ≡ nobody) × (self.new ≡ self.old) × (core.new ≡ core.old) }
-        ensures cost { ComparesAtMost (2 * digits (length core.old.state.pending)) (search_bound core.old.state) core.old core.new }
+        ensures cost { ComparesAtMost (2 * digits (length core.old.state.pending)) (search_bound core.old.state.waiters) core.old core.new }
     {
         let Some(((), ticket)) = self.receive.take() else {
             return (Poll::Pending, core.nobody());
@@ -477,7 +478,7 @@ impl RecvState {
         ensures kept { result ≡ self.old.kept }
         ensures done { self.new ≡ done }
         ensures left { GivesUpTicket P.cmp W.is_clone core.old.state self.old.ticket core.new.state }
-        ensures cost { ComparesAtMost 0 (search_bound core.old.state) core.old core.new }
+        ensures cost { ComparesAtMost 0 (search_bound core.old.state.waiters) core.old core.new }
     {
         self.receive.give_up_on(core)
     }

@@ -5,7 +5,8 @@ use Rattle.std.specs.List.{All}
 use Rattle.std.proofs.lemmas.Bool.{cases_lt, ne_eqb}
 use Rattle.std.proofs.lemmas.List.Elements.{All-filter, All-map, All-push, All-weaker}
 use Rattle.std.proofs.lemmas.List.Folds.{list_any_none}
-use Rattle.priority_channel_parts.specs.Waiting.{IsRising, is_listed, without, with_waker, without_given, listing, fresh, Listing, HasOwnTickets}
+use Rattle.priority_channel_parts.specs.Waiting.{IsRising, is_listed, without, with_waker, without_given, listing, fresh, Listing, TakesPlace}
+use Rattle.priority_channel_parts.specs.Waiters.{HasOwnTickets}
 use Rattle.priority_channel_parts.proofs.WaitingLemmas.{all_from_unlisted, rising-with_waker, rising-without, same_ticket}
 use Rattle.std.proofs.lemmas.List.Quantifiers.{all_pairs_push}
 
@@ -63,15 +64,25 @@ module _ {W : Type 0} where
         | false ↦ follows-fresh xs w n rises below
       ]
 
-  -- what `listen` of a waiting list promises
-  pub follows-listened : (is_clone : W → Type 0) (xs ys : List (ℕ × W)) (given r : Option ℕ) (n m : ℕ) → IsRising xs → All (λ a. a.0 < n) xs
-      → IfSome r (λ u. (w : W) × is_clone w × (listing given w xs n ≡ record { ticket = u; waiters = ys; next_ticket = m }))
-      → IfNone r ((ys ≡ without_given given xs) × (m ≡ n)) → Follows xs ys n m
-  follows-listened is_clone xs ys given None n m rises below some none = rw (none.0, none.1) (follows-without xs given n rises below)
-  follows-listened is_clone xs ys given (Some u) n m rises below some none =
-      let P : Listing W → Type 0 = λ l. Follows xs l.waiters n l.next_ticket in subst P some.2 (follows-listing xs given some.0 n rises below)
+  -- what two lists and the next ticket become, if each ticket stays one of their own
+  abbrev pub Own : List (ℕ × W) → List (ℕ × W) → ℕ → Type 0
+  Own rs ms n = HasOwnTickets (record { room = rs; message = ms; next_ticket = n })
 
-  pub own-room : (rs ss ms : List (ℕ × W)) (n m : ℕ) → HasOwnTickets rs ms n → Follows rs ss n m → HasOwnTickets ss ms m
+  pub own-swapped : (rs ms : List (ℕ × W)) (n : ℕ) → Own rs ms n → Own ms rs n
+  own-swapped rs ms n own =
+      record {
+        room_rises = own.message_rises;
+        message_rises = own.room_rises;
+        room_given = own.message_given;
+        message_given = own.room_given;
+        apart = λ t here.
+            elim (is_listed t rs) as (λ b. b ≡ is_listed t rs → is_listed t rs ≡ false) [
+              | true ↦ λ e. let apart = own.apart t (sym e) in absurd (cc)
+              | false ↦ λ e. sym e
+            ] refl;
+      }
+
+  pub own-room : (rs ss ms : List (ℕ × W)) (n m : ℕ) → Own rs ms n → Follows rs ss n m → Own ss ms m
   own-room rs ss ms n m own f =
       record {
         room_rises = f.rises;
@@ -88,12 +99,18 @@ module _ {W : Type 0} where
             ];
       }
 
-  pub own-message : (rs ms ns : List (ℕ × W)) (n m : ℕ) → HasOwnTickets rs ms n → Follows ms ns n m → HasOwnTickets rs ns m
-  own-message rs ms ns n m own f =
-      record {
-        room_rises = own.room_rises;
-        message_rises = f.rises;
-        room_given = let g = f.grows in All-weaker (λ a. a.0 < n) (λ a. a.0 < m) (λ a l. omega arith) rs own.room_given;
-        message_given = f.below;
-        apart = λ t here. let l = below_listed rs n t own.room_given here in f.no_others t (λ q. absurd (omega arith)) (own.apart t here);
-      }
+  pub own-message : (rs ms ns : List (ℕ × W)) (n m : ℕ) → Own rs ms n → Follows ms ns n m → Own rs ns m
+  own-message rs ms ns n m own f = own-swapped ns rs m (own-room ms ns rs n m (own-swapped rs ms n own) f)
+
+  -- what `listen_beside` promises of the list where a party is listed, and of the others
+  pub own-listed : (is_clone : W → W → Type 0) (rs ss ms ns : List (ℕ × W)) (given r : Option ℕ) (waker : W) (n m : ℕ) → Own rs ms n
+      → IfSome r (λ u. TakesPlace is_clone given waker rs n (record { ticket = u; waiters = ss; next_ticket = m }) × (ns ≡ ms))
+      → IfNone r ((ss ≡ without_given given rs) × (ns ≡ without_given given ms) × (m ≡ n)) → Own ss ns m
+  own-listed is_clone rs ss ms ns given None waker n m own some none =
+      let left = own-room rs (without_given given rs) ms n n own (follows-without rs given n own.room_rises own.room_given) in
+      rw (none.0, none.1, none.2)
+      (own-message _ ms (without_given given ms) n n left (follows-without ms given n own.message_rises own.message_given))
+  own-listed is_clone rs ss ms ns given (Some u) waker n m own some none =
+      let P : Listing W → Type 0 = λ l. Follows rs l.waiters n l.next_ticket in
+      let taken = subst P some.0.2 (follows-listing rs given some.0.0 n own.room_rises own.room_given) in
+      rw some.1 (own-room rs ss ms n m own taken)

@@ -1,5 +1,6 @@
 pub mod Digits
 pub mod Waiting
+pub mod Waiters
 pub mod Word
 pub mod Greatest
 pub mod Heap

@@ -1,6 +1,6 @@
 -- Lists of waiting parties: tickets in rising order, each with the waker kept under it.
-use Rattle.std.specs.Prelude.{◌≡◌, true, false, ℕ, ◌+◌, ◌<◌, Bool, not, ◌==◌, if◌then◌else◌, List, [], ◌∷◌, ◌++◌, map, Option, Some, None}
-use Rattle.std.specs.List.{All, AllPairs, filter, list_any}
+use Rattle.std.specs.Prelude.{◌≡◌, false, ℕ, ◌+◌, ◌<◌, Bool, not, ◌==◌, if◌then◌else◌, List, [], ◌∷◌, ◌++◌, map, Option, Some, None}
+use Rattle.std.specs.List.{AllPairs, filter, list_any}
 
 -- a party's ticket, with the list and the next ticket once the party is listed
 pub record Listing (W : Type 0) : Type 0 where
@@ -35,9 +35,11 @@ module _ {W : Type 0} where
   with_waker ticket waker waiters = map (λ a. if a.0 == ticket then (ticket, waker) else a) waiters
 
   abbrev pub fresh : W → List (ℕ × W) → ℕ → Listing W
-  fresh waker waiters next = record { ticket = next; waiters = waiters ++ (next, waker) ∷ []; next_ticket = next + 1 }
+  fresh waker waiters next =
+      record { ticket = next; waiters = waiters ++ (next, waker) ∷ []; next_ticket = next + 1 }
 
-  -- a party is listed under its own ticket where that stands in the list, and else under the next one
+  -- a party is listed under its own ticket where that stands in the list, and else under the next
+  -- one
   abbrev pub listing : Option ℕ → W → List (ℕ × W) → ℕ → Listing W
   listing None waker waiters next = fresh waker waiters next
   listing (Some ticket) waker waiters next =
@@ -49,12 +51,3 @@ module _ {W : Type 0} where
   abbrev pub TakesPlace : (W → W → Type 0) → Option ℕ → W → List (ℕ × W) → ℕ → Listing W → Type 0
   TakesPlace is_clone given waker waiters next place =
       (kept : W) × is_clone waker kept × (listing given kept waiters next ≡ place)
-
-  -- in the lists of those who wait for room and for a message the tickets rise, each was given before
-  -- the next one, and none waits for both
-  pub record HasOwnTickets (room message : List (ℕ × W)) (next : ℕ) : Type 0 where
-    pub room_rises : IsRising room
-    pub message_rises : IsRising message
-    pub room_given : All (λ a. a.0 < next) room
-    pub message_given : All (λ a. a.0 < next) message
-    pub apart : (ticket : ℕ) → is_listed ticket room ≡ true → is_listed ticket message ≡ false

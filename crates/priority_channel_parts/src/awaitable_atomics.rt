@@ -1,12 +1,14 @@
 //! A count with a closed bit in one word, and the parties that wait for the count to change.
 //!
 //! The small calls of the hot path are inlined by force: their answers would go through memory, and be read back at once.
-ghost use Rattle.std.specs.Prelude.{◌≡◌, ◌+◌, ◌-◌, ◌<◌, ◌≤◌, ◌^◌, ◌==◌, if◌then◌else◌, [], IfSome, IsSome, true, false, IfNone, Some};
+ghost use Rattle.std.specs.Prelude.{◌≡◌, ◌+◌, ◌-◌, ◌<◌, ◌≤◌, ◌^◌, ◌==◌, if◌then◌else◌, [], IsSome, true, false, Some};
 ghost use Rattle.priority_channel_parts.specs.Word.{nobody};
 ghost use Rattle.priority_channel_parts.specs.Waiting.{is_given_listed};
-ghost use Rattle.priority_channel_parts.specs.Word.{closed_bit, count_below, IsOrderly, word_without, ListensForRoom, ListensForMessage, both_lists_bound};
+ghost use Rattle.priority_channel_parts.specs.Waiters.{HasOwnTickets, no_waiters, on_side, unlist, Enlists, search_bound};
+ghost use Rattle.priority_channel_parts.specs.Word.{closed_bit, count_below};
 
 use crate::comparisons::Comparisons;
+use crate::side::Side;
 use crate::waiting_list::WaitingList;
 use std::alloc::{Allocator, Global};
 use std::marker::Model;
@@ -54,7 +56,8 @@ impl<W, A: Allocator + Copy> Wakes<W, A> {
 }
 
 /// A count below 2^63 and a closed bit, in one word, and the parties that wait: for the count to fall, so that there
-/// is room, or to rise, so that there is a message.
+/// is room, or to rise, so that there is a message. The name is the Rust crate's: here nothing is atomic, since a lock
+/// guards the channel.
 ///
 /// A waiting party is known by its ticket, a number that is given once. Whom a call hands out is moved out as whole
 /// lists, so no call that hands out takes memory.
@@ -76,14 +79,21 @@ pub struct AwaitableAtomicCounterAndBit<W, A: Allocator = Global> {
 }
 
 impl<W, A: Allocator> Model for AwaitableAtomicCounterAndBit<W, A> {
-    ghost use Rattle.priority_channel_parts.specs.Waiting.{HasOwnTickets};
+    ghost use Rattle.priority_channel_parts.specs.Waiters.{HasOwnTickets};
     ghost use Rattle.priority_channel_parts.specs.Word.{CountedWord, closed_bit, count_below};
 
     ghost Value = { CountedWord W };
 
-    ghost view = { λ a. record { word = record { is_closed = closed_bit a.packed; count = count_below a.packed; room_waiters = a.room_waiters; message_waiters = a.message_waiters; next_ticket = a.next_ticket }; comparisons = a.comparisons.count } };
+    ghost view = { λ a. record {
+      word = record {
+        is_closed = closed_bit a.packed;
+        count = count_below a.packed;
+        waiters = record { room = a.room_waiters; message = a.message_waiters; next_ticket = a.next_ticket };
+      };
+      comparisons = a.comparisons.count;
+    } };
 
-    ghost invariant = { λ a. HasOwnTickets a.room_waiters a.message_waiters a.next_ticket };
+    ghost invariant = { λ a. HasOwnTickets (record { room = a.room_waiters; message = a.message_waiters; next_ticket = a.next_ticket }) };
 }
 
 #[inline(always)]
@@ -98,8 +108,8 @@ impl<W, A: Allocator + Copy> AwaitableAtomicCounterAndBit<W, A> {
     /// An open word of this count, for which nobody waits. It takes no memory.
     pub fn new(alloc: A, value: u64) -> Self
         requires { value < 2 ^ 63 }
-        ensures word { result.word ≡ record { is_closed = false; count = value; room_waiters = []; message_waiters = []; next_ticket = 0 } }
-        ensures tickets { IsOrderly result.word }
+        ensures word { result.word ≡ record { is_closed = false; count = value; waiters = no_waiters } }
+        ensures tickets { HasOwnTickets result.word.waiters }
     {
         AwaitableAtomicCounterAndBit {
             alloc,
@@ -123,9 +133,9 @@ impl<W, A: Allocator + Copy> AwaitableAtomicCounterAndBit<W, A> {
     /// Sets the bit, answers the bit before, and hands out everybody.
     pub fn set_bit(&mut self) -> (bool, Wakes<W, A>)
         ensures bit { result.0 ≡ self.old.word.is_closed }
-        ensures handed { result.1 ≡ record { room = self.old.word.room_waiters; message = self.old.word.message_waiters } }
-        ensures word { self.new.word ≡ record self.old.word { is_closed = true; room_waiters = []; message_waiters = [] } }
-        ensures tickets { IsOrderly self.new.word }
+        ensures handed { result.1 ≡ record { room = self.old.word.waiters.room; message = self.old.word.waiters.message } }
+        ensures word { self.new.word ≡ record self.old.word { is_closed = true; waiters = record self.old.word.waiters { room = []; message = [] } } }
+        ensures tickets { HasOwnTickets self.new.word.waiters }
         ensures comparisons { self.new.comparisons ≡ self.old.comparisons }
     {
         let (was_closed, _) = unpack(self.packed);
@@ -142,9 +152,12 @@ impl<W, A: Allocator + Copy> AwaitableAtomicCounterAndBit<W, A> {
         requires { self.old.word.count + n < 2 ^ 63 }
         ensures bit { result.0.0 ≡ self.old.word.is_closed }
         ensures count { result.0.1 ≡ self.old.word.count }
-        ensures handed { result.1 ≡ (if n == 0 then nobody else record { room = []; message = self.old.word.message_waiters }) }
-        ensures word { self.new.word ≡ record self.old.word { count = self.old.word.count + n; message_waiters = if n == 0 then self.old.word.message_waiters else [] } }
-        ensures tickets { IsOrderly self.new.word }
+        ensures handed { result.1 ≡ (if n == 0 then nobody else record { room = []; message = self.old.word.waiters.message }) }
+        ensures word { self.new.word ≡ record self.old.word {
+          count = self.old.word.count + n;
+          waiters = record self.old.word.waiters { message = if n == 0 then self.old.word.waiters.message else [] };
+        } }
+        ensures tickets { HasOwnTickets self.new.word.waiters }
         ensures comparisons { self.new.comparisons ≡ self.old.comparisons }
     {
         let before = unpack(self.packed);
@@ -163,9 +176,9 @@ impl<W, A: Allocator + Copy> AwaitableAtomicCounterAndBit<W, A> {
         requires { 0 < self.old.word.count }
         ensures bit { result.0.0 ≡ self.old.word.is_closed }
         ensures count { result.0.1 ≡ self.old.word.count }
-        ensures handed { result.1 ≡ record { room = self.old.word.room_waiters; message = [] } }
-        ensures word { self.new.word ≡ record self.old.word { count = self.old.word.count - 1; room_waiters = [] } }
-        ensures tickets { IsOrderly self.new.word }
+        ensures handed { result.1 ≡ record { room = self.old.word.waiters.room; message = [] } }
+        ensures word { self.new.word ≡ record self.old.word { count = self.old.word.count - 1; waiters = record self.old.word.waiters { room = [] } } }
+        ensures tickets { HasOwnTickets self.new.word.waiters }
         ensures comparisons { self.new.comparisons ≡ self.old.comparisons }
     {
         let before = unpack(self.packed);
@@ -179,9 +192,9 @@ impl<W, A: Allocator + Copy> AwaitableAtomicCounterAndBit<W, A> {
     pub fn unlisten(&mut self, ticket: u64)
     where
         W: Drop,
-        ensures word { self.new.word ≡ word_without (Some ticket) self.old.word }
-        ensures tickets { IsOrderly self.new.word }
-        ensures cost { self.new.comparisons ≤ self.old.comparisons + both_lists_bound self.old.word }
+        ensures word { self.new.word ≡ record self.old.word { waiters = unlist (Some ticket) self.old.word.waiters } }
+        ensures tickets { HasOwnTickets self.new.word.waiters }
+        ensures cost { self.new.comparisons ≤ self.old.comparisons + search_bound self.old.word.waiters }
     {
         self.room_waiters.remove(ticket, &mut self.comparisons);
         self.message_waiters.remove(ticket, &mut self.comparisons);
@@ -189,50 +202,31 @@ impl<W, A: Allocator + Copy> AwaitableAtomicCounterAndBit<W, A> {
 }
 
 impl<W: Clone, A: Allocator + Copy> AwaitableAtomicCounterAndBit<W, A> {
-    /// Lists a party that waits for a message, under its own ticket where that stands in the list, and else under
-    /// the next one. None where the clone of the waker or its place was refused, or where the numbers ran out.
-    pub fn listen_incr(&mut self, ticket: Option<u64>, waker: &W) -> Option<u64>
-        ensures listed { IfSome result (λ listed. ListensForMessage W.is_clone ticket waker.now self.old.word listed self.new.word) }
-        ensures refused { IfNone result (self.new.word ≡ word_without ticket self.old.word) }
-        ensures renewed { is_given_listed ticket self.old.word.message_waiters ≡ true → W.is_infallible waker.now → IsSome result }
-        ensures tickets { IsOrderly self.new.word }
-        ensures fits { self.new.word.next_ticket < 2 ^ 64 }
-        ensures cost { self.new.comparisons ≤ self.old.comparisons + both_lists_bound self.old.word }
+    /// Lists a party on a side, under its own ticket where that stands there, and else under the next one. None where
+    /// the clone of the waker or its place was refused, or where the numbers ran out; it is then listed nowhere.
+    pub fn listen(&mut self, side: Side, ticket: Option<u64>, waker: &W) -> Option<u64>
+        ensures enlists { Enlists W.is_clone side ticket waker.now result self.old.word.waiters self.new.word.waiters }
+        ensures word { self.new.word ≡ record self.old.word { waiters = self.new.word.waiters } }
+        ensures renewed { is_given_listed ticket (on_side side self.old.word.waiters) ≡ true → W.is_infallible waker.now → IsSome result }
+        ensures tickets { HasOwnTickets self.new.word.waiters }
+        ensures fits { self.new.word.waiters.next_ticket < 2 ^ 64 }
+        ensures cost { self.new.comparisons ≤ self.old.comparisons + search_bound self.old.word.waiters }
     {
-        let Some(listed) = self.message_waiters.listen(
-            ticket,
-            waker,
-            &mut self.next_ticket,
-            &mut self.comparisons,
-        )
-        else {
-            self.room_waiters
-                .remove_given(ticket, &mut self.comparisons);
-            return None;
-        };
-        Some(listed)
-    }
-
-    /// Lists a party that waits for room, as `listen_incr` does one that waits for a message.
-    pub fn listen_decr(&mut self, ticket: Option<u64>, waker: &W) -> Option<u64>
-        ensures listed { IfSome result (λ listed. ListensForRoom W.is_clone ticket waker.now self.old.word listed self.new.word) }
-        ensures refused { IfNone result (self.new.word ≡ word_without ticket self.old.word) }
-        ensures renewed { is_given_listed ticket self.old.word.room_waiters ≡ true → W.is_infallible waker.now → IsSome result }
-        ensures tickets { IsOrderly self.new.word }
-        ensures fits { self.new.word.next_ticket < 2 ^ 64 }
-        ensures cost { self.new.comparisons ≤ self.old.comparisons + both_lists_bound self.old.word }
-    {
-        let Some(listed) = self.room_waiters.listen(
-            ticket,
-            waker,
-            &mut self.next_ticket,
-            &mut self.comparisons,
-        )
-        else {
-            self.message_waiters
-                .remove_given(ticket, &mut self.comparisons);
-            return None;
-        };
-        Some(listed)
+        match side {
+            Side::Room => self.room_waiters.listen_beside(
+                &mut self.message_waiters,
+                ticket,
+                waker,
+                &mut self.next_ticket,
+                &mut self.comparisons,
+            ),
+            Side::Message => self.message_waiters.listen_beside(
+                &mut self.room_waiters,
+                ticket,
+                waker,
+                &mut self.next_ticket,
+                &mut self.comparisons,
+            ),
+        }
     }
 }

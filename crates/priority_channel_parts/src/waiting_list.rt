@@ -128,6 +128,32 @@ impl<W: Clone, A: Allocator> WaitingList<W, A> {
         }
     }
 
+    /// Lists a party as `listen` does. Where that is refused, it leaves the list of the others too.
+    pub fn listen_beside(
+        &mut self,
+        others: &mut WaitingList<W, A>,
+        ticket: Option<u64>,
+        waker: &W,
+        next_ticket: &mut u64,
+        comparisons: &mut Comparisons,
+    ) -> Option<u64>
+        requires given { All (λ a. a.0 < next_ticket.old) self.old }
+        requires fits { next_ticket.old < 2 ^ 64 }
+        ensures listed { IfSome result (λ listed. TakesPlace W.is_clone ticket waker.now self.old next_ticket.old
+            (record { ticket = listed; waiters = self.new; next_ticket = next_ticket.new }) × (others.new ≡ others.old)) }
+        ensures refused { IfNone result ((self.new ≡ without_given ticket self.old) × (others.new ≡ without_given ticket others.old)
+            × (next_ticket.new ≡ next_ticket.old)) }
+        ensures renewed { is_given_listed ticket self.old ≡ true → W.is_infallible waker.now → IsSome result }
+        ensures fits { next_ticket.new < 2 ^ 64 }
+        ensures cost { comparisons.new.count ≤ comparisons.old.count + digits (length self.old) + digits (length others.old) }
+    {
+        let listed = self.listen(ticket, waker, next_ticket, comparisons);
+        if listed.is_none() {
+            others.remove_given(ticket, comparisons);
+        }
+        listed
+    }
+
     // Without memory for the new waker the ticket leaves the list.
     fn renew(&mut self, place: usize, ticket: u64, waker: &W) -> Option<u64>
         requires in_list { place < length self.old }

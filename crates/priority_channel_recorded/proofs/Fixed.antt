@@ -1,19 +1,25 @@
 -- A history fixes the state that it ends in.
-use Rattle.std.proofs.Common.{◌≡◌, ℕ, ◌+◌, true, false, if◌then◌else◌, ◌==◌, List, [], ◌∷◌, ◌++◌, length, take, sym, ap, ◌∙◌, subst, arith, Some, Ok, Err}
+use Rattle.std.proofs.Common.{◌≡◌, ℕ, true, false, List, [], ◌∷◌, ◌++◌, length, length-append, refl, sym, ap, ◌∙◌, subst, arith, Some, Ok, Err}
 use Rattle.std.specs.List.{AllZip}
 use Rattle.std.specs.declared.cmp.Ordering.{Ordering}
 use Rattle.priority_channel_core.specs.declared.calls.Answer.TheVariants as answer
 use Rattle.priority_channel_parts.specs.declared.errors.TrySendError.TheVariants as send_error
 use Rattle.priority_channel_parts.specs.declared.errors.TryRecvError.TheVariants as recv_error
 use Rattle.priority_channel_parts.specs.Greatest.{TakesGreatest}
-use Rattle.priority_channel_core.specs.State.{Handed, opening}
-use Rattle.priority_channel_core.specs.Step.{Moves, Step, Answers}
-use Rattle.priority_channel_core.specs.Run.{Made, Run}
+use Rattle.priority_channel_core.specs.machine.State.{Handed, opening}
+use Rattle.priority_channel_core.specs.machine.Sends.{AddsFront}
+use Rattle.priority_channel_core.specs.machine.Step.{Moves, Step, Answers}
+use Rattle.priority_channel_core.specs.machine.Run.{Made, Run}
 use Rattle.priority_channel_recorded.specs.declared.book.Call.{Call}
 use Rattle.priority_channel_recorded.specs.declared.book.Call.TheVariants.{TrySend, TryRecv, Close, IsClosed, IsEmpty, IsFull, Len}
 use Rattle.priority_channel_recorded.specs.declared.book.Reply.{Reply}
 use Rattle.priority_channel_recorded.specs.declared.book.Entry.{Entry}
 use Rattle.priority_channel_recorded.specs.History.{Machine, call_of, reply_of, Records, IsHistory}
+
+-- who gets the only pair back has sent nothing
+no_front : {X : Type 0} (x y : X) (front : List X) → x ∷ [] ≡ front ++ y ∷ [] → front ≡ []
+no_front x y [] e = refl
+no_front x y (z ∷ front) e = let l = ap length e in let m = length-append front (y ∷ []) in absurd (omega arith)
 
 module _ {T P : Type 0} (cmp : P → P → Ordering)
     (one_greatest : (pending : List (T × P)) (pair other : T × P) (rest others : List (T × P))
@@ -40,24 +46,23 @@ module _ {T P : Type 0} (cmp : P → P → Ordering)
   same_answer old new other handed others Len (answer.Len one) _ reply m n e f = absurd n
   same_answer old new other handed others _ _ _ reply m n e f = absurd m
 
+  -- where nothing was added
+  adds_none : (old new other : Machine T P) (handed others : Handed (Unit {0})) (front again : List (T × P)) → front ≡ [] → again ≡ []
+      → AddsFront old front handed new → AddsFront old again others other → new ≡ other
+  adds_none old new other handed others front again e f m n = m.new_is ∙ rw (e, f) refl ∙ sym n.new_is
+
   -- two steps with one answer lead to one state
   same_state : (old new other : Machine T P) (handed others : Handed (Unit {0})) (call : Call T P) (told : Answers T P)
       → Goes old call told handed new → Goes old call told others other → new ≡ other
   same_state old new other handed others (TrySend msg priority) (answer.TrySend (Ok sent)) m n = m.2.1.new_is ∙ sym n.2.1.new_is
   same_state old new other handed others (TrySend msg priority) (answer.TrySend (Err (send_error.Closed pair))) m n = m.2.1 ∙ sym n.2.1
-  same_state old new other handed others (TrySend msg priority) (answer.TrySend (Err (send_error.Full pair))) m n = m.2.1.new_is ∙ sym n.2.1.new_is
+  same_state old new other handed others (TrySend msg priority) (answer.TrySend (Err (send_error.Full pair))) m n =
+      adds_none old new other handed others m.0 n.0 (no_front _ pair m.0 m.1) (no_front _ pair n.0 n.1) m.4.1 n.4.1
   same_state old new other handed others (TrySend msg priority) (answer.TrySend (Err (send_error.Memory pair))) m n =
-      let front : ℕ → List (T × P) = λ k. take k ((msg, priority) ∷ []) in
-      let after : ℕ → Machine T P = λ k. record old {
-        pending = old.pending ++ front k;
-        accepted = old.accepted + length (front k);
-        message_waiters = if length (front k) == 0 then old.message_waiters else [];
-      } in
-      let same : m.0 ≡ n.0 = omega (arith, m.1, n.1) in
-      m.4.1.new_is ∙ ap after same ∙ sym n.4.1.new_is
+      adds_none old new other handed others m.0 n.0 (no_front _ pair m.0 m.1) (no_front _ pair n.0 n.1) m.4.1 n.4.1
   same_state old new other handed others TryRecv (answer.TryRecv (Ok pair)) m n =
       let same = one_greatest old.pending pair pair new.pending other.pending m.0 n.0 in
-      let after : List (T × P) → Machine T P = λ rest. record old { pending = rest; room_waiters = [] } in
+      let after : List (T × P) → Machine T P = λ rest. record old { pending = rest; waiters = record old.waiters { room = [] } } in
       m.2 ∙ ap after same.1 ∙ sym n.2
   same_state old new other handed others TryRecv (answer.TryRecv (Err recv_error.Closed)) m n = m.2.1 ∙ sym n.2.1
   same_state old new other handed others TryRecv (answer.TryRecv (Err recv_error.Empty)) m n = m.2.1 ∙ sym n.2.1

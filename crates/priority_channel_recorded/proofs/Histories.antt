@@ -4,9 +4,9 @@ use Rattle.std.specs.declared.cmp.Ordering.{Ordering}
 use Rattle.priority_channel_core.specs.declared.calls.Answer.TheVariants as answer
 use Rattle.priority_channel_parts.specs.declared.errors.TrySendError.TheVariants as send_error
 use Rattle.priority_channel_parts.specs.declared.errors.TryRecvError.TheVariants as recv_error
-use Rattle.priority_channel_core.specs.State.{Handed, opening}
-use Rattle.priority_channel_core.specs.Step.{Moves, Answers}
-use Rattle.priority_channel_core.specs.Run.{Made}
+use Rattle.priority_channel_core.specs.machine.State.{Handed, opening}
+use Rattle.priority_channel_core.specs.machine.Step.{Moves, Answers}
+use Rattle.priority_channel_core.specs.machine.Run.{Made}
 use Rattle.priority_channel_core.proofs.RunLemmas.{zip_push, Run-more}
 use Rattle.priority_channel_recorded.specs.declared.book.Call.{Call}
 use Rattle.priority_channel_recorded.specs.declared.book.Call.TheVariants.{TrySend, TryRecv, Close, IsClosed, IsEmpty, IsFull, Len}

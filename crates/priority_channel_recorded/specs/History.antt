@@ -4,9 +4,9 @@ use Rattle.std.specs.List.{AllZip}
 use Rattle.std.specs.declared.cmp.Ordering.{Ordering}
 use Rattle.priority_channel_core.specs.declared.calls.Call.TheVariants as call
 use Rattle.priority_channel_core.specs.declared.calls.Answer.TheVariants as answer
-use Rattle.priority_channel_core.specs.State.{State, Handed, opening}
-use Rattle.priority_channel_core.specs.Step.{Step, Calls, Answers}
-use Rattle.priority_channel_core.specs.Run.{Made, Run}
+use Rattle.priority_channel_core.specs.machine.State.{State, Handed, opening}
+use Rattle.priority_channel_core.specs.machine.Step.{Step, Calls, Answers}
+use Rattle.priority_channel_core.specs.machine.Run.{Made, Run}
 use Rattle.priority_channel_recorded.specs.declared.book.Call.{Call}
 use Rattle.priority_channel_recorded.specs.declared.book.Call.TheVariants.{TrySend, TryRecv, Close, IsClosed, IsEmpty, IsFull, Len}
 use Rattle.priority_channel_recorded.specs.declared.book.Reply.{Reply}

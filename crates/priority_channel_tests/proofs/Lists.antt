@@ -7,9 +7,9 @@ use Rattle.priority_channel_parts.specs.declared.errors.TrySendError.{TrySendErr
 use Rattle.priority_channel_parts.specs.declared.errors.TrySendError.TheVariants.{Full, Closed, Memory}
 use Rattle.priority_channel_core.specs.declared.calls.Call.TheVariants as call
 use Rattle.priority_channel_core.specs.declared.calls.Answer.TheVariants as answer
-use Rattle.priority_channel_core.specs.State.{State, Handed, room}
-use Rattle.priority_channel_core.specs.Sends.{Sends}
-use Rattle.priority_channel_core.specs.Bulk.{Performs}
+use Rattle.priority_channel_core.specs.machine.State.{State, Handed, room}
+use Rattle.priority_channel_core.specs.machine.Sends.{Sends}
+use Rattle.priority_channel_core.specs.code.Calls.{Performs}
 
 module _ {T P W : Type 0} where
   accepted_in_place : (old new : State T P W) (pairs : List (T × P)) (reply : Result (Unit {0}) (TrySendError (List (T × P)))) (handed : Handed W)

@@ -1,3 +1,4 @@
+//! Weak handles, guards, streams, peeks, wakers, batches, and handles as messages.
 mod batches;
 mod guards;
 mod nested;

@@ -27,8 +27,9 @@ fn a_moment() -> Duration {
 
 #[test]
 fn a_wait_for_a_message_may_be_refused(rt: HostRuntime) -> Result<(), Fail> {
-    for n in 1..=NOT_MET {
-        let alloc = Refusing::new(rt.alloc());
+    let alloc = Refusing::new(rt.alloc());
+    for round in alloc.rounds() {
+        let n = round?;
         let (tx, rx) = bounded(&rt, &alloc, 2)?;
         alloc.refuse_nth(n);
         let received = rx.recv_timeout(a_while());
@@ -51,8 +52,9 @@ fn a_wait_for_a_message_may_be_refused(rt: HostRuntime) -> Result<(), Fail> {
 
 #[test]
 fn a_wait_for_room_may_be_refused(rt: HostRuntime) -> Result<(), Fail> {
-    for n in 1..=NOT_MET {
-        let alloc = Refusing::new(rt.alloc());
+    let alloc = Refusing::new(rt.alloc());
+    for round in alloc.rounds() {
+        let n = round?;
         let (tx, rx) = bounded(&rt, &alloc, 1)?;
         assert_eq!(rt; tx.try_send("x", 1u64), Ok(()));
         alloc.refuse_nth(n);
@@ -76,8 +78,9 @@ fn a_wait_for_room_may_be_refused(rt: HostRuntime) -> Result<(), Fail> {
 
 #[test]
 fn a_wait_for_much_room_may_be_refused(rt: HostRuntime) -> Result<(), Fail> {
-    for n in 1..=NOT_MET {
-        let alloc = Refusing::new(rt.alloc());
+    let alloc = Refusing::new(rt.alloc());
+    for round in alloc.rounds() {
+        let n = round?;
         let (tx, rx) = bounded_reserved(&rt, &alloc, 2)?;
         alloc.refuse_nth(n);
         let msgs = [("x", 1u64), ("y", 2), ("z", 3), ("w", 4)];

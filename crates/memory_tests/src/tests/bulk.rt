@@ -41,7 +41,8 @@ fn receive_behind<R: Wait + Clone, A: Allocator + Copy>(
 #[test]
 fn a_refused_try_gives_back_the_rest(rt: HostRuntime) -> Result<(), Fail> {
     let alloc = Refusing::new(rt.alloc());
-    for n in 1..20u64 {
+    for round in alloc.rounds() {
+        let n = round?;
         let (tx, rx) = bounded(&rt, &alloc, 9)?;
         alloc.refuse_nth(n);
         let sent = tx.try_sendv(PAIRS.into_iter().peekable());
@@ -52,7 +53,7 @@ fn a_refused_try_gives_back_the_rest(rt: HostRuntime) -> Result<(), Fail> {
             assert_eq!(rt; received, 9);
             // One for the first place, and others for more of it.
             assert!(rt; n > 2);
-            return Ok(());
+            continue;
         }
         let Err(error) = sent else {
             return Err(Fail::from("it sent all without memory"));
@@ -63,14 +64,15 @@ fn a_refused_try_gives_back_the_rest(rt: HostRuntime) -> Result<(), Fail> {
             "at {n}"
         );
     }
-    Err(Fail::from("one of each nineteen requests was refused"))
+    Ok(())
 }
 
 // Sends through two places, from which it is received where the send waits.
 #[test]
 fn a_refused_future_gives_back_the_rest(rt: HostRuntime) -> Result<(), Fail> {
     let alloc = Refusing::new(rt.alloc());
-    for n in 1..20u64 {
+    for round in alloc.rounds() {
+        let n = round?;
         let (tx, rx) = bounded(&rt, &alloc, 2)?;
         let task = MockTask::new(&rt)?;
         let mut sending = tx.sendv(PAIRS.into_iter().peekable());
@@ -93,7 +95,7 @@ fn a_refused_future_gives_back_the_rest(rt: HostRuntime) -> Result<(), Fail> {
             assert_eq!(rt; received, 9);
             // For the place of its waker, for messages, and in the list at each poll that waits.
             assert!(rt; n > 5);
-            return Ok(());
+            continue;
         }
         let Err(fault) = sent else {
             return Err(Fail::from("it sent all without memory"));
@@ -104,5 +106,5 @@ fn a_refused_future_gives_back_the_rest(rt: HostRuntime) -> Result<(), Fail> {
             "at {n}"
         );
     }
-    Err(Fail::from("one of each nineteen requests was refused"))
+    Ok(())
 }

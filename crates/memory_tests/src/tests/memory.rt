@@ -24,7 +24,8 @@ fn a_making_may_be_refused(rt: HostRuntime) {
 #[test]
 fn what_was_accepted_comes_out(rt: HostRuntime) -> Result<(), Fail> {
     let alloc = Refusing::new(rt.alloc());
-    for n in 1..10u64 {
+    for round in alloc.rounds() {
+        let n = round?;
         alloc.refuse_nth(n);
         let Ok((tx, rx)) = unbounded(&rt, &alloc) else {
             assert_eq!(rt; n, 1);
@@ -37,20 +38,19 @@ fn what_was_accepted_comes_out(rt: HostRuntime) -> Result<(), Fail> {
                 refused => assert_eq!(rt; refused, Err(TrySendError::Memory((i, i)))),
             }
         }
-        let met_all = alloc.refuse_none();
-        assert_eq!(rt; accepted.len() == 3, met_all, "at {n}");
+        let met_none = alloc.refuse_none();
+        assert_eq!(rt; accepted.len() == 3, met_none, "at {n}");
         for i in [3u64, 2, 1] {
             if accepted.contains(&i) {
                 assert_eq!(rt; rx.try_recv(), Ok((i, i)), "at {n}");
             }
         }
         assert_eq!(rt; rx.try_recv(), Err(TryRecvError::Empty), "at {n}");
-        if met_all {
+        if met_none {
             assert!(rt; n > 2);
-            return Ok(());
         }
     }
-    Err(Fail::from("one of each nine requests was refused"))
+    Ok(())
 }
 
 #[test]
@@ -101,19 +101,22 @@ fn a_future_that_answers_at_once_takes_no_memory(rt: HostRuntime) -> Result<(), 
 fn a_refused_send_comes_back(rt: HostRuntime) -> Result<(), Fail> {
     let alloc = Refusing::new(rt.alloc());
     let (tx, rx) = bounded(&rt, &alloc, 2)?;
-    for n in 1..10u64 {
+    for round in alloc.rounds() {
+        let n = round?;
         alloc.refuse_nth(n);
         let sent = block_on(&rt, tx.send("x", n))?;
-        if alloc.refuse_none() {
-            assert_eq!(rt; sent, Ok(()));
-            // The place for the message alone: it need not wait.
-            assert_eq!(rt; n, 2);
-            return Ok(());
-        }
-        assert_eq!(rt; sent, Err(SendFault::Memory(("x", n))));
-        assert!(rt; rx.is_empty());
+        let met_none = alloc.refuse_none();
+        // The place for the message alone: it need not wait.
+        assert_eq!(rt; met_none, n == 2);
+        let wanted = if met_none {
+            Ok(())
+        } else {
+            Err(SendFault::Memory(("x", n)))
+        };
+        assert_eq!(rt; sent, wanted);
+        assert_eq!(rt; rx.is_empty(), !met_none);
     }
-    Err(Fail::from("each of nine sends was refused"))
+    Ok(())
 }
 
 #[test]

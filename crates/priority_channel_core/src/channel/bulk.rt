@@ -2,8 +2,8 @@
 ghost use Rattle.std.specs.Prelude.{◌≡◌, ◌+◌, ◌*◌, ◌-◌, ◌<◌, ◌≤◌, ◌^◌, ◌↔◌, ◌⊎◌, List, length, Err, IfErr, IsTrue, true, false, Option, Some, is_some};
 ghost use Rattle.std.specs.Iterator.Adapters.{peekable_can, peekable_peeked};
 ghost use Rattle.priority_channel_parts.specs.Digits.{digits};
-ghost use Rattle.priority_channel_core.specs.Lists.{HasList};
-ghost use Rattle.priority_channel_core.specs.Front.{MovesFront, SendsFront, StopsFor, sent_before};
+ghost use Rattle.priority_channel_core.specs.code.Lists.{HasList};
+ghost use Rattle.priority_channel_core.specs.code.Front.{MovesFront, SendsFront, StopsFor, sent_before};
 
 use crate::awaitable_atomics::Wakes;
 use crate::bag::Bag;
@@ -81,12 +81,13 @@ fn send_front<T: Drop, P: Ord + Drop, A: Allocator, I: Iterator<Item = (T, P)>>(
 }
 
 impl<T: Drop, P: Ord + Drop, W: Clone, A: Allocator + Copy> PriorityQueueChannel<T, P, W, A> {
-    ghost use Rattle.priority_channel_core.specs.State.{room as room_of};
-    ghost use Rattle.priority_channel_core.specs.Good.{IsGood};
+    ghost use Rattle.priority_channel_core.specs.machine.State.{room as room_of};
+    ghost use Rattle.priority_channel_core.specs.machine.Good.{IsGood};
     ghost use Rattle.priority_channel_parts.specs.Errors.{refused};
-    ghost use Rattle.priority_channel_core.specs.Sends.{OnFull, OnMemory, AddsFront};
-    ghost use Rattle.priority_channel_core.specs.Bulk.{Performs};
-    ghost use Rattle.priority_channel_core.specs.Channel.{ComparesAtMost};
+    ghost use Rattle.priority_channel_core.specs.machine.Sends.{AddsFront};
+    ghost use Rattle.priority_channel_core.specs.code.Replies.{OnFull, OnMemory};
+    ghost use Rattle.priority_channel_core.specs.code.Calls.{Performs};
+    ghost use Rattle.priority_channel_core.specs.code.Channel.{ComparesAtMost};
 
     // Sends a front of the list, of at least one pair if there is one, and hands out those who wait for a message.
     fn send_while_room<I: Iterator<Item = (T, P)>>(
@@ -104,7 +105,7 @@ impl<T: Drop, P: Ord + Drop, W: Clone, A: Allocator + Copy> PriorityQueueChannel
         ensures cost { ComparesAtMost (sent_before result.0 * digits (length self.new.state.pending)) 0 self.old self.new }
     {
         let stop = send_front(&mut self.bag, room, msgs);
-        let (_, wakes) = self.length.incr(stop.sent());
+        let (_, wakes) = self.word.incr(stop.sent());
         (stop, wakes)
     }
 
@@ -132,7 +133,7 @@ impl<T: Drop, P: Ord + Drop, W: Clone, A: Allocator + Copy> PriorityQueueChannel
         ensures front { (front : List (T × P)) × AddsFront self.old.state front result.1 self.new.state × ComparesAtMost (length front * digits (length self.new.state.pending)) 0 self.old self.new }
         ensures good { IsGood self.new.state }
     {
-        let (is_closed, count) = self.length.load();
+        let (is_closed, count) = self.word.load();
         if is_closed {
             return (Err(TrySendError::Closed(msgs)), Wakes::nobody(self.alloc));
         }

@@ -1,7 +1,7 @@
 //! Receiving many pairs in one hold of what guards the channel.
 ghost use Rattle.std.specs.Prelude.{◌≡◌, ◌↔◌, ◌+◌, ◌*◌, ◌<◌, ◌≤◌, List, ◌++◌, [], length, min, IfOk, IfErr, OnErr, IsOk, Err, vec_capacity};
 ghost use Rattle.priority_channel_parts.specs.Digits.{digits};
-ghost use Rattle.priority_channel_core.specs.Many.{ReceivesInTurn};
+ghost use Rattle.priority_channel_core.specs.code.Many.{ReceivesInTurn};
 
 use crate::awaitable_atomics::Wakes;
 use crate::calls::{Answer, Call};
@@ -10,10 +10,10 @@ use crate::errors::TryRecvError;
 use std::alloc::Allocator;
 
 impl<T, P: Ord, W: Clone, A: Allocator + Copy> PriorityQueueChannel<T, P, W, A> {
-    ghost use Rattle.priority_channel_core.specs.State.{nobody};
-    ghost use Rattle.priority_channel_core.specs.Good.{IsGood};
-    ghost use Rattle.priority_channel_core.specs.Step.{Step};
-    ghost use Rattle.priority_channel_core.specs.Channel.{ComparesAtMost};
+    ghost use Rattle.priority_channel_core.specs.machine.State.{nobody};
+    ghost use Rattle.priority_channel_core.specs.machine.Good.{IsGood};
+    ghost use Rattle.priority_channel_core.specs.machine.Step.{Step};
+    ghost use Rattle.priority_channel_core.specs.code.Channel.{ComparesAtMost};
 
     /// Receives up to `limit` pairs, the greatest first, as so many receives in a row, and answers how many came. The
     /// error is that of one receive, and comes where nothing is pending, also with a `limit` of 0.
@@ -51,7 +51,7 @@ impl<T, P: Ord, W: Clone, A: Allocator + Copy> PriorityQueueChannel<T, P, W, A> 
 
     // Where nobody waits for room.
     fn receive_more<B: Allocator>(&mut self, batch: &mut Vec<(T, P), B>, limit: usize) -> usize
-        requires nobody_waits { self.old.state.room_waiters ≡ [] }
+        requires nobody_waits { self.old.state.waiters.room ≡ [] }
         requires place { length batch.old.items + limit ≤ vec_capacity batch.old }
         ensures received { (pairs : List (T × P)) × (length pairs ≡ result) × (batch.new.items ≡ batch.old.items ++ pairs)
             × ReceivesInTurn P.cmp W.is_clone self.old.state pairs nobody self.new.state }
@@ -61,7 +61,7 @@ impl<T, P: Ord, W: Clone, A: Allocator + Copy> PriorityQueueChannel<T, P, W, A> 
         ensures cost { ComparesAtMost (result * (2 * digits (length self.old.state.pending))) 0 self.old self.new }
     {
         // For the proof, which needs what holds of the parts.
-        let _ = &self.length;
+        let _ = &self.word;
         for received in 0..limit {
             let (next, wakes) = self.try_recv();
             let (_room, _message) = wakes.into_lists();

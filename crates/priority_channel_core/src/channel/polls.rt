@@ -1,76 +1,67 @@
-//! The calls that wait: a send or a receive, and then a place in a waiting list where the channel was full or empty.
-ghost use Rattle.std.specs.Prelude.{◌≡◌, ◌≢◌, ◌⊎◌, ◌+◌, ◌-◌, ◌*◌, ◌^◌, ℕ, List, [], length, false, true, Some, IfSome, IfNone, IsSome, Err};
+//! The calls that wait: a try to send or to receive, and then, where the channel was full or empty, a place among those
+//! who wait.
+ghost use Rattle.std.specs.Prelude.{◌≡◌, ◌≢◌, ◌⊎◌, ◌+◌, ◌-◌, ◌*◌, ◌^◌, ℕ, List, [], length, false, true, Option, Some, IfSome, IsSome, Result, Err};
 ghost use Rattle.std.specs.Iterator.Adapters.{peekable_can};
 ghost use Rattle.std.specs.declared.iter.Ahead.{Ahead};
 ghost use Rattle.priority_channel_parts.specs.Digits.{digits};
-ghost use Rattle.priority_channel_core.specs.Lists.{HasList};
 ghost use Rattle.priority_channel_parts.specs.Waiting.{is_given_listed};
-ghost use Rattle.priority_channel_core.specs.Polls.{unlisted, recv_waits, send_waits, WaitsForRoom, WaitsForMessage, KeepsWaiting, PollsFront, OnMemoryFault};
+ghost use Rattle.priority_channel_parts.specs.Waiters.{on_side, unlist, search_bound};
+ghost use Rattle.priority_channel_core.specs.machine.Polls.{send_answer, recv_answer, Ends};
+ghost use Rattle.priority_channel_core.specs.code.Channel.{IsBlocked};
+ghost use Rattle.priority_channel_core.specs.code.Replies.{OnFull, OnMemoryFault, kept_by};
+ghost use Rattle.priority_channel_core.specs.code.Lists.{HasList};
+ghost use Rattle.priority_channel_core.specs.code.Front.{PollsFront};
 
 use crate::awaitable_atomics::Wakes;
 use crate::calls::{Answer, Call, CorePoll};
 use crate::channel::PriorityQueueChannel;
 use crate::errors::{RecvError, RecvFault, SendError, SendFault, TryRecvError, TrySendError};
+use crate::side::Side;
 use std::alloc::Allocator;
 use std::iter::Peekable;
 
 impl<T, P: Ord, W: Clone, A: Allocator + Copy> PriorityQueueChannel<T, P, W, A> {
-    ghost use Rattle.priority_channel_core.specs.State.{nobody, room};
-    ghost use Rattle.priority_channel_core.specs.Good.{IsGood};
-    ghost use Rattle.priority_channel_core.specs.Step.{Step};
-    ghost use Rattle.priority_channel_core.specs.Channel.{ComparesAtMost, search_bound};
+    ghost use Rattle.priority_channel_core.specs.machine.State.{nobody};
+    ghost use Rattle.priority_channel_core.specs.machine.Good.{IsGood};
+    ghost use Rattle.priority_channel_core.specs.machine.Step.{Step};
+    ghost use Rattle.priority_channel_core.specs.code.Channel.{ComparesAtMost};
 
     /// The party of this ticket waits no more. A ticket that is not listed changes nothing. It takes no memory.
     pub fn give_up(&mut self, ticket: u64)
         ensures step { Step P.cmp W.is_clone self.old.state (Call.GiveUp ticket) Answer.GiveUp nobody self.new.state }
-        ensures cost { ComparesAtMost 0 (search_bound self.old.state) self.old self.new }
+        ensures cost { ComparesAtMost 0 (search_bound self.old.state.waiters) self.old self.new }
     {
-        self.length.unlisten(ticket);
+        self.word.unlisten(ticket);
     }
 
     fn give_up_given(&mut self, ticket: Option<u64>)
-        ensures after { self.new.state ≡ unlisted ticket self.old.state }
+        ensures after { self.new.state ≡ record self.old.state { waiters = unlist ticket self.old.state.waiters } }
         ensures good { IsGood self.new.state }
-        ensures cost { ComparesAtMost 0 (search_bound self.old.state) self.old self.new }
+        ensures cost { ComparesAtMost 0 (search_bound self.old.state.waiters) self.old self.new }
     {
         // Also where no ticket is given, the proof needs what holds of the parts.
-        let _ = &self.length;
+        let _ = &self.word;
         if let Some(ticket) = ticket {
             self.give_up(ticket);
         }
     }
 
-    /// Lists a party that waits for a message: the poll of a receive from an empty and open channel. The answer is its
-    /// ticket, under which a later poll finds it; None where that poll would answer `Memory`.
+    /// Lists a party that has to wait: the poll of a send of any pair into a full channel, or of a receive from an empty
+    /// one. The answer is its ticket, under which a later poll finds it; None where that poll would answer `Memory`.
     ///
     /// It is for a caller that has the party's waker and not its turn, such as one that lets go of a place in a line.
-    pub fn list_for_message(&mut self, ticket: Option<u64>, waker: &W) -> Option<u64>
-        requires empty { self.old.state.pending ≡ [] }
-        requires opened { self.old.state.is_closed ≡ false }
-        ensures step { Step P.cmp W.is_clone self.old.state (Call.PollRecv ticket waker.now) (Answer.PollRecv (recv_waits result)) nobody self.new.state }
-        ensures listed { IfSome result (λ given. WaitsForMessage W.is_clone ticket waker.now self.old.state given self.new.state) }
-        ensures refused { IfNone result (self.new.state ≡ unlisted ticket self.old.state) }
-        ensures renewed { is_given_listed ticket self.old.state.message_waiters ≡ true → W.is_infallible waker.now → IsSome result }
-        ensures cost { ComparesAtMost 0 (search_bound self.old.state) self.old self.new }
+    pub fn list(&mut self, side: Side, ticket: Option<u64>, waker: &W) -> Option<u64>
+        requires { IsBlocked side self.old.state }
+        ensures ends { Ends W.is_clone side ticket waker.now result self.old.state self.new.state }
+        ensures sends { side ≡ Side.Room → (pair : T × P) (answer : CorePoll (Result (Unit {0}) (SendFault (T × P))) (T × P)) → send_answer (Err (TrySendError.Full pair)) result ≡ Some answer
+            → Step P.cmp W.is_clone self.old.state (Call.PollSend pair.0 pair.1 ticket waker.now) (Answer.PollSend answer) nobody self.new.state }
+        ensures receives { side ≡ Side.Message → (answer : CorePoll (Result (T × P) RecvFault) (Unit {0})) → recv_answer (Err TryRecvError.Empty) result ≡ Some answer
+            → Step P.cmp W.is_clone self.old.state (Call.PollRecv ticket waker.now) (Answer.PollRecv answer) nobody self.new.state }
+        ensures renewed { is_given_listed ticket (on_side side self.old.state.waiters) ≡ true → W.is_infallible waker.now → IsSome result }
+        ensures good { IsGood self.new.state }
+        ensures cost { ComparesAtMost 0 (search_bound self.old.state.waiters) self.old self.new }
     {
-        self.length.listen_incr(ticket, waker)
-    }
-
-    fn wait_for_message(
-        &mut self,
-        ticket: Option<u64>,
-        waker: &W,
-    ) -> CorePoll<Result<(T, P), RecvFault>, ()>
-        requires empty { self.old.state.pending ≡ [] }
-        requires opened { self.old.state.is_closed ≡ false }
-        ensures step { Step P.cmp W.is_clone self.old.state (Call.PollRecv ticket waker.now) (Answer.PollRecv result) nobody self.new.state }
-        ensures renewed { is_given_listed ticket self.old.state.message_waiters ≡ true → W.is_infallible waker.now → (given : ℕ) × (result ≡ CorePoll.Pending tt given) }
-        ensures cost { ComparesAtMost 0 (search_bound self.old.state) self.old self.new }
-    {
-        match self.list_for_message(ticket, waker) {
-            Some(ticket) => CorePoll::Pending((), ticket),
-            None => CorePoll::Ready(Err(RecvFault::Memory)),
-        }
+        self.word.listen(side, ticket, waker)
     }
 
     /// Receives, or waits for a message under the answered ticket. The first poll gives no ticket, and each further one
@@ -94,56 +85,50 @@ impl<T, P: Ord, W: Clone, A: Allocator + Copy> PriorityQueueChannel<T, P, W, A> 
         waker: &W,
     ) -> (CorePoll<Result<(T, P), RecvFault>, ()>, Wakes<W, A>)
         ensures step { Step P.cmp W.is_clone self.old.state (Call.PollRecv ticket waker.now) (Answer.PollRecv result.0) result.1 self.new.state }
-        ensures renewed { is_given_listed ticket self.old.state.message_waiters ≡ true → W.is_infallible waker.now → result.0 ≢ CorePoll.Ready (Err RecvFault.Memory) }
-        ensures cost { ComparesAtMost (2 * digits (length self.old.state.pending)) (search_bound self.old.state) self.old self.new }
+        ensures renewed { is_given_listed ticket self.old.state.waiters.message ≡ true → W.is_infallible waker.now → result.0 ≢ CorePoll.Ready (Err RecvFault.Memory) }
+        ensures cost { ComparesAtMost (2 * digits (length self.old.state.pending)) (search_bound self.old.state.waiters) self.old self.new }
     {
-        let (answer, wakes) = self.try_recv();
-        match answer {
-            Ok(pair) => {
-                self.give_up_given(ticket);
-                (CorePoll::Ready(Ok(pair)), wakes)
+        let (reply, wakes) = self.try_recv();
+        let answer = match reply {
+            Ok(pair) => Ok(pair),
+            Err(TryRecvError::Closed) => Err(RecvFault::Closed(RecvError)),
+            Err(TryRecvError::Empty) => {
+                return match self.list(Side::Message, ticket, waker) {
+                    Some(ticket) => (CorePoll::Pending((), ticket), wakes),
+                    None => (CorePoll::Ready(Err(RecvFault::Memory)), wakes),
+                };
             }
-            Err(TryRecvError::Closed) => {
-                self.give_up_given(ticket);
-                (CorePoll::Ready(Err(RecvFault::Closed(RecvError))), wakes)
-            }
-            Err(TryRecvError::Empty) => (self.wait_for_message(ticket, waker), wakes),
-        }
+        };
+        self.give_up_given(ticket);
+        (CorePoll::Ready(answer), wakes)
     }
 
-    /// Lists a party that waits for room, as `list_for_message` does one that waits for a message: the poll of a send of
-    /// any pair into a full and open channel.
-    pub fn list_for_room(&mut self, ticket: Option<u64>, waker: &W) -> Option<u64>
-        requires full { room self.old.state ≡ 0 }
-        requires opened { self.old.state.is_closed ≡ false }
-        ensures step { (msg : T) (priority : P) → Step P.cmp W.is_clone self.old.state (Call.PollSend msg priority ticket waker.now)
-            (Answer.PollSend (send_waits (msg, priority) result)) nobody self.new.state }
-        ensures listed { IfSome result (λ given. WaitsForRoom W.is_clone ticket waker.now self.old.state given self.new.state) }
-        ensures refused { IfNone result (self.new.state ≡ unlisted ticket self.old.state) }
-        ensures renewed { is_given_listed ticket self.old.state.room_waiters ≡ true → W.is_infallible waker.now → IsSome result }
-        ensures good { IsGood self.new.state }
-        ensures cost { ComparesAtMost 0 (search_bound self.old.state) self.old self.new }
-    {
-        self.length.listen_decr(ticket, waker)
-    }
-
-    fn wait_for_room<K>(
+    // Ends the poll of a send whose try gave this reply.
+    fn end_send<K>(
         &mut self,
-        kept: K,
+        reply: Result<(), TrySendError<K>>,
         ticket: Option<u64>,
         waker: &W,
     ) -> CorePoll<Result<(), SendFault<K>>, K>
-        requires full { room self.old.state ≡ 0 }
-        requires opened { self.old.state.is_closed ≡ false }
-        ensures waits { KeepsWaiting W.is_clone ticket waker.now kept self.old.state result self.new.state }
-        ensures renewed { is_given_listed ticket self.old.state.room_waiters ≡ true → W.is_infallible waker.now → (given : ℕ) × (result ≡ CorePoll.Pending kept given) }
+        requires full { OnFull reply (IsBlocked Side.Room self.old.state) }
+        ensures ends { (listed : Option ℕ) × (send_answer reply listed ≡ Some result) × Ends W.is_clone Side.Room ticket waker.now listed self.old.state self.new.state }
+        ensures renewed { OnFull reply (is_given_listed ticket self.old.state.waiters.room ≡ true → W.is_infallible waker.now → (rest : K) → result ≢ CorePoll.Ready (Err (SendFault.Memory rest))) }
         ensures good { IsGood self.new.state }
-        ensures cost { ComparesAtMost 0 (search_bound self.old.state) self.old self.new }
+        ensures cost { ComparesAtMost 0 (search_bound self.old.state.waiters) self.old self.new }
     {
-        match self.list_for_room(ticket, waker) {
-            Some(ticket) => CorePoll::Pending(kept, ticket),
-            None => CorePoll::Ready(Err(SendFault::Memory(kept))),
-        }
+        let answer = match reply {
+            Ok(()) => Ok(()),
+            Err(TrySendError::Closed(rest)) => Err(SendFault::Closed(SendError(rest))),
+            Err(TrySendError::Memory(rest)) => Err(SendFault::Memory(rest)),
+            Err(TrySendError::Full(rest)) => {
+                return match self.list(Side::Room, ticket, waker) {
+                    Some(ticket) => CorePoll::Pending(rest, ticket),
+                    None => CorePoll::Ready(Err(SendFault::Memory(rest))),
+                };
+            }
+        };
+        self.give_up_given(ticket);
+        CorePoll::Ready(answer)
     }
 
     /// Sends a pair, or waits for room under the answered ticket and hands the pair back for the next poll. Tickets
@@ -156,36 +141,19 @@ impl<T, P: Ord, W: Clone, A: Allocator + Copy> PriorityQueueChannel<T, P, W, A> 
         waker: &W,
     ) -> (CorePoll<Result<(), SendFault<(T, P)>>, (T, P)>, Wakes<W, A>)
         ensures step { Step P.cmp W.is_clone self.old.state (Call.PollSend msg priority ticket waker.now) (Answer.PollSend result.0) result.1 self.new.state }
-        ensures renewed { is_given_listed ticket self.old.state.room_waiters ≡ true → W.is_infallible waker.now → (pair : T × P) → result.0 ≢ CorePoll.Ready (Err (SendFault.Memory pair)) }
-        ensures cost { ComparesAtMost (digits (length self.new.state.pending)) (search_bound self.old.state) self.old self.new }
+        ensures renewed { is_given_listed ticket self.old.state.waiters.room ≡ true → W.is_infallible waker.now → (pair : T × P) → result.0 ≢ CorePoll.Ready (Err (SendFault.Memory pair)) }
+        ensures cost { ComparesAtMost (digits (length self.new.state.pending)) (search_bound self.old.state.waiters) self.old self.new }
     {
-        let (answer, wakes) = self.try_send(msg, priority);
-        match answer {
-            Ok(()) => {
-                self.give_up_given(ticket);
-                (CorePoll::Ready(Ok(())), wakes)
-            }
-            Err(TrySendError::Closed(pair)) => {
-                self.give_up_given(ticket);
-                (
-                    CorePoll::Ready(Err(SendFault::Closed(SendError(pair)))),
-                    wakes,
-                )
-            }
-            Err(TrySendError::Memory(pair)) => {
-                self.give_up_given(ticket);
-                (CorePoll::Ready(Err(SendFault::Memory(pair))), wakes)
-            }
-            Err(TrySendError::Full(pair)) => (self.wait_for_room(pair, ticket, waker), wakes),
-        }
+        let (reply, wakes) = self.try_send(msg, priority);
+        (self.end_send(reply, ticket, waker), wakes)
     }
 }
 
 impl<T: Drop, P: Ord + Drop, W: Clone, A: Allocator + Copy> PriorityQueueChannel<T, P, W, A> {
-    ghost use Rattle.priority_channel_core.specs.State.{room};
-    ghost use Rattle.priority_channel_core.specs.Good.{IsGood};
-    ghost use Rattle.priority_channel_core.specs.Bulk.{Performs, kept_by};
-    ghost use Rattle.priority_channel_core.specs.Channel.{ComparesAtMost, search_bound};
+    ghost use Rattle.priority_channel_core.specs.machine.State.{room};
+    ghost use Rattle.priority_channel_core.specs.machine.Good.{IsGood};
+    ghost use Rattle.priority_channel_core.specs.code.Calls.{Performs};
+    ghost use Rattle.priority_channel_core.specs.code.Channel.{ComparesAtMost};
 
     /// Sends what there is room for, and waits for room with the rest, which is handed back for the next poll. What
     /// was sent stays sent, also where the answer is `Memory`. Tickets and wakers are treated as by `poll_recv`.
@@ -202,34 +170,17 @@ impl<T: Drop, P: Ord + Drop, W: Clone, A: Allocator + Copy> PriorityQueueChannel
         ensures step { Performs (HasList I.next_gives) P.cmp W.is_clone self.old.state (Call.PollSendv msgs ticket waker.now) (Answer.PollSendv result.0) result.1 self.new.state }
         ensures callable { IfSome (kept_by result.0) (peekable_can I.can_next) }
         ensures closed { self.old.state.is_closed ≡ true → result.0 ≡ CorePoll.Ready (Err (SendFault.Closed (record { 0 = msgs }))) }
-        ensures renewed { is_given_listed ticket self.old.state.room_waiters ≡ true → W.is_infallible waker.now → (rest : Ahead I (T × P)) → result.0 ≢ CorePoll.Ready (Err (SendFault.Memory rest)) }
+        ensures renewed { is_given_listed ticket self.old.state.waiters.room ≡ true → W.is_infallible waker.now → (rest : Ahead I (T × P)) → result.0 ≢ CorePoll.Ready (Err (SendFault.Memory rest)) }
 
         // Whether or not the iterator has one list.
         ensures front { (front : List (T × P)) × PollsFront W.is_clone self.old.state ticket waker.now front result.1 self.new.state
-            × ComparesAtMost (length front * digits (length self.new.state.pending)) (search_bound self.old.state) self.old self.new }
+            × ComparesAtMost (length front * digits (length self.new.state.pending)) (search_bound self.old.state.waiters) self.old self.new }
         ensures memory { OnMemoryFault result.0 ((self.old.state.is_reserved ≡ false) ⊎ (self.new.state.accepted ≡ 2 ^ 64 - 1) ⊎ (room self.new.state ≡ 0)) }
         ensures good { IsGood self.new.state }
     {
         // For the proof, which needs what holds of the parts.
-        let _ = &self.length;
-        let (answer, wakes) = self.try_sendv(msgs);
-        match answer {
-            Ok(()) => {
-                self.give_up_given(ticket);
-                (CorePoll::Ready(Ok(())), wakes)
-            }
-            Err(TrySendError::Closed(rest)) => {
-                self.give_up_given(ticket);
-                (
-                    CorePoll::Ready(Err(SendFault::Closed(SendError(rest)))),
-                    wakes,
-                )
-            }
-            Err(TrySendError::Memory(rest)) => {
-                self.give_up_given(ticket);
-                (CorePoll::Ready(Err(SendFault::Memory(rest))), wakes)
-            }
-            Err(TrySendError::Full(rest)) => (self.wait_for_room(rest, ticket, waker), wakes),
-        }
+        let _ = &self.word;
+        let (reply, wakes) = self.try_sendv(msgs);
+        (self.end_send(reply, ticket, waker), wakes)
     }
 }

@@ -1,10 +1,10 @@
 //! Many calls, one after another.
 ghost use Rattle.std.specs.Prelude.{◌≡◌, All, length, drop};
-ghost use Rattle.priority_channel_core.specs.Good.{IsGood};
+ghost use Rattle.priority_channel_core.specs.machine.Good.{IsGood};
 ghost use Rattle.std.specs.Iterator.Adapters.{peekable_can};
-ghost use Rattle.priority_channel_core.specs.Lists.{HasList};
-ghost use Rattle.priority_channel_core.specs.Bulk.{MayCall, Performs, RunsFront};
-ghost use Rattle.priority_channel_core.specs.Allowed.{IsAllowed, AllowsRun, ChangesHandles};
+ghost use Rattle.priority_channel_core.specs.code.Lists.{HasList};
+ghost use Rattle.priority_channel_core.specs.code.Calls.{MayCall, Performs, RunsFront};
+ghost use Rattle.priority_channel_core.specs.code.Allowed.{IsAllowed, AllowsRun, ChangesHandles};
 
 use crate::awaitable_atomics::Wakes;
 use crate::calls::{Answer, Call};
@@ -22,7 +22,7 @@ pub struct Done<T, P, W, M, A: Allocator = Global> {
 }
 
 impl<T, P, W, M, A: Allocator> Model for Done<T, P, W, M, A> {
-    ghost use Rattle.priority_channel_core.specs.Run.{Outcome};
+    ghost use Rattle.priority_channel_core.specs.code.Calls.{Outcome};
 
     ghost Value = { Outcome T P W M };
 
@@ -82,7 +82,7 @@ impl<T: Drop, P: Ord + Drop, W: Clone, A: Allocator + Copy> PriorityQueueChannel
         }
         calls.reverse();
         // For the proof, which needs what holds of the parts.
-        let _ = &self.length;
+        let _ = &self.word;
         Ran { done, left: calls }
     }
 

@@ -1,3 +1,4 @@
+//! A receive of many brings the greatest first, and a peek shows what would come.
 use crate::tests::{Core, close, hands_out_nobody, receive, send, spend};
 use priority_channel_core::calls::CorePoll;
 use priority_channel_core::errors::TryRecvError;

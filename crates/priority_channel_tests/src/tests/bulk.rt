@@ -1,3 +1,4 @@
+//! What a bulk send takes, and how often it asks its iterator.
 ghost use Rattle.std.specs.Iterator.Adapters.{peekable_can};
 
 use crate::tests::{Core, close, hands_out_nobody, receive, send, spend};
@@ -5,6 +6,7 @@ use priority_channel_core::errors::TrySendError;
 use std::alloc::AllocError;
 use std::cell::Cell;
 use std::iter::{Peekable, once, repeat_n};
+use std::test::Fail;
 
 // A reply to a bulk send, with how many pairs came back.
 fn sendv<T: Drop>(core: &mut Core<T>, msgs: Vec<(T, u64)>) -> Result<(), TrySendError<usize>> {
@@ -147,7 +149,7 @@ fn next_six(mut rest: Peekable<CountsCalls<'_>>) -> [Option<(u64, u64)>; 6] {
 }
 
 #[test]
-fn asks_the_iterator_for_one_pair_more_than_it_takes(rt: HostRuntime) {
+fn asks_the_iterator_for_one_pair_more_than_it_takes(rt: HostRuntime) -> Result<(), Fail> {
     let calls = Cell::new(0);
     let mut core: Core<u64> = Core::bounded(rt.alloc(), 2);
     let (reply, wakes) = core.try_sendv(counting(5, &calls));
@@ -155,8 +157,7 @@ fn asks_the_iterator_for_one_pair_more_than_it_takes(rt: HostRuntime) {
     assert_eq!(rt; calls.get(), 3);
     assert_eq!(rt; core.len(), 2);
     let Err(TrySendError::Full(mut rest)) = reply else {
-        assert!(rt; false);
-        return;
+        return Err(Fail::from("it took all"));
     };
     assert_eq!(rt; rest.next(), Some((2, 2)));
     assert_eq!(rt; rest.next(), Some((1, 1)));
@@ -169,27 +170,27 @@ fn asks_the_iterator_for_one_pair_more_than_it_takes(rt: HostRuntime) {
     assert!(rt; hands_out_nobody(wakes));
     assert!(rt; reply.is_ok());
     assert_eq!(rt; calls.get(), 3);
+    Ok(())
 }
 
 #[test]
-fn does_not_touch_the_iterator_where_nothing_can_be_taken(rt: HostRuntime) {
+fn does_not_touch_the_iterator_where_nothing_can_be_taken(rt: HostRuntime) -> Result<(), Fail> {
     let calls = Cell::new(0);
     let mut core: Core<u64> = Core::bounded(rt.alloc(), 1);
     assert_eq!(rt; send(&mut core, 1, 1), Ok(()));
     let (reply, wakes) = core.try_sendv(counting(5, &calls));
     assert!(rt; hands_out_nobody(wakes));
     let Err(TrySendError::Full(from_full)) = reply else {
-        assert!(rt; false);
-        return;
+        return Err(Fail::from("it was not full"));
     };
     assert!(rt; close(&mut core));
     let (reply, wakes) = core.try_sendv(counting(5, &calls));
     assert!(rt; hands_out_nobody(wakes));
     let Err(TrySendError::Closed(from_closed)) = reply else {
-        assert!(rt; false);
-        return;
+        return Err(Fail::from("it was not closed"));
     };
     assert_eq!(rt; calls.get(), 0);
     assert_eq!(rt; next_six(from_full), FIVE);
     assert_eq!(rt; next_six(from_closed), FIVE);
+    Ok(())
 }

@@ -1,3 +1,4 @@
+//! What the errors of the core print and hand back, and which lead to which.
 use priority_channel_core::errors::{
     RecvError, RecvFault, SendError, SendFault, TryRecvError, TryRecvManyError, TrySendError,
 };

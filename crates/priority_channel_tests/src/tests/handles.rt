@@ -1,3 +1,4 @@
+//! Handles of the core are counted, and the last of a side closes the channel.
 use crate::tests::{Core, receive, send, spend};
 use priority_channel_core::errors::{TryRecvError, TrySendError};
 use std::alloc::AllocError;

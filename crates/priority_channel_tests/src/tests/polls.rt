@@ -1,9 +1,11 @@
+//! Polls of the core: who waits under which ticket, and whom a call hands out.
 use crate::tests::{Core, close, hands_out_nobody, receive, send, spend};
 use priority_channel_core::calls::CorePoll;
 use priority_channel_core::channel::PriorityQueueChannel;
 use priority_channel_core::errors::{RecvError, RecvFault, SendFault};
 use refusing::Refusing;
 use std::alloc::{AllocError, Global};
+use std::test::Fail;
 
 type Received = CorePoll<Result<(u64, u64), RecvFault>, ()>;
 
@@ -226,13 +228,12 @@ fn a_ticket_of_the_other_side_is_not_kept(rt: HostRuntime) {
 }
 
 #[test]
-fn a_bulk_send_waits_with_its_rest(rt: HostRuntime) {
+fn a_bulk_send_waits_with_its_rest(rt: HostRuntime) -> Result<(), Fail> {
     let mut core: Core<u64> = Core::bounded(rt.alloc(), 1);
     let (poll, wakes) = core.poll_sendv([(1, 1), (2, 2)].into_iter().peekable(), None, &5);
     let (_room, _message) = wakes.into_lists();
     let CorePoll::Pending(rest, ticket) = poll else {
-        assert!(rt; false);
-        return;
+        return Err(Fail::from("it does not wait"));
     };
     assert_eq!(rt; ticket, 0);
     assert_eq!(rt; receive(&mut core), Ok((1, 1)));
@@ -244,4 +245,5 @@ fn a_bulk_send_waits_with_its_rest(rt: HostRuntime) {
     let (_room, _message) = wakes.into_lists();
     assert!(rt; matches!(poll, CorePoll::Ready(Err(SendFault::Closed(_)))));
     assert_eq!(rt; receive(&mut core), Ok((2, 2)));
+    Ok(())
 }

@@ -1,9 +1,11 @@
+//! Where memory is refused, the core hands back what it was to take.
 use crate::tests::{Core, close, hands_out_nobody, receive, send};
 use priority_channel_core::errors::{TryRecvError, TrySendError};
 use refusing::Refusing;
 use std::alloc::{AllocError, Global};
 use std::array::IntoIter;
 use std::iter::Peekable;
+use std::test::Fail;
 
 #[test]
 fn a_reserved_channel_needs_no_memory(rt: HostRuntime) -> Result<(), AllocError> {
@@ -56,7 +58,7 @@ fn a_refused_growth_hands_the_pair_back(rt: HostRuntime) {
 }
 
 #[test]
-fn a_refused_growth_hands_the_list_back(rt: HostRuntime) {
+fn a_refused_growth_hands_the_list_back(rt: HostRuntime) -> Result<(), Fail> {
     let alloc = Refusing::new(rt.alloc());
     let mut core: Core<&str, &Refusing<Global>> = Core::bounded(&alloc, 10);
     alloc.refuse_nth(1);
@@ -64,22 +66,22 @@ fn a_refused_growth_hands_the_list_back(rt: HostRuntime) {
     assert!(rt; hands_out_nobody(wakes));
     assert_eq!(rt; core.len(), 0);
     let Err(TrySendError::Memory(rest)) = reply else {
-        assert!(rt; false);
-        return;
+        return Err(Fail::from("it was not refused"));
     };
     let (reply, wakes) = core.try_sendv(rest);
     assert!(rt; hands_out_nobody(wakes));
     assert!(rt; reply.is_ok());
     assert_eq!(rt; receive(&mut core), Ok(("b", 1)));
     assert_eq!(rt; receive(&mut core), Ok(("a", 0)));
+    Ok(())
 }
 
 // Each growth is refused in turn. A refused send hands its pair back, and what was accepted comes out, the greatest first.
 #[test]
-fn each_send_may_be_refused(rt: HostRuntime) -> Result<(), AllocError> {
+fn each_send_may_be_refused(rt: HostRuntime) -> Result<(), Fail> {
     let alloc = Refusing::new(rt.alloc());
-    let mut met_all = false;
-    for n in 1..100u64 {
+    for round in alloc.rounds() {
+        let n = round?;
         let mut core: Core<u64, &Refusing<Global>> = Core::unbounded(&alloc);
         alloc.refuse_nth(n);
         let mut accepted = Vec::new(rt.alloc());
@@ -89,20 +91,15 @@ fn each_send_may_be_refused(rt: HostRuntime) -> Result<(), AllocError> {
                 refused => assert_eq!(rt; refused, Err(TrySendError::Memory((i, i))), "at {n}"),
             }
         }
-        met_all = alloc.refuse_none();
-        assert_eq!(rt; accepted.len() == 3, met_all, "at {n}");
+        let met_none = alloc.refuse_none();
+        assert_eq!(rt; accepted.len() == 3, met_none, "at {n}");
         for i in [3u64, 2, 1] {
             if accepted.contains(&i) {
                 assert_eq!(rt; receive(&mut core), Ok((i, i)), "at {n}");
             }
         }
         assert_eq!(rt; receive(&mut core), Err(TryRecvError::Empty), "at {n}");
-        if met_all {
-            assert!(rt; n > 1);
-            break;
-        }
     }
-    assert!(rt; met_all);
     Ok(())
 }
 
@@ -119,10 +116,10 @@ fn count(mut rest: Peekable<IntoIter<(&'static str, u64), 100>>) -> u64 {
 
 // Each growth is refused in turn, in a bulk send that all fits and in one that does not.
 #[test]
-fn each_bulk_send_may_be_refused(rt: HostRuntime) {
+fn each_bulk_send_may_be_refused(rt: HostRuntime) -> Result<(), Fail> {
     let alloc = Refusing::new(rt.alloc());
-    let mut met_all = false;
-    for n in 1..100u64 {
+    for round in alloc.rounds() {
+        let n = round?;
         let mut core: Core<&str, &Refusing<Global>> = Core::bounded(&alloc, 10);
         alloc.refuse_nth(n);
         let (reply, wakes) = core.try_sendv([("a", 0), ("b", 1)].into_iter().peekable());
@@ -136,32 +133,31 @@ fn each_bulk_send_may_be_refused(rt: HostRuntime) {
                 assert_eq!(rt; n, 1);
                 assert!(rt; rest.eq([("a", 0), ("b", 1)]));
             }
-            Err(_) => assert!(rt; false, "at {n}"),
+            Err(_) => return Err(Fail::new(format_args!("another error at {n}"))),
         }
         assert!(rt; core.is_empty());
         let (reply, wakes) = core.try_sendv([("a", 0); 100].into_iter().peekable());
         assert!(rt; hands_out_nobody(wakes));
-        met_all = alloc.refuse_none();
+        let met_none = alloc.refuse_none();
         let accepted = core.len();
         match reply {
             Err(TrySendError::Full(rest)) => {
                 assert_eq!(rt; (accepted, count(rest)), (10, 90), "at {n}");
-                assert!(rt; met_all || n == 1);
+                assert!(rt; met_none || n == 1);
             }
             Err(TrySendError::Memory(rest)) => {
-                assert!(rt; !met_all && accepted < 10);
+                assert!(rt; !met_none && accepted < 10);
                 assert_eq!(rt; accepted.wrapping_add(count(rest)), 100, "at {n}");
             }
-            _ => assert!(rt; false, "at {n}"),
+            _ => return Err(Fail::new(format_args!("neither full nor refused at {n}"))),
         }
         for _ in 0..accepted {
             assert_eq!(rt; receive(&mut core), Ok(("a", 0)), "at {n}");
         }
         assert_eq!(rt; receive(&mut core), Err(TryRecvError::Empty), "at {n}");
-        if met_all {
+        if met_none {
             assert!(rt; n > 2);
-            break;
         }
     }
-    assert!(rt; met_all);
+    Ok(())
 }

@@ -1,3 +1,4 @@
+//! Sends and receives of one message, beside a plain list that is scanned.
 use crate::tests::{Core, close, receive, send};
 use priority_channel_core::errors::{TryRecvError, TrySendError};
 use std::alloc::AllocError;

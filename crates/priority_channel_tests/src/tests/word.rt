@@ -1,3 +1,4 @@
+//! The word counts up to bit 63 beside its closed bit.
 use crate::tests::{hands_out_nobody, spend};
 use priority_channel_core::awaitable_atomics::AwaitableAtomicCounterAndBit;
 use priority_channel_core::comparisons::Comparisons;

@@ -4,6 +4,7 @@ use async_priority_channel::recorded::{Book, Call, Entry, NoPlace, Reply};
 use async_priority_channel::{TryRecvError, TrySendError};
 use refusing::Refusing;
 use std::alloc::AllocError;
+use std::test::Fail;
 
 #[test]
 fn enters_what_was_answered(rt: HostRuntime) -> Result<(), AllocError> {
@@ -81,13 +82,16 @@ fn its_place_is_made_at_once(rt: HostRuntime) -> Result<(), AllocError> {
 }
 
 #[test]
-fn its_making_may_be_refused(rt: HostRuntime) {
+fn its_making_may_be_refused(rt: HostRuntime) -> Result<(), Fail> {
     let alloc = Refusing::new(rt.alloc());
-    for n in 1..3u64 {
+    for round in alloc.rounds() {
+        let n = round?;
         alloc.refuse_nth(n);
-        let refused = Book::<u64, u64, _>::new(&alloc, 2, 8).is_err();
-        alloc.refuse_none();
-        assert!(rt; refused, "request {n}");
+        let is_made = Book::<u64, u64, _>::new(&alloc, 2, 8).is_ok();
+        let met_none = alloc.refuse_none();
+        // One request for the channel, and one for its history.
+        assert_eq!(rt; met_none, n == 3, "at {n}");
+        assert_eq!(rt; is_made, met_none, "at {n}");
     }
-    assert!(rt; Book::<u64, u64, _>::new(&alloc, 2, 8).is_ok());
+    Ok(())
 }

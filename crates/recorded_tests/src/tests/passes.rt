@@ -73,15 +73,17 @@ fn is_made<J: Recording>(alloc: &Refusing<Global>, fresh: Fresh<u64, u64>) -> bo
 const NOT_MET: u64 = 4;
 
 #[test]
-fn its_making_may_be_refused(rt: HostRuntime) {
-    for n in 1..=NOT_MET {
-        let alloc = Refusing::new(rt.alloc());
+fn its_making_may_be_refused(rt: HostRuntime) -> Result<(), Fail> {
+    let alloc = Refusing::new(rt.alloc());
+    for round in alloc.rounds() {
+        let n = round?;
         alloc.refuse_nth(n);
         let made = is_made::<Brand>(&alloc, Fresh::new(2, 2));
         let met_none = alloc.refuse_none();
         assert_eq!(rt; met_none, n == NOT_MET, "at {n}");
         assert_eq!(rt; made, met_none, "at {n}");
     }
+    Ok(())
 }
 
 // Without place for an entry: the first call is refused memory for one, and may be made again.

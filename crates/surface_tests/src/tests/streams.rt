@@ -324,15 +324,17 @@ fn what_is_pending_comes_without_memory(rt: HostRuntime) -> Result<(), Fail> {
 fn a_stream_goes_on_once_there_is_memory(rt: HostRuntime) -> Result<(), Fail> {
     let alloc = Refusing::new(rt.alloc());
     let task = MockTask::new(&rt)?;
-    // The place for the task's waker, and that in the list of those who wait.
-    for n in 1..=2u64 {
+    for round in alloc.rounds() {
+        let n = round?;
         let (tx, rx) = bounded_reserved(&rt, &alloc, 1)?;
         let mut stream = rx.stream();
         alloc.refuse_nth(n);
         assert!(rt; is_pending(task.poll(&mut stream.next())));
-        assert!(rt; !alloc.refuse_none(), "at {n}");
-        // It asks to be polled again, and then it waits to be woken.
-        assert!(rt; task.is_woken(), "at {n}");
+        let met_none = alloc.refuse_none();
+        // The place for the task's waker, and that in the list of those who wait.
+        assert_eq!(rt; met_none, n == 3, "at {n}");
+        // Refused, it asks to be polled again, and then it waits to be woken.
+        assert_eq!(rt; task.is_woken(), !met_none, "at {n}");
         assert!(rt; is_pending(task.poll(&mut stream.next())));
         assert!(rt; !task.is_woken(), "at {n}");
         assert_eq!(rt; tx.try_send("x", n), Ok(()));

@@ -1,6 +1,6 @@
 use Rattle.std.proofs.Common.{refl}
 use Rattle.priority_channel_core.specs.declared.calls.Answer.TheVariants as answer
-use Rattle.priority_channel_core.specs.State.{nobody}
+use Rattle.priority_channel_core.specs.machine.State.{nobody}
 use Rattle.priority_channel_recorded.proofs.book.make.Goals as goal
 
 pub returns-in-TrySend : goal.returns-in-TrySend

@@ -1,4 +1,4 @@
-use Rattle.priority_channel_core.specs.Lists.{HasList}
+use Rattle.priority_channel_core.specs.code.Lists.{HasList}
 use Rattle.priority_channel_laws.specs.States.{HoldsTail}
 use Rattle.async_priority_channel.proofs.LeftOver.{left_of_try}
 use Rattle.priority_channel_laws.proofs.StateLemmas.{refused_tail}

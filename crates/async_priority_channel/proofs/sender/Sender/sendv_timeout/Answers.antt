@@ -1,4 +1,4 @@
-use Rattle.priority_channel_core.specs.Lists.{HasList}
+use Rattle.priority_channel_core.specs.code.Lists.{HasList}
 use Rattle.async_priority_channel.specs.Waits.{unsent_in_time}
 use Rattle.priority_channel_laws.specs.States.{HoldsTail}
 use Rattle.async_priority_channel.proofs.LeftOver.{held_by_error}

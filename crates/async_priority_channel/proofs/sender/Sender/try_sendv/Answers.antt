@@ -1,4 +1,4 @@
-use Rattle.priority_channel_core.specs.Lists.{HasList}
+use Rattle.priority_channel_core.specs.code.Lists.{HasList}
 use Rattle.priority_channel_laws.proofs.StateLemmas.{refused_tail}
 use Rattle.async_priority_channel.proofs.sender.Sender.try_sendv.Goals as goal
 

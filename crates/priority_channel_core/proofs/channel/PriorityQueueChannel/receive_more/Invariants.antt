@@ -1,7 +1,7 @@
 use Rattle.std.proofs.Common.{◌≡◌, ◌*◌, length, vec_capacity}
 use Rattle.priority_channel_parts.specs.Digits.{digits}
-use Rattle.priority_channel_core.specs.Good.{IsGood}
-use Rattle.priority_channel_core.specs.Channel.{ComparesAtMost}
+use Rattle.priority_channel_core.specs.machine.Good.{IsGood}
+use Rattle.priority_channel_core.specs.code.Channel.{ComparesAtMost}
 use Rattle.priority_channel_core.proofs.ManyLemmas.{Received}
 use Rattle.priority_channel_core.proofs.channel.PriorityQueueChannel.receive_more.Given as goal
 

@@ -2,7 +2,7 @@ use Rattle.std.proofs.Common.{arith, length, length-append}
 use Rattle.std.specs.Iterator.Adapters.{peekable_can}
 use Rattle.std.proofs.lemmas.List.{reverse-append, reverse-reverse}
 use Rattle.std.proofs.lemmas.List.Elements.{All-head, All-tail}
-use Rattle.priority_channel_core.specs.Bulk.{MayCall}
+use Rattle.priority_channel_core.specs.code.Calls.{MayCall}
 use Rattle.priority_channel_core.proofs.HandleLemmas.{AllowsRun-first, AllowsRun-more}
 use Rattle.priority_channel_core.proofs.RunLemmas.{RunsFront-none, RunsFront-more, at_ok, drop-past}
 use Rattle.priority_channel_core.proofs.channel.PriorityQueueChannel.run.Goals as goal

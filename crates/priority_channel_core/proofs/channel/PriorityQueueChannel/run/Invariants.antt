@@ -1,9 +1,9 @@
 use Rattle.std.proofs.Common.{◌≡◌, vec_len, reverse, length, drop}
 use Rattle.std.specs.List.{All}
 use Rattle.std.specs.Iterator.Adapters.{peekable_can}
-use Rattle.priority_channel_core.specs.Lists.{HasList}
-use Rattle.priority_channel_core.specs.Allowed.{AllowsRun}
-use Rattle.priority_channel_core.specs.Bulk.{MayCall, RunsFront}
+use Rattle.priority_channel_core.specs.code.Lists.{HasList}
+use Rattle.priority_channel_core.specs.code.Allowed.{AllowsRun}
+use Rattle.priority_channel_core.specs.code.Calls.{MayCall, RunsFront}
 use Rattle.priority_channel_core.proofs.channel.PriorityQueueChannel.run.Given as goal
 
 -- the calls are kept in reverse, so that the next one is at the end

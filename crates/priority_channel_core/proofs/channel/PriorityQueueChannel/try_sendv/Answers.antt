@@ -1,5 +1,5 @@
 use Rattle.std.proofs.Common.{[], rules}
-use Rattle.priority_channel_core.specs.Lists.{HasList}
+use Rattle.priority_channel_core.specs.code.Lists.{HasList}
 use Rattle.priority_channel_core.proofs.BulkLemmas.{performs_sendv, replies_closed, replies_full, replies_ended, replies_filled, replies_cut}
 use Rattle.priority_channel_core.proofs.FrontLemmas.{more_left, none_left, sent_peeked}
 use Rattle.priority_channel_core.proofs.SendLemmas.{adds_none}

@@ -1,7 +1,7 @@
 use Rattle.std.proofs.Common.{◌≡◌, ◌+◌, ◌*◌, ◌<◌, ◌≤◌, ◌^◌, length}
 use Rattle.std.specs.Iterator.Adapters.{peekable_can}
 use Rattle.priority_channel_parts.specs.Digits.{digits}
-use Rattle.priority_channel_core.specs.Front.{MovesFront}
+use Rattle.priority_channel_core.specs.code.Front.{MovesFront}
 use Rattle.priority_channel_core.proofs.channel.bulk.send_front.Given as goal
 
 abbrev pub invariant-loop-sent : goal.invariant-loop-sent

@@ -2,7 +2,7 @@ use Rattle.std.proofs.Common.{rules, Err, arith}
 use Rattle.priority_channel_parts.specs.declared.errors.TryRecvError.TheVariants as recv_error
 use Rattle.priority_channel_core.specs.declared.calls.Call.TheVariants as call
 use Rattle.priority_channel_core.specs.declared.calls.Answer.TheVariants as answer
-use Rattle.priority_channel_core.specs.Step.{Step}
+use Rattle.priority_channel_core.specs.machine.Step.{Step}
 use Rattle.priority_channel_core.proofs.PollLemmas.{received_searches_less}
 use Rattle.priority_channel_laws.proofs.AtOnce.{received_at_once, closed_at_once}
 use Rattle.priority_channel_laws.proofs.waiting.RecvState.try_on.Goals as goal
@@ -21,8 +21,8 @@ returns-in-Err-Closed-clause-step g c =
 
 pub returns-in-Ok-clause-cost : goal.returns-in-Ok-clause-cost
 returns-in-Ok-clause-cost g c =
-    let step = rw c.in-Ok.is at c.try_recv-received.ensures.step in
-    let shorter = received_searches_less g.P.Ord.cmp c.args.core.now.state c.try_recv-received.new.self.state _ _ step.moves in
+    let received = c.try_recv-received in
+    let shorter = received_searches_less g.P.Ord.cmp c.args.core.now.state received.new.self.state received.result.0 received.result.1 received.ensures.step.moves in
     let tried = c.try_recv-received.ensures.cost in
     let gave_up = c.give_up_on.ensures.cost in
     (omega (arith, tried.0, gave_up.0), omega (arith, tried.1, gave_up.1, shorter))

@@ -1,5 +1,5 @@
 use Rattle.std.proofs.Common.{sym, ◌∙◌}
-use Rattle.priority_channel_core.specs.Step.{Step}
+use Rattle.priority_channel_core.specs.machine.Step.{Step}
 use Rattle.priority_channel_core.specs.declared.calls.Answer.TheVariants as answer
 use Rattle.priority_channel_laws.specs.States.{send_of}
 use Rattle.priority_channel_laws.proofs.StateLemmas.{polls_kept, send_left}

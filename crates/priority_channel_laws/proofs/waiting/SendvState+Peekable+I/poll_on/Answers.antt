@@ -1,7 +1,7 @@
 use Rattle.std.proofs.Common.{sym, ◌∙◌}
 use Rattle.std.specs.Iterator.Adapters.{peekable_can}
-use Rattle.priority_channel_core.specs.Lists.{HasList}
-use Rattle.priority_channel_core.specs.Bulk.{Performs}
+use Rattle.priority_channel_core.specs.code.Lists.{HasList}
+use Rattle.priority_channel_core.specs.code.Calls.{Performs}
 use Rattle.priority_channel_core.specs.declared.calls.Answer.TheVariants as answer
 use Rattle.priority_channel_laws.specs.Future.Task.{Sendv}
 use Rattle.priority_channel_laws.specs.States.{HoldsTail}

@@ -1,5 +1,5 @@
 use Rattle.std.proofs.Common.{sym, ◌∙◌}
-use Rattle.priority_channel_core.specs.Lists.{HasList}
+use Rattle.priority_channel_core.specs.code.Lists.{HasList}
 use Rattle.priority_channel_laws.specs.States.{HoldsTail}
 use Rattle.priority_channel_laws.proofs.StateLemmas.{refused_tail}
 use Rattle.priority_channel_laws.proofs.AtOnce.{sentv_at_once, tried_in_vain, handed_back_at_once, kept_at_once, tries_front, tried_good}

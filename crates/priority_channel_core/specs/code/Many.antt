@@ -3,8 +3,8 @@ use Rattle.std.specs.Prelude.{◌≡◌, List, [], ◌∷◌, Ok}
 use Rattle.std.specs.declared.cmp.Ordering.{Ordering}
 use Rattle.priority_channel_core.specs.declared.calls.Call.TheVariants as call
 use Rattle.priority_channel_core.specs.declared.calls.Answer.TheVariants as answer
-use Rattle.priority_channel_core.specs.State.{State, Handed, nobody}
-use Rattle.priority_channel_core.specs.Run.{Made, Run}
+use Rattle.priority_channel_core.specs.machine.State.{State, Handed, nobody}
+use Rattle.priority_channel_core.specs.machine.Run.{Made, Run}
 
 -- receives that give these pairs, of which the first hands out whom all of them hand out
 abbrev pub receives : {T P W : Type 0} → List (T × P) → Handed W → List (Made T P W)

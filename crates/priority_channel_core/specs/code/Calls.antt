@@ -1,6 +1,6 @@
 -- The code's calls and the machine's. A bulk send of the code is given what holds a list, as an iterator does;
 -- that of the machine is given the list.
-use Rattle.std.specs.Prelude.{◌≡◌, List, ◌++◌, map, ⊤, Option, Some, None, Result, Ok, Err}
+use Rattle.std.specs.Prelude.{◌≡◌, List, ◌++◌, map, ⊤, Result, Ok, Err}
 use Rattle.std.specs.List.{AllZip}
 use Rattle.std.specs.declared.cmp.Ordering.{Ordering}
 use Rattle.priority_channel_core.specs.declared.calls.Call.{Call}
@@ -13,16 +13,14 @@ use Rattle.priority_channel_parts.specs.declared.errors.TrySendError.{TrySendErr
 use Rattle.priority_channel_parts.specs.declared.errors.TrySendError.TheVariants as send_error
 use Rattle.priority_channel_parts.specs.declared.errors.SendFault.{SendFault}
 use Rattle.priority_channel_parts.specs.declared.errors.SendFault.TheVariants as send_fault
-use Rattle.priority_channel_core.specs.State.{State, Handed}
-use Rattle.priority_channel_core.specs.Step.{Step, Calls, Answers}
-use Rattle.priority_channel_core.specs.Run.{Outcome, Made, Run}
+use Rattle.priority_channel_core.specs.machine.State.{State, Handed}
+use Rattle.priority_channel_core.specs.machine.Step.{Step, Calls, Answers}
+use Rattle.priority_channel_core.specs.machine.Run.{Made, Run}
 
--- what a poll of a send hands back, if anything
-abbrev pub kept_by : {M : Type 0} → CorePoll (Result (Unit {0}) (SendFault M)) M → Option M
-kept_by (Ready (Ok done)) = None
-kept_by (Ready (Err (send_fault.Closed e))) = Some e.0
-kept_by (Ready (Err (send_fault.Memory held))) = Some held
-kept_by (Pending held ticket) = Some held
+-- what a call gave: its answer, and those whom it handed out
+pub record Outcome (T P W M : Type 0) : Type 0 where
+  pub answer : Answer T P M
+  pub handed : Handed W
 
 -- a call may be made where the iterator of a bulk send may be called
 abbrev pub MayCall : {T P W M : Type 0} → (M → Type 0) → Call T P W M → Type 0

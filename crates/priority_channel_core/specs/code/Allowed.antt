@@ -3,7 +3,7 @@ use Rattle.std.specs.Prelude.{◌≡◌, ℕ, ◌+◌, ◌-◌, ◌<◌, ◌≤�
 use Rattle.std.specs.List.{list_any}
 use Rattle.priority_channel_core.specs.declared.calls.Call.{Call}
 use Rattle.priority_channel_core.specs.declared.calls.Call.TheVariants.{CloneSender, CloneReceiver, DropSender, DropReceiver}
-use Rattle.priority_channel_core.specs.State.{State}
+use Rattle.priority_channel_core.specs.machine.State.{State}
 
 abbrev pub IsAllowed : {T P W M : Type 0} → State T P W → Call T P W M → Type 0
 IsAllowed s DropSender = 0 < s.sender_count

@@ -3,10 +3,12 @@ use Rattle.std.specs.Prelude.{◌≡◌, ℕ, ◌<◌, List, [], ◌++◌, lengt
 use Rattle.std.specs.declared.iter.Ahead.{Ahead}
 use Rattle.priority_channel_core.specs.declared.channel.bulk.Stop.{Stop}
 use Rattle.priority_channel_core.specs.declared.channel.bulk.Stop.TheVariants.{Ended, Filled, Memory}
-use Rattle.priority_channel_core.specs.State.{State, Handed}
-use Rattle.priority_channel_core.specs.Sends.{AddsFront}
+use Rattle.priority_channel_core.specs.machine.State.{State, Handed}
+use Rattle.priority_channel_core.specs.machine.Sends.{AddsFront}
+use Rattle.priority_channel_core.specs.machine.Polls.{Ends}
+use Rattle.priority_channel_parts.specs.declared.side.Side.TheVariants.{Room}
 use Rattle.priority_channel_parts.specs.Bag.{Contents}
-use Rattle.priority_channel_core.specs.Lists.{HasList}
+use Rattle.priority_channel_core.specs.code.Lists.{HasList}
 
 -- how many pairs were sent before the stop
 abbrev pub sent_before : Stop → ℕ
@@ -49,3 +51,11 @@ module _ {S T P : Type 0} (steps : S → Option (T × P) → S → Type 0) where
     pub long : length front ≡ count
     pub takes : Takes steps msgs front left
     pub adds : AddsFront old front handed new
+
+-- a poll sent these pairs, whatever it answers: nothing else happened but that its party waits for room, or on no side
+pub record PollsFront {T P W : Type 0} (is_clone : W → W → Type 0) (old : State T P W) (given : Option ℕ) (waker : W)
+    (front : List (T × P)) (handed : Handed W) (new : State T P W) : Type 0 where
+  pub ticket : Option ℕ
+  pub mid : State T P W
+  pub adds : AddsFront old front handed mid
+  pub ends : Ends is_clone Room given waker ticket mid new

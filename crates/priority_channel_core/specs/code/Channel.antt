@@ -1,8 +1,9 @@
 -- What callers see of a channel, and how its parts agree.
-use Rattle.std.specs.Prelude.{◌≡◌, ℕ, ◌+◌, ◌≤◌, Bool, true, length}
-use Rattle.priority_channel_parts.specs.Digits.{digits}
-use Rattle.priority_channel_core.specs.State.{State}
-use Rattle.priority_channel_core.specs.Good.{IsGood}
+use Rattle.std.specs.Prelude.{◌≡◌, ℕ, ◌+◌, ◌≤◌, Bool, true, false, [], length}
+use Rattle.priority_channel_parts.specs.declared.side.Side.{Side}
+use Rattle.priority_channel_parts.specs.declared.side.Side.TheVariants.{Room, Message}
+use Rattle.priority_channel_core.specs.machine.State.{State, room}
+use Rattle.priority_channel_core.specs.machine.Good.{IsGood}
 use Rattle.priority_channel_parts.specs.Bag.{Contents}
 use Rattle.priority_channel_parts.specs.Word.{Word}
 
@@ -22,9 +23,7 @@ state_of bag word capacity is_reserved sender_count receiver_count = record {
   is_reserved = is_reserved;
   sender_count = sender_count;
   receiver_count = receiver_count;
-  room_waiters = word.room_waiters;
-  message_waiters = word.message_waiters;
-  next_ticket = word.next_ticket;
+  waiters = word.waiters;
 }
 
 -- the parts agree, and make up a good state
@@ -39,6 +38,7 @@ ComparesAtMost priorities tickets old new =
     (new.priority_comparisons ≤ old.priority_comparisons + priorities)
     × (new.ticket_comparisons ≤ old.ticket_comparisons + tickets)
 
--- how many tickets a search by halving in both waiting lists compares at most
-abbrev pub search_bound : {T P W : Type 0} → State T P W → ℕ
-search_bound s = digits (length s.room_waiters) + digits (length s.message_waiters)
+-- a call on this side has to wait
+abbrev pub IsBlocked : {T P W : Type 0} → Side → State T P W → Type 0
+IsBlocked Room s = (s.is_closed ≡ false) × (room s ≡ 0)
+IsBlocked Message s = (s.is_closed ≡ false) × (s.pending ≡ [])

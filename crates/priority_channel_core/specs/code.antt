@@ -1,0 +1,8 @@
+-- What the contracts of the code's calls cite beside the machine.
+pub mod Channel
+pub mod Replies
+pub mod Lists
+pub mod Front
+pub mod Calls
+pub mod Many
+pub mod Allowed

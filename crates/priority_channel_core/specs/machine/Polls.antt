@@ -1,0 +1,55 @@
+-- Polls: a try to send or to receive, and then, where the channel was full or empty, a place among
+-- those who wait.
+use Rattle.std.specs.Prelude.{◌≡◌, ℕ, Option, Some, None, Result, Ok, Err}
+use Rattle.priority_channel_core.specs.declared.calls.CorePoll.{CorePoll}
+use Rattle.priority_channel_core.specs.declared.calls.CorePoll.TheVariants.{Ready, Pending}
+use Rattle.priority_channel_parts.specs.declared.side.Side.{Side}
+use Rattle.priority_channel_parts.specs.declared.errors.TrySendError.{TrySendError}
+use Rattle.priority_channel_parts.specs.declared.errors.TrySendError.TheVariants as try_send
+use Rattle.priority_channel_parts.specs.declared.errors.TryRecvError.{TryRecvError}
+use Rattle.priority_channel_parts.specs.declared.errors.TryRecvError.TheVariants as try_recv
+use Rattle.priority_channel_parts.specs.declared.errors.SendFault.{SendFault}
+use Rattle.priority_channel_parts.specs.declared.errors.SendFault.TheVariants as send
+use Rattle.priority_channel_parts.specs.declared.errors.RecvFault.{RecvFault}
+use Rattle.priority_channel_parts.specs.declared.errors.RecvFault.TheVariants as recv
+use Rattle.priority_channel_parts.specs.Waiters.{Enlists}
+use Rattle.priority_channel_core.specs.machine.State.{State, Handed}
+
+-- What a poll answers by the reply of its try and the ticket under which its party waits. Only who
+-- found the channel full waits; where that was refused, the answer is Memory.
+abbrev pub send_answer : {K : Type 0} → Result (Unit {0}) (TrySendError K) → Option ℕ
+    → Option (CorePoll (Result (Unit {0}) (SendFault K)) K)
+send_answer (Err (try_send.Full rest)) (Some ticket) = Some (Pending rest ticket)
+send_answer (Err (try_send.Full rest)) None = Some (Ready (Err (send.Memory rest)))
+send_answer (Err (try_send.Memory rest)) None = Some (Ready (Err (send.Memory rest)))
+send_answer (Err (try_send.Closed rest)) None =
+    Some (Ready (Err (send.Closed (record { 0 = rest }))))
+send_answer (Ok done) None = Some (Ready (Ok done))
+send_answer reply (Some ticket) = None
+
+-- the same of a receive, which waits where it found the channel empty
+abbrev pub recv_answer : {A : Type 0} → Result A TryRecvError → Option ℕ
+    → Option (CorePoll (Result A RecvFault) (Unit {0}))
+recv_answer (Err try_recv.Empty) (Some ticket) = Some (Pending tt ticket)
+recv_answer (Err try_recv.Empty) None = Some (Ready (Err recv.Memory))
+recv_answer (Err try_recv.Closed) None = Some (Ready (Err (recv.Closed (record {}))))
+recv_answer (Ok pair) None = Some (Ready (Ok pair))
+recv_answer reply (Some ticket) = None
+
+module _ {T P W : Type 0} (is_clone : W → W → Type 0) where
+  -- nothing changes but that the party waits on this side, or, without a ticket, on neither
+  abbrev pub Ends : Side → Option ℕ → W → Option ℕ → State T P W → State T P W → Type 0
+  Ends side given waker ticket old new =
+      Enlists is_clone side given waker ticket old.waiters new.waiters
+      × (new ≡ record old { waiters = new.waiters })
+
+  -- a try that leaves the channel in `mid`, and then the end
+  pub record Polls {R A : Type 0} (tries : R → Handed W → State T P W → Type 0)
+      (answer_by : R → Option ℕ → Option A) (side : Side) (given : Option ℕ) (waker : W) (answer : A)
+      (handed : Handed W) (new : State T P W) : Type 0 where
+    pub reply : R
+    pub ticket : Option ℕ
+    pub mid : State T P W
+    pub tried : tries reply handed mid
+    pub answered : answer_by reply ticket ≡ Some answer
+    pub ends : Ends side given waker ticket mid new

@@ -1,0 +1,52 @@
+-- Sending a list of pairs. A send of one pair is a send of the list of that pair.
+use Rattle.std.specs.Prelude.{◌≡◌, ◌+◌, ◌-◌, ◌<◌, ◌≤◌, ◌^◌, ◌⊎◌, true, false, ◌==◌, if◌then◌else◌, List, [], ◌∷◌, ◌++◌, length, Result, Ok, Err}
+use Rattle.priority_channel_parts.specs.declared.errors.TrySendError.{TrySendError}
+use Rattle.priority_channel_parts.specs.declared.errors.TrySendError.TheVariants.{Full, Closed, Memory}
+use Rattle.priority_channel_core.specs.machine.State.{State, Handed, nobody, room}
+
+-- the reply to a send of one pair, as the reply to a send of a list
+abbrev pub as_list : {A : Type 0} → Result (Unit {0}) (TrySendError A)
+    → Result (Unit {0}) (TrySendError (List A))
+as_list (Ok done) = Ok done
+as_list (Err (Closed pair)) = Err (Closed (pair ∷ []))
+as_list (Err (Full pair)) = Err (Full (pair ∷ []))
+as_list (Err (Memory pair)) = Err (Memory (pair ∷ []))
+
+module _ {T P W : Type 0} (old : State T P W) where
+  -- nothing changes, and nobody is handed out
+  abbrev pub Refuses : Handed W → State T P W → Type 0
+  Refuses handed new = (handed ≡ nobody) × (new ≡ old)
+
+  -- nothing happened but that these pairs were added; where there are any, all who wait for a message
+  -- are handed out
+  pub record AddsFront (front : List (T × P)) (handed : Handed W) (new : State T P W) : Type 0 where
+    pub handed_is : handed
+        ≡ (if length front == 0 then nobody else record { room = []; message = old.waiters.message })
+    pub new_is : new ≡ record old {
+      pending = old.pending ++ front;
+      accepted = old.accepted + length front;
+      waiters = record old.waiters {
+        message = if length front == 0 then old.waiters.message else [];
+      };
+    }
+
+  -- an open channel accepts these pairs
+  abbrev pub Accepts : List (T × P) → Handed W → State T P W → Type 0
+  Accepts front handed new = (old.is_closed ≡ false) × AddsFront front handed new
+
+  -- what comes back with an error is the rest, which was not accepted
+  abbrev pub Sends : List (T × P) → Result (Unit {0}) (TrySendError (List (T × P)))
+      → Handed W → State T P W → Type 0
+  Sends pairs (Ok done) handed new =
+      (0 < room old) × (length pairs ≤ room old) × Accepts pairs handed new
+  Sends pairs (Err (Closed rest)) handed new =
+      (old.is_closed ≡ true) × (rest ≡ pairs) × Refuses handed new
+  -- as many as there was room for, and there was no room for all
+  Sends pairs (Err (Full rest)) handed new =
+      (front : List (T × P)) × (pairs ≡ front ++ rest) × (length front ≡ room old)
+      × ((room old ≡ 0) ⊎ (0 < length rest)) × Accepts front handed new
+  -- cut short before a pair that was there and had room
+  Sends pairs (Err (Memory rest)) handed new =
+      (front : List (T × P)) × (pairs ≡ front ++ rest) × (length front < room old)
+      × (0 < length rest) × Accepts front handed new
+      × ((old.is_reserved ≡ false) ⊎ (old.accepted + length front ≡ 2 ^ 64 - 1))

@@ -1,0 +1,63 @@
+-- One step of the machine: a call, its answer, those whom it hands out, and the state after it.
+use Rattle.std.specs.Prelude.{◌+◌, ◌-◌, ◌==◌, List, [], ◌∷◌, length, Some}
+use Rattle.std.specs.declared.cmp.Ordering.{Ordering}
+use Rattle.priority_channel_core.specs.declared.calls.Call.{Call}
+use Rattle.priority_channel_core.specs.declared.calls.Call.TheVariants as call
+use Rattle.priority_channel_core.specs.declared.calls.Answer.{Answer}
+use Rattle.priority_channel_core.specs.declared.calls.Answer.TheVariants as answer
+use Rattle.priority_channel_core.specs.machine.State.{State, Handed}
+use Rattle.priority_channel_core.specs.machine.Good.{IsGood}
+use Rattle.priority_channel_core.specs.machine.Sends.{as_list, Refuses, Sends}
+use Rattle.priority_channel_core.specs.machine.OtherCalls.{Receives, Closes, Looks, capacity_told, Clones, Drops}
+use Rattle.priority_channel_parts.specs.Waiters.{unlist}
+use Rattle.priority_channel_core.specs.machine.Polls.{send_answer, recv_answer, Polls}
+use Rattle.priority_channel_parts.specs.declared.side.Side.TheVariants.{Room, Message}
+
+-- the machine's calls and answers: a bulk send is given a list, and hands a list back
+abbrev pub Calls : (T P W : Type 0) → Type 0
+Calls T P W = Call T P W (List (T × P))
+
+abbrev pub Answers : (T P : Type 0) → Type 0
+Answers T P = Answer T P (List (T × P))
+
+-- cmp compares two priorities, and `is_clone waker kept` holds of what a clone of the waker may
+-- give
+module _ {T P W : Type 0} (cmp : P → P → Ordering) (is_clone : W → W → Type 0) where
+  abbrev pub Moves : State T P W → Calls T P W → Answers T P → Handed W → State T P W → Type 0
+  Moves old (call.TrySend msg priority) (answer.TrySend reply) =
+      Sends old ((msg, priority) ∷ []) (as_list reply)
+  Moves old (call.TrySendv pairs) (answer.TrySendv reply) = Sends old pairs reply
+  Moves old call.TryRecv (answer.TryRecv reply) = Receives cmp old reply
+  Moves old call.Close (answer.Close was_open) = Closes old was_open
+  Moves old call.IsClosed (answer.IsClosed told) = Looks old old.is_closed told
+  Moves old call.IsEmpty (answer.IsEmpty told) = Looks old (length old.pending == 0) told
+  Moves old call.IsFull (answer.IsFull told) = Looks old (length old.pending == old.capacity) told
+  Moves old call.Len (answer.Len told) = Looks old (length old.pending) told
+  Moves old call.Capacity (answer.Capacity told) = Looks old (capacity_told old.capacity) told
+  Moves old call.SenderCount (answer.SenderCount told) = Looks old old.sender_count told
+  Moves old call.ReceiverCount (answer.ReceiverCount told) = Looks old old.receiver_count told
+  Moves old call.CloneSender (answer.CloneSender done) =
+      Clones old.sender_count (record old { sender_count = old.sender_count + 1 }) done old
+  Moves old call.CloneReceiver (answer.CloneReceiver done) =
+      Clones old.receiver_count (record old { receiver_count = old.receiver_count + 1 }) done old
+  Moves old call.DropSender answer.DropSender =
+      Drops old.sender_count (record old { sender_count = old.sender_count - 1 })
+  Moves old call.DropReceiver answer.DropReceiver =
+      Drops old.receiver_count (record old { receiver_count = old.receiver_count - 1 })
+  Moves old (call.PollSend msg priority given waker) (answer.PollSend answer) =
+      Polls is_clone (λ reply. Sends old ((msg, priority) ∷ []) (as_list reply)) send_answer Room given
+      waker answer
+  Moves old (call.PollSendv pairs given waker) (answer.PollSendv answer) =
+      Polls is_clone (Sends old pairs) send_answer Room given waker answer
+  Moves old (call.PollRecv given waker) (answer.PollRecv answer) =
+      Polls is_clone (Receives cmp old) recv_answer Message given waker answer
+  Moves old (call.GiveUp ticket) answer.GiveUp =
+      Refuses (record old { waiters = unlist (Some ticket) old.waiters })
+  -- no other answer is given
+  Moves old _ _ = λ handed new. ⊥
+
+  -- a step leads to a good state
+  pub record Step (old : State T P W) (made : Calls T P W) (reply : Answers T P) (handed : Handed W)
+      (new : State T P W) : Type 0 where
+    pub moves : Moves old made reply handed new
+    pub good : IsGood new
