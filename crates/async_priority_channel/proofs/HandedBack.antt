@@ -7,7 +7,7 @@ use Rattle.futures.specs.declared.task.Poll.TheVariants as poll
 use Rattle.futures.specs.Poll.{IfReady, OnPending}
 use Rattle.priority_channel_parts.specs.declared.errors.SendFault.{SendFault}
 use Rattle.priority_channel_parts.specs.declared.errors.SendFault.TheVariants as send_fault
-use Rattle.priority_channel_laws.specs.States.{handed_back, HoldsTail}
+use Rattle.priority_channel_laws.specs.Holding.{handed_back, HoldsTail}
 use Rattle.async_priority_channel.specs.Handles.{Underway, HandsBackTail}
 use Rattle.async_priority_channel.specs.Tails.{tail_of_itself, tail_of_tail}
 

@@ -2,11 +2,11 @@
 use Rattle.std.specs.Prelude.{◌≡◌, IfErr, IfSome, IsErrAnd, Result, Ok, Err}
 use Rattle.priority_channel_parts.specs.declared.errors.TrySendError.{TrySendError}
 use Rattle.priority_channel_parts.specs.declared.errors.TrySendError.TheVariants.{Full, Closed, Memory}
-use Rattle.priority_channel_parts.specs.Errors.{refused}
+use Rattle.priority_channel_parts.specs.Errors.{rest_of}
 use Rattle.async_priority_channel.specs.Waits.{left_over, outcome_of_try}
 
 module _ {C : Type 0} (Q : C → Type 0) where
-  pub left_of_try : (reply : Result (Unit {0}) (TrySendError C)) → IfErr reply (λ error. Q (refused error)) → IfSome (left_over (outcome_of_try reply)) Q
+  pub left_of_try : (reply : Result (Unit {0}) (TrySendError C)) → IfErr reply (λ error. Q (rest_of error)) → IfSome (left_over (outcome_of_try reply)) Q
   left_of_try (Ok sent) h = tt
   left_of_try (Err (Full rest)) h = h
   left_of_try (Err (Closed rest)) h = h

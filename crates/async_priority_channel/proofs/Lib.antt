@@ -1,3 +1,3 @@
 pub mod HandedBack
 pub mod LeftOver
-pub mod LineLemmas
+pub mod Lines

@@ -2,11 +2,12 @@
 use Rattle.std.specs.Prelude.{◌≡◌, ℕ, Bool, true, List, [], IfErr, IfSome, Option, Some, None, Result}
 use Rattle.priority_channel_parts.specs.declared.errors.SendFault.{SendFault}
 use Rattle.priority_channel_parts.specs.Errors.{unsent}
-use Rattle.priority_channel_laws.specs.States.{Holding, HoldsTail}
+use Rattle.priority_channel_laws.specs.Holding.{Holding, HoldsTail}
 use Rattle.priority_channel_parts.specs.declared.side.Side.{Side}
 use Rattle.priority_channel_parts.specs.declared.side.Side.TheVariants.{Room, Message}
 
--- what never changes of a channel: its capacity, and the sources at which tasks wait for room and for a message
+-- what never changes of a channel: its capacity, and the sources at which tasks wait for room and
+-- for a message
 pub record Channel : Type 0 where
   pub capacity : ℕ
   pub room : ℕ
@@ -46,6 +47,8 @@ abbrev pub HandsBack : {K : Type 0} → Underway K → Result (Unit {0}) (SendFa
 HandsBack future answer = IfErr answer (λ fault. future.state.kept ≡ Some (unsent fault))
 
 -- a fault of a bulk send gives back a tail of what it kept, which can be sent again
-abbrev pub HandsBackTail : {X M : Type 0} → (M → List X → Type 0) → (M → Type 0) → Underway M → Result (Unit {0}) (SendFault M) → Type 0
+abbrev pub HandsBackTail : {X M : Type 0} → (M → List X → Type 0) → (M → Type 0) → Underway M
+    → Result (Unit {0}) (SendFault M) → Type 0
 HandsBackTail holds can future answer =
-    IfErr answer (λ fault. can (unsent fault) × IfSome future.state.kept (λ msgs. HoldsTail holds msgs (unsent fault)))
+    IfErr answer (λ fault. can (unsent fault)
+    × IfSome future.state.kept (λ msgs. HoldsTail holds msgs (unsent fault)))

@@ -4,8 +4,9 @@ use Rattle.priority_channel_parts.specs.declared.side.Side.{Side}
 use Rattle.priority_channel_core.specs.machine.State.{State}
 use Rattle.priority_channel_core.specs.machine.Polls.{Ends}
 
--- the first, by its number and the place in which it sleeps, and the ticket under which the channel has listed it; the
--- others behind it; the number that is given next; and how many threads look again before they join
+-- the first, by its number and the waiter under which it sleeps, and the ticket under which the
+-- channel has listed it; the others behind it; the number that is given next; and how many threads
+-- look again before they join
 pub record Lined : Type 0 where
   pub first : Option (ℕ × ℕ)
   pub ticket : Option ℕ
@@ -15,9 +16,10 @@ pub record Lined : Type 0 where
 
 -- the party of this number is the first
 abbrev pub IsFirst : Lined → ℕ → Type 0
-IsFirst line number = (place : ℕ) × (line.first ≡ Some (number, place))
+IsFirst line number = (waiter : ℕ) × (line.first ≡ Some (number, waiter))
 
 module _ {T P : Type 0} where
-  -- the channel lists a party by its place under this ticket: under the given one, where that is listed already
+  -- the channel lists a party by its waiter under this ticket: under the given one, where that is
+  -- listed already
   abbrev pub Lists : Side → Option ℕ → ℕ → Option ℕ → State T P ℕ → State T P ℕ → Type 0
   Lists = Ends (λ waker kept. kept ≡ waker)

@@ -1,4 +1,5 @@
--- What calls that wait on their thread make on the core, and what they answer where they waited in vain.
+-- What calls that wait on their thread make on the core, and what they answer where they waited in
+-- vain.
 use Rattle.std.specs.Prelude.{◌≡◌, ℕ, List, Option, Some, None, ⊤, Result, Ok, Err, codes}
 use Rattle.priority_channel_core.specs.declared.calls.CorePoll.{CorePoll}
 use Rattle.priority_channel_core.specs.declared.calls.CorePoll.TheVariants.{Ready, Pending}
@@ -47,7 +48,8 @@ recv_tried call (Err try_recv.Empty) = Blocked call
 recv_tried call (Err try_recv.Closed) = Closed call
 
 -- and to a poll of one
-abbrev pub recv_polled : {X : Type 0} → Receive → CorePoll (Result X RecvFault) (Unit {0}) → Outcome X Receive
+abbrev pub recv_polled : {X : Type 0} → Receive → CorePoll (Result X RecvFault) (Unit {0})
+    → Outcome X Receive
 recv_polled call (Ready (Ok pair)) = Done pair
 recv_polled call (Ready (Err (recv_fault.Closed error))) = Closed call
 recv_polled call (Ready (Err recv_fault.Memory)) = Memory call

@@ -5,14 +5,14 @@ ghost use Rattle.std.specs.Iterator.Adapters.{peekable_can};
 ghost use Rattle.priority_channel_core.specs.code.Lists.{HasList};
 ghost use Rattle.priority_channel_core.specs.machine.Step.{Step};
 ghost use Rattle.priority_channel_core.specs.code.Calls.{Performs};
-ghost use Rattle.priority_channel_laws.specs.States.{HoldsTail};
+ghost use Rattle.priority_channel_laws.specs.Holding.{HoldsTail};
 ghost use Rattle.priority_channel_core.specs.code.Replies.{waits_under};
 ghost use Rattle.async_priority_channel.specs.Waits.{left_over, given_back, outcome_of_try, recv_tried, recv_polled};
 ghost use Rattle.async_priority_channel.specs.Tails.{tail_of_itself, tail_of_tail};
 
-use crate::kept_waker::KeptWaker;
 use crate::shared::Core;
 use crate::timeouts::Ended;
+use crate::waiter::Waiter;
 use priority_channel_core::awaitable_atomics::Wakes;
 use priority_channel_core::calls::{Answer, Call, CorePoll};
 use priority_channel_core::errors::{RecvFault, TryRecvError, TrySendError};
@@ -32,7 +32,8 @@ pub enum Outcome<D, C> {
 impl<D, C> Outcome<D, C> {
     /// The answer, where it is one; the call, where that is blocked.
     pub fn answer<O>(self) -> Result<Result<D, Ended<C, O>>, C>
-        ensures answered { IfOk result (λ answer. IfErr answer (λ ended. left_over self ≡ Some (given_back ended))) }
+        ensures answered { IfOk result (λ answer. IfErr answer (λ ended.
+            left_over self ≡ Some (given_back ended))) }
         ensures blocked { IfErr result (λ call. left_over self ≡ Some call) }
     {
         match self {
@@ -44,7 +45,8 @@ impl<D, C> Outcome<D, C> {
     }
 }
 
-/// A call that can be attempted until it is done. It need not be `Drop`: whoever attempts it can lose nothing of it.
+/// A call that can be attempted until it is done. It need not be `Drop`: whoever attempts it can
+/// lose nothing of it.
 pub trait Attempt<T, P: Ord, A: Allocator + Copy>: Sized {
     type Done;
 
@@ -58,13 +60,14 @@ pub trait Attempt<T, P: Ord, A: Allocator + Copy>: Sized {
     fn side() -> Side;
 
     /// The call, in one step.
-    fn try_on(self, core: &mut Core<T, P, A>) -> (Outcome<Self::Done, Self>, Wakes<KeptWaker<A>, A>)
+    fn try_on(self, core: &mut Core<T, P, A>) -> (Outcome<Self::Done, Self>, Wakes<Waiter<A>, A>)
         requires { can_attempt self }
         ensures { IfSome (left_over result.0) (λ rest. can_attempt rest × leaves self rest) };
 
     ghost whole: { (call : Self) → leaves call call };
 
-    ghost still: { (first next last : Self) → leaves first next → leaves next last → leaves first last };
+    ghost still: { (first next last : Self) → leaves first next → leaves next last
+        → leaves first last };
 }
 
 /// A receive of one pair.
@@ -86,9 +89,9 @@ impl<T, P: Ord, A: Allocator + Copy> Attempt<T, P, A> for Receive {
         Side::Message
     }
 
-    fn try_on(self, core: &mut Core<T, P, A>) -> (Outcome<(T, P), Self>, Wakes<KeptWaker<A>, A>)
+    fn try_on(self, core: &mut Core<T, P, A>) -> (Outcome<(T, P), Self>, Wakes<Waiter<A>, A>)
         ensures step { (reply : _) × (result.0 ≡ recv_tried self reply)
-            × Step P.cmp ⟦<KeptWaker<A> as Clone>⟧.is_clone core.old.state
+            × Step P.cmp ⟦<Waiter<A> as Clone>⟧.is_clone core.old.state
             Call.TryRecv (Answer.TryRecv reply) result.1 core.new.state }
     {
         let (received, wakes) = core.try_recv();
@@ -102,18 +105,19 @@ impl<T, P: Ord, A: Allocator + Copy> Attempt<T, P, A> for Receive {
 }
 
 impl Receive {
-    /// Receives in one step, or waits under the ticket in the place.
+    /// Receives in one step, or waits under the ticket.
     pub fn poll_on<T, P: Ord, A: Allocator + Copy>(
         self,
         core: &mut Core<T, P, A>,
         ticket: &mut Option<u64>,
-        place: &KeptWaker<A>,
-    ) -> (Outcome<(T, P), Self>, Wakes<KeptWaker<A>, A>)
-        ensures step { (reply : _) × (result.0 ≡ recv_polled self reply) × (ticket.new ≡ waits_under reply)
-            × Step P.cmp ⟦<KeptWaker<A> as Clone>⟧.is_clone core.old.state
-            (Call.PollRecv ticket.old place.now) (Answer.PollRecv reply) result.1 core.new.state }
+        waiter: &Waiter<A>,
+    ) -> (Outcome<(T, P), Self>, Wakes<Waiter<A>, A>)
+        ensures step { (reply : _) × (result.0 ≡ recv_polled self reply)
+            × (ticket.new ≡ waits_under reply)
+            × Step P.cmp ⟦<Waiter<A> as Clone>⟧.is_clone core.old.state
+            (Call.PollRecv ticket.old waiter.now) (Answer.PollRecv reply) result.1 core.new.state }
     {
-        let (received, wakes) = core.poll_recv(*ticket, place);
+        let (received, wakes) = core.poll_recv(*ticket, waiter);
         (receive_polled(self, received, ticket), wakes)
     }
 }
@@ -165,10 +169,10 @@ impl<T, P: Ord, A: Allocator + Copy> Attempt<T, P, A> for (T, P) {
         Side::Room
     }
 
-    fn try_on(self, core: &mut Core<T, P, A>) -> (Outcome<(), Self>, Wakes<KeptWaker<A>, A>)
+    fn try_on(self, core: &mut Core<T, P, A>) -> (Outcome<(), Self>, Wakes<Waiter<A>, A>)
         ensures whole { IfSome (left_over result.0) (λ rest. rest ≡ self) }
         ensures step { (reply : _) × (result.0 ≡ outcome_of_try reply)
-            × Step P.cmp ⟦<KeptWaker<A> as Clone>⟧.is_clone core.old.state
+            × Step P.cmp ⟦<Waiter<A> as Clone>⟧.is_clone core.old.state
             (Call.TrySend self.0 self.1) (Answer.TrySend reply) result.1 core.new.state }
     {
         let (msg, priority) = self;
@@ -196,12 +200,12 @@ impl<T: Drop, P: Ord + Drop, A: Allocator + Copy, I: Iterator<Item = (T, P)>> At
         Side::Room
     }
 
-    fn try_on(self, core: &mut Core<T, P, A>) -> (Outcome<(), Self>, Wakes<KeptWaker<A>, A>)
+    fn try_on(self, core: &mut Core<T, P, A>) -> (Outcome<(), Self>, Wakes<Waiter<A>, A>)
         requires { peekable_can I.can_next self }
         ensures tail { IfSome (left_over result.0) (HoldsTail (HasList I.next_gives) self) }
         ensures callable { IfSome (left_over result.0) (peekable_can I.can_next) }
         ensures step { (reply : _) × (result.0 ≡ outcome_of_try reply)
-            × Performs (HasList I.next_gives) P.cmp ⟦<KeptWaker<A> as Clone>⟧.is_clone core.old.state
+            × Performs (HasList I.next_gives) P.cmp ⟦<Waiter<A> as Clone>⟧.is_clone core.old.state
             (Call.TrySendv self) (Answer.TrySendv reply) result.1 core.new.state }
     {
         let (sent, wakes) = core.try_sendv(self);

@@ -5,8 +5,8 @@ use crate::shared::Handle;
 use std::alloc::{Allocator, Global};
 use std::sync::Wait;
 
-/// Closes the channel where it is dropped, so that nobody waits for a party that has failed. `Sender::close_on_drop` and
-/// `Receiver::close_on_drop` make it.
+/// Closes the channel where it is dropped, so that nobody waits for a party that has failed.
+/// `Sender::close_on_drop` and `Receiver::close_on_drop` make it.
 #[must_use = "it closes the channel as soon as it is dropped"]
 pub struct CloseOnDrop<'a, T, P: Ord, R: Wait + Clone, A: Allocator + Copy = Global> {
     handle: &'a Handle<T, P, R, A>,
@@ -25,7 +25,8 @@ impl<T, P: Ord, R: Wait + Clone, A: Allocator + Copy> Drop for CloseOnDrop<'_, T
 }
 
 impl<T, P: Ord, R: Wait + Clone, A: Allocator + Copy> Sender<T, P, R, A> {
-    /// A guard whose drop closes the channel, however its scope is left. What is pending can still be received.
+    /// A guard whose drop closes the channel, however its scope is left. What is pending can still
+    /// be received.
     ///
     /// ```
     /// let _guard = tx.close_on_drop();
@@ -42,9 +43,9 @@ impl<T, P: Ord, R: Wait + Clone, A: Allocator + Copy> Sender<T, P, R, A> {
 }
 
 impl<T, P: Ord, R: Wait + Clone, A: Allocator + Copy> Receiver<T, P, R, A> {
-    /// A guard whose drop closes the channel, however its scope is left. What is pending then can be received as long as
-    /// there is a receiver, and is dropped with the last one: a message may hold the means of an answer, and who waits
-    /// for that answer then learns that none comes.
+    /// A guard whose drop closes the channel, however its scope is left. What is pending then can
+    /// be received as long as there is a receiver, and is dropped with the last one: a message may
+    /// hold the means of an answer, and who waits for that answer then learns that none comes.
     ///
     /// ```
     /// let _guard = requests.close_on_drop();

@@ -3,24 +3,25 @@ ghost use Rattle.std.specs.Prelude.{◌≡◌, ◌<◌, IfSome, IfNone, None};
 ghost use Rattle.std.specs.Iterator.{at_most};
 
 use crate::attempts::Receive;
-use crate::kept_waker::KeptWaker;
 use crate::receiver::Receiver;
 use crate::shared::Handle;
 use crate::timeouts::Ended;
 use crate::until::Endless;
+use crate::waiter::Waiter;
 use std::alloc::{Allocator, Global};
 use std::iter::FusedIterator;
 use std::sync::Wait;
 use std::thread::Parker;
 use std::time::Duration;
 
-// How many milliseconds a loop sleeps where memory for waiting is refused, until it looks for a message again.
+// How many milliseconds a loop sleeps where memory for waiting is refused, until it looks for a
+// message again.
 const PAUSE: u64 = 1;
 
-// The waits of a loop, with one place for all of them.
+// The waits of a loop, with one waiter for all of them.
 #[derive(Drop)]
 struct Waits<A: Allocator> {
-    place: Option<KeptWaker<A>>,
+    waiter: Option<Waiter<A>>,
     // An end that a loop's proof sees, and no run reaches; none is left once the channel has ended.
     left: u64,
 }
@@ -28,7 +29,7 @@ struct Waits<A: Allocator> {
 impl<A: Allocator + Copy> Waits<A> {
     fn new() -> Self {
         Waits {
-            place: None,
+            waiter: None,
             left: u64::MAX,
         }
     }
@@ -42,7 +43,7 @@ impl<A: Allocator + Copy> Waits<A> {
             return None;
         }
         self.left -= 1;
-        let received = wait_without_fail(handle, &mut self.place);
+        let received = wait_without_fail(handle, &mut self.waiter);
         if received.is_none() {
             self.left = 0;
         }
@@ -53,10 +54,10 @@ impl<A: Allocator + Copy> Waits<A> {
 // Waits until a message is there or none can come. To wait takes memory, and to look does not.
 fn wait_without_fail<T, P: Ord, R: Wait + Clone, A: Allocator + Copy>(
     handle: &Handle<T, P, R, A>,
-    place: &mut Option<KeptWaker<A>>,
+    waiter: &mut Option<Waiter<A>>,
 ) -> Option<(T, P)> {
     for _ in handle.rt().forever() {
-        match handle.wait(Receive, &Endless, place) {
+        match handle.wait(Receive, &Endless, waiter) {
             Ok(pair) => return Some(pair),
             Err(Ended::Closed(Receive)) => return None,
             Err(Ended::Memory(Receive)) => pause(handle.rt()),
@@ -71,11 +72,11 @@ fn pause<R: Wait>(rt: &R) {
     Parker::new().park_timeout(rt, Duration::from_millis(PAUSE));
 }
 
-/// The messages of a channel, for each of which the thread waits, until the channel is closed and empty. `Receiver::iter`
-/// and `for pair in &rx` make it.
+/// The messages of a channel, for each of which the thread waits, until the channel is closed and
+/// empty. `Receiver::iter` and `for pair in &rx` make it.
 ///
-/// It never fails: where memory for waiting is refused, it sleeps for a millisecond and looks again. Its waits share one
-/// place.
+/// It never fails: where memory for waiting is refused, it sleeps for a millisecond and looks
+/// again. Its waits share what keeps them in the waiting list.
 #[must_use = "it receives nothing until it is asked for the next message"]
 pub struct Iter<'a, T, P: Ord, R: Wait + Clone, A: Allocator + Copy = Global> {
     receiver: &'a Receiver<T, P, R, A>,
@@ -126,7 +127,8 @@ impl<T: Drop, P: Ord + Drop, R: Wait + Clone, A: Allocator + Copy> Iterator
 impl<T: Drop, P: Ord + Drop, R: Wait + Clone, A: Allocator + Copy> FusedIterator
     for IntoIter<T, P, R, A> {}
 
-/// The messages that are there, until none is. `Receiver::try_iter` makes it. Once it has found none, it stays ended.
+/// The messages that are there, until none is. `Receiver::try_iter` makes it. Once it has found
+/// none, it stays ended.
 #[must_use = "it receives nothing until it is asked for the next message"]
 pub struct TryIter<'a, T, P: Ord, R: Wait + Clone, A: Allocator + Copy = Global> {
     receiver: &'a Receiver<T, P, R, A>,
@@ -190,8 +192,8 @@ impl<T: Drop, P: Ord + Drop, R: Wait + Clone, A: Allocator + Copy> IntoIterator
 }
 
 impl<T, P: Ord, R: Wait + Clone, A: Allocator + Copy> Receiver<T, P, R, A> {
-    /// The messages one after another, each waited for on this thread, until the channel is closed and empty. It is what
-    /// a worker's loop goes over, and its proof sees that the loop ends.
+    /// The messages one after another, each waited for on this thread, until the channel is closed
+    /// and empty. It is what a worker's loop goes over, and its proof sees that the loop ends.
     ///
     /// ```
     /// for (job, priority) in rx.iter() {

@@ -1,16 +1,18 @@
-//! The threads that wait for one thing, in a line in the order in which they came. Only the first waits in the channel's
-//! own list, so that what comes wakes one thread, however many wait; and while a thread spins for it, none.
+//! The threads that wait for one thing, in a line in the order in which they came. Only the first
+//! waits in the channel's own list, so that what comes wakes one thread, however many wait; and
+//! while a thread spins for it, none.
 //!
-//! `Queued`, `Lead`, `Spinner` and `Listing` are no `Drop`, so none can be let go: who joins a line leaves it or leads it,
-//! who leads it makes the next one the first, and who spins says when that is over.
+//! `Queued`, `Lead`, `Spinner` and `Listing` are no `Drop`, so none can be let go: who joins a line
+//! leaves it or leads it, who leads it makes the next one the first, and who spins says when that
+//! is over.
 ghost use Rattle.std.specs.Prelude.{◌≡◌, ◌≢◌, ◌↔◌, ℕ, ◌+◌, ◌-◌, ◌<◌, ◌∷◌, ◌++◌, [], option_to_list, IfOk, IfErr, IfNone, IfSome, IsSome, IsTrue, OnOk, OnErr, Some, None};
 ghost use Rattle.priority_channel_parts.specs.Waiting.{without};
 ghost use Rattle.priority_channel_parts.specs.Waiters.{unlist};
 ghost use Rattle.priority_channel_core.specs.code.Channel.{IsBlocked};
 ghost use Rattle.async_priority_channel.specs.Lines.{IsFirst, Lists};
 
-use crate::kept_waker::KeptWaker;
 use crate::shared::Core;
+use crate::waiter::Waiter;
 use priority_channel_core::comparisons::Comparisons;
 use priority_channel_core::side::Side;
 use priority_channel_parts::waiting_list::WaitingList;
@@ -20,12 +22,12 @@ use std::marker::Model;
 /// A line. It takes memory for the second party and those behind it.
 #[derive(Drop)]
 pub struct Line<A: Allocator> {
-    // The number of the first, and the place in which it sleeps.
-    first: Option<(u64, KeptWaker<A>)>,
+    // The number of the first, and the waiter under which it sleeps.
+    first: Option<(u64, Waiter<A>)>,
     // Under which the channel has listed the first.
     ticket: Option<u64>,
-    // The others by their numbers, each asleep in its place.
-    others: WaitingList<KeptWaker<A>, A>,
+    // The others by their numbers, each asleep under its waiter.
+    others: WaitingList<Waiter<A>, A>,
     next_number: u64,
     // How many threads look again before they join.
     spinning: usize,
@@ -38,10 +40,17 @@ impl<A: Allocator> Model for Line<A> {
 
     ghost Value = { Lined };
 
-    ghost view = { λ l. record { first = l.first; ticket = l.ticket; others = l.others; next_number = l.next_number; spinning = l.spinning } };
+    ghost view = { λ l. record {
+      first = l.first;
+      ticket = l.ticket;
+      others = l.others;
+      next_number = l.next_number;
+      spinning = l.spinning;
+    } };
 
     // Nobody waits behind nobody, and the numbers behind the first were given.
-    ghost invariant = { λ l. (l.first ≡ None → l.others ≡ []) × All (λ other. other.0 < l.next_number) l.others };
+    ghost invariant = { λ l. (l.first ≡ None → l.others ≡ [])
+        × All (λ other. other.0 < l.next_number) l.others };
 }
 
 /// A party in line.
@@ -71,7 +80,13 @@ pub enum Listing {
 
 impl<A: Allocator> Line<A> {
     pub fn new(alloc: A) -> Self
-        ensures { result ≡ record { first = None; ticket = None; others = []; next_number = 0; spinning = 0 } }
+        ensures { result ≡ record {
+          first = None;
+          ticket = None;
+          others = [];
+          next_number = 0;
+          spinning = 0;
+        } }
     {
         Line {
             first: None,
@@ -82,16 +97,17 @@ impl<A: Allocator> Line<A> {
         }
     }
 
-    /// A further party, at the end of the line. The error is that memory was refused, or that the numbers ran out.
-    pub fn join(&mut self, place: &KeptWaker<A>) -> Result<Queued, AllocError>
+    /// A further party, at the end of the line. The error is that memory was refused, or that the
+    /// numbers ran out.
+    pub fn join(&mut self, waiter: &Waiter<A>) -> Result<Queued, AllocError>
         ensures number { IfOk result (λ party. party.number ≡ self.old.next_number) }
         ensures first { OnOk result (IfNone self.old.first (self.new ≡ record self.old {
-          first = Some (self.old.next_number, place.now);
+          first = Some (self.old.next_number, waiter.now);
           ticket = None;
           next_number = self.old.next_number + 1;
         })) }
         ensures behind { OnOk result (IfSome self.old.first (λ _. self.new ≡ record self.old {
-          others = self.old.others ++ (self.old.next_number, place.now) ∷ [];
+          others = self.old.others ++ (self.old.next_number, waiter.now) ∷ [];
           next_number = self.old.next_number + 1;
         })) }
         ensures refused { OnErr result (self.new ≡ self.old) }
@@ -100,12 +116,12 @@ impl<A: Allocator> Line<A> {
         if self.first.is_some() {
             let mut comparisons = Comparisons::new();
             self.others
-                .listen(None, place, &mut self.next_number, &mut comparisons)
+                .listen(None, waiter, &mut self.next_number, &mut comparisons)
                 .ok_or(AllocError)?;
             return Ok(Queued { number });
         }
         let next_number = number.checked_add(1).ok_or(AllocError)?;
-        self.first = Some((number, place.clone()?));
+        self.first = Some((number, waiter.clone()?));
         self.ticket = None;
         self.next_number = next_number;
         Ok(Queued { number })
@@ -122,8 +138,10 @@ impl<A: Allocator> Line<A> {
 
     /// The lead, where the party is the first; else the party, which waits on.
     pub fn lead(&self, party: Queued) -> Result<Lead, Queued>
-        ensures led { IfOk result (λ lead. IsFirst self.now party.number × (lead.number ≡ party.number)) }
-        ensures waits { IfErr result (λ waiting. (IsFirst self.now party.number → ⊥) × (waiting ≡ party)) }
+        ensures led { IfOk result (λ lead. IsFirst self.now party.number
+            × (lead.number ≡ party.number)) }
+        ensures waits { IfErr result (λ waiting. (IsFirst self.now party.number → ⊥)
+            × (waiting ≡ party)) }
     {
         if !self.is_first(&party) {
             return Err(party);
@@ -134,8 +152,10 @@ impl<A: Allocator> Line<A> {
 
     /// Takes the party out of the line, unless it is the first by now.
     pub fn leave(&mut self, party: Queued) -> Result<(), Queued>
-        ensures left { OnOk result ((IsFirst self.old party.number → ⊥) × (self.new ≡ record self.old { others = without party.number self.old.others })) }
-        ensures leads { IfErr result (λ waiting. IsFirst self.old party.number × (waiting ≡ party) × (self.new ≡ self.old)) }
+        ensures left { OnOk result ((IsFirst self.old party.number → ⊥)
+            × (self.new ≡ record self.old { others = without party.number self.old.others })) }
+        ensures leads { IfErr result (λ waiting. IsFirst self.old party.number × (waiting ≡ party)
+            × (self.new ≡ self.old)) }
     {
         if self.is_first(&party) {
             return Err(party);
@@ -149,7 +169,11 @@ impl<A: Allocator> Line<A> {
     /// The first leaves the line, and the next one is the first.
     pub fn move_up(&mut self, lead: Lead)
         ensures next { self.old.others ≡ option_to_list self.new.first ++ self.new.others }
-        ensures line { self.new ≡ record self.old { first = self.new.first; ticket = None; others = self.new.others } }
+        ensures line { self.new ≡ record self.old {
+          first = self.new.first;
+          ticket = None;
+          others = self.new.others;
+        } }
     {
         let Lead { number: _ } = lead;
         self.ticket = None;
@@ -183,37 +207,45 @@ impl<A: Allocator> Line<A> {
 
     /// Whether there is a first that the channel has not listed, and nobody spins.
     pub fn is_unattended(&self) -> bool
-        ensures { IsTrue result ↔ (IsSome self.now.first × (self.now.ticket ≡ None) × (self.now.spinning ≡ 0)) }
+        ensures { IsTrue result ↔ (IsSome self.now.first × (self.now.ticket ≡ None)
+            × (self.now.spinning ≡ 0)) }
     {
         self.first.is_some() && self.ticket.is_none() && self.spinning == 0
     }
 
     /// Wakes the first.
     pub fn wake_first(&self) {
-        if let Some((_, place)) = &self.first {
-            place.unpark();
+        if let Some((_, waiter)) = &self.first {
+            waiter.unpark();
         }
     }
 }
 
 impl<A: Allocator + Copy> Line<A> {
-    /// Has the channel list the first, where that has to wait: under its ticket where that is listed still.
+    /// Has the channel list the first, where that has to wait: under its ticket where that is
+    /// listed still.
     pub fn list_first<T, P: Ord>(&mut self, side: Side, core: &mut Core<T, P, A>) -> Listing
         ensures sleeps { result ≡ Listing.Listed → IsSome self.old.first × IsSome self.new.ticket }
         ensures listed { result ≡ Listing.Listed → IfSome self.old.first (λ first.
-            IsBlocked side core.old.state × Lists side self.old.ticket first.1 self.new.ticket core.old.state core.new.state) }
-        ensures waits { IsBlocked side core.old.state → IsSome self.old.first → result ≢ Listing.Free }
-        ensures free { result ≡ Listing.Free → (core.new.state ≡ core.old.state) × (self.new ≡ self.old) }
-        ensures refused { result ≡ Listing.Refused → IsBlocked side core.old.state × (self.new.ticket ≡ None) × (core.new.state ≡ record core.old.state { waiters = unlist self.old.ticket core.old.state.waiters }) }
+            IsBlocked side core.old.state
+            × Lists side self.old.ticket first.1 self.new.ticket core.old.state core.new.state) }
+        ensures waits { IsBlocked side core.old.state → IsSome self.old.first
+            → result ≢ Listing.Free }
+        ensures free { result ≡ Listing.Free → (core.new.state ≡ core.old.state)
+            × (self.new ≡ self.old) }
+        ensures refused { result ≡ Listing.Refused → IsBlocked side core.old.state
+            × (self.new.ticket ≡ None)
+            × (core.new.state
+            ≡ record core.old.state { waiters = unlist self.old.ticket core.old.state.waiters }) }
         ensures line { self.new ≡ record self.old { ticket = self.new.ticket } }
     {
         if !is_blocked(side, core) {
             return Listing::Free;
         }
-        let Some((_, place)) = &self.first else {
+        let Some((_, waiter)) = &self.first else {
             return Listing::Free;
         };
-        self.ticket = core.list(side, self.ticket, place);
+        self.ticket = core.list(side, self.ticket, waiter);
         match self.ticket {
             Some(_) => Listing::Listed,
             None => Listing::Refused,

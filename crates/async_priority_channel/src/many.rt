@@ -16,12 +16,13 @@ use std::marker::Model;
 use std::sync::Wait;
 
 impl<T, P: Ord, R: Wait + Clone, A: Allocator + Copy> Receiver<T, P, R, A> {
-    /// Receives up to `limit` messages at once, appends them to `batch`, the greatest priority first, and tells how many
-    /// came: as so many calls of `try_recv` that no other call comes between.
+    /// Receives up to `limit` messages at once, appends them to `batch`, the greatest priority
+    /// first, and tells how many came: as so many calls of `try_recv` that no other call comes
+    /// between.
     ///
-    /// The error is that of one receive, also with a `limit` of 0, or `Memory`, where there is no place for a first
-    /// message. Place for those that are pending is made before the lock is taken; where it is refused, as many come as
-    /// there is place for.
+    /// The error is that of one receive, also with a `limit` of 0, or `Memory`, where there is none
+    /// for a first message. Memory for those that are pending is reserved before the lock is taken;
+    /// where it is refused, as many come as there is capacity for.
     ///
     /// ```
     /// let mut jobs = Vec::new(rt.alloc());
@@ -36,10 +37,10 @@ impl<T, P: Ord, R: Wait + Clone, A: Allocator + Copy> Receiver<T, P, R, A> {
         ensures limited { IfOk result (IsWithin limit) }
         ensures unchanged { OnErr result (batch.new.items ≡ batch.old.items) }
     {
-        make_place(batch, limit, self.len());
-        let place = limit.min(batch.capacity() - batch.len());
+        reserve(batch, limit, self.len());
+        let most = limit.min(batch.capacity() - batch.len());
         let mut core = self.handle.lock();
-        let (received, wakes) = core.try_recv_many(batch, place);
+        let (received, wakes) = core.try_recv_many(batch, most);
         self.handle.release(core, wakes);
         match received {
             Ok(0) if limit > 0 => Err(TryRecvManyError::Memory),
@@ -48,10 +49,12 @@ impl<T, P: Ord, R: Wait + Clone, A: Allocator + Copy> Receiver<T, P, R, A> {
         }
     }
 
-    /// As `try_recv_many`, but waits for the first message on this thread, which sleeps meanwhile. With a `limit` of 0 it
-    /// does not wait. Its fault is one of those of `recv_blocking`, or `Memory` for the place in `batch`.
+    /// As `try_recv_many`, but waits for the first message on this thread, which sleeps meanwhile.
+    /// With a `limit` of 0 it does not wait. Its fault is one of those of `recv_blocking`, or
+    /// `Memory` for `batch`.
     ///
-    /// Where it has to wait, it receives the first message as it comes, and right after it what is there by then.
+    /// Where it has to wait, it receives the first message as it comes, and right after it what is
+    /// there by then.
     ///
     /// ```
     /// let count = rx.recv_many_blocking(&mut jobs, 64)?;
@@ -72,16 +75,19 @@ impl<T, P: Ord, R: Wait + Clone, A: Allocator + Copy> Receiver<T, P, R, A> {
         Ok(self.receive_with(first, batch, limit))
     }
 
-    // None where it has to wait for a first message, for which there is place then.
+    // None where it has to wait for a first message, for which there is capacity then.
     fn answer_at_once<B: Allocator>(
         &self,
         batch: &mut Vec<(T, P), B>,
         limit: usize,
     ) -> Option<Result<usize, RecvFault>>
-        ensures appended { IfSome result (λ answer. IfOk answer (Appends batch.old.items batch.new.items)) }
+        ensures appended { IfSome result (λ answer.
+            IfOk answer (Appends batch.old.items batch.new.items)) }
         ensures limited { IfSome result (λ answer. IfOk answer (IsWithin limit)) }
-        ensures unchanged { IfSome result (λ answer. OnErr answer (batch.new.items ≡ batch.old.items)) }
-        ensures waits { IfNone result ((batch.new.items ≡ batch.old.items) × (vec_len batch.new < vec_capacity batch.new) × (0 < limit)) }
+        ensures unchanged { IfSome result (λ answer.
+            OnErr answer (batch.new.items ≡ batch.old.items)) }
+        ensures waits { IfNone result ((batch.new.items ≡ batch.old.items)
+            × (vec_len batch.new < vec_capacity batch.new) × (0 < limit)) }
     {
         match self.try_recv_many(batch, limit) {
             Ok(count) => Some(Ok(count)),
@@ -99,14 +105,14 @@ impl<T, P: Ord, R: Wait + Clone, A: Allocator + Copy> Receiver<T, P, R, A> {
         }
     }
 
-    // The first message, for which there is place, and what is there behind it.
+    // The first message, for which there is capacity, and what is there behind it.
     fn receive_with<B: Allocator>(
         &self,
         first: (T, P),
         batch: &mut Vec<(T, P), B>,
         limit: usize,
     ) -> usize
-        requires place { vec_len batch.old < vec_capacity batch.old }
+        requires fits { vec_len batch.old < vec_capacity batch.old }
         requires positive { 0 < limit }
         ensures appended { Appends batch.old.items batch.new.items result }
         ensures limited { IsWithin limit result }
@@ -118,8 +124,8 @@ impl<T, P: Ord, R: Wait + Clone, A: Allocator + Copy> Receiver<T, P, R, A> {
         }
     }
 
-    /// As `recv_many_blocking`, as a future, which does nothing until it is polled. Dropped before it has answered, it
-    /// takes nothing.
+    /// As `recv_many_blocking`, as a future, which does nothing until it is polled. Dropped before
+    /// it has answered, it takes nothing.
     ///
     /// ```
     /// let count = block_on(&rt, rx.recv_many(&mut jobs, 64))??;
@@ -140,9 +146,9 @@ impl<T, P: Ord, R: Wait + Clone, A: Allocator + Copy> Receiver<T, P, R, A> {
     }
 }
 
-// Makes place for what is pending, as far as it is wanted, and for one at least, since it may come before the receive.
-// Where memory is refused, the place that is there has to do.
-fn make_place<X, B: Allocator>(batch: &mut Vec<X, B>, limit: usize, pending: u64)
+// Reserves for what is pending, as far as it is wanted, and for one at least, since it may come
+// before the receive. Where memory is refused, the capacity that is there has to do.
+fn reserve<X, B: Allocator>(batch: &mut Vec<X, B>, limit: usize, pending: u64)
     ensures { batch.new.items ≡ batch.old.items }
 {
     let wanted = usize::try_from(pending).unwrap_or(usize::MAX).max(1);
@@ -151,8 +157,8 @@ fn make_place<X, B: Allocator>(batch: &mut Vec<X, B>, limit: usize, pending: u64
 
 /// Receives many messages once there is one. `Receiver::recv_many` makes it.
 ///
-/// Polled again after its answer it is pending, changes nothing, and asks to be polled once more, so it should not be
-/// polled on.
+/// Polled again after its answer it is pending, changes nothing, and asks to be polled once more,
+/// so it should not be polled on.
 #[must_use = "a future does nothing until it is polled: `block_on`, or a call that ends in `_blocking`"]
 pub struct RecvMany<'a, T, P: Ord, B: Allocator, R: Wait + Clone, A: Allocator + Copy = Global> {
     receiver: &'a Receiver<T, P, R, A>,
@@ -167,7 +173,11 @@ impl<'a, T, P: Ord, B: Allocator, R: Wait + Clone, A: Allocator + Copy> Model
 
     ghost Value = { Batching };
 
-    ghost view = { λ f. record { channel = f.receiver.now; limit = f.limit; is_done = f.receives.has_ended } };
+    ghost view = { λ f. record {
+      channel = f.receiver.now;
+      limit = f.limit;
+      is_done = f.receives.has_ended;
+    } };
 }
 
 impl<T, P: Ord, B: Allocator, R: Wait + Clone, A: Allocator + Copy> Future
@@ -181,8 +191,10 @@ impl<T, P: Ord, B: Allocator, R: Wait + Clone, A: Allocator + Copy> Future
     fn poll(&mut self, cx: &mut Context<'_>) -> Poll<Result<usize, RecvFault>>
         ensures value { IfReady result (λ answer. IfOk answer (IsWithin self.old.limit)) }
         ensures again { OnPending result ⊤ }
-        ensures same { OnPending result ((x : Result ℕ RecvFault) → IfOk x (IsWithin self.new.limit) → IfOk x (IsWithin self.old.limit)) }
-        ensures registered { OnPending result (Covers cx.new (λ source. source ≡ self.new.channel.message)) }
+        ensures same { OnPending result ((x : Result ℕ RecvFault) → IfOk x (IsWithin self.new.limit)
+            → IfOk x (IsWithin self.old.limit)) }
+        ensures registered { OnPending result (Covers cx.new (λ source.
+            source ≡ self.new.channel.message)) }
         ensures kept { Keeps cx.old cx.new }
         ensures channel { self.new.channel ≡ self.old.channel }
         ensures answered { IfReady result (λ _. self.new.is_done ≡ true) }
@@ -211,10 +223,12 @@ fn poll_batch<T, P: Ord, B: Allocator, R: Wait + Clone, A: Allocator + Copy>(
     receives: &mut Receives<A>,
     cx: &mut Context<'_>,
 ) -> Poll<Result<usize, RecvFault>>
-    ensures appended { IfReady result (λ answer. IfOk answer (Appends batch.old.items batch.new.items)) }
+    ensures appended { IfReady result (λ answer. IfOk answer
+        (Appends batch.old.items batch.new.items)) }
     ensures limited { IfReady result (λ answer. IfOk answer (IsWithin limit)) }
     ensures unchanged { OnPending result (batch.new.items ≡ batch.old.items) }
-    ensures registered { OnPending result (Covers cx.new (λ source. source ≡ receiver.now.message)) }
+    ensures registered { OnPending result (Covers cx.new
+        (λ source. source ≡ receiver.now.message)) }
     ensures kept { Keeps cx.old cx.new }
     ensures answered { IfReady result (λ _. receives.new.has_ended ≡ true) }
     ensures waits { OnPending result (receives.new.has_ended ≡ receives.old.has_ended) }
@@ -232,7 +246,7 @@ fn poll_batch<T, P: Ord, B: Allocator, R: Wait + Clone, A: Allocator + Copy>(
     Poll::Ready(answer)
 }
 
-// A waker wakes as it is dropped, so the place goes after the lock.
+// A waker wakes as it is dropped, so the waiter goes after the lock.
 impl<T, P: Ord, B: Allocator, R: Wait + Clone, A: Allocator + Copy> Drop
     for RecvMany<'_, T, P, B, R, A> {
     fn drop(self) {

@@ -1,40 +1,43 @@
-//! The wait of a thread: it tries its call, each time in one hold of the channel's lock. Where that is blocked, it tries
-//! again for a while; then it joins the line of those who wait for the same, and sleeps until it is the first; and then the
-//! channel lists it, and it sleeps until it is handed out.
+//! The wait of a thread: it tries its call, each time in one hold of the channel's lock. Where that
+//! is blocked, it tries again for a while; then it joins the line of those who wait for the same,
+//! and sleeps until it is the first; and then the channel lists it, and it sleeps until it is
+//! handed out.
 ghost use Rattle.std.specs.Prelude.{IfErr, IfSome};
 ghost use Rattle.async_priority_channel.specs.Waits.{left_over, given_back};
 
 use crate::attempts::{Attempt, Outcome};
-use crate::kept_waker::KeptWaker;
 use crate::line::{Lead, Line, Listing, Queued};
 use crate::shared::Handle;
 use crate::timeouts::Ended;
 use crate::until::Until;
+use crate::waiter::Waiter;
 use crossbeam_utils::Backoff;
 use priority_channel_core::side::Side;
 use std::alloc::Allocator;
 use std::sync::{Wait, WaitMethods};
 
-// How often a call looks again before its thread sleeps: over 959 pauses of the processor, some ten microseconds, which is
-// about what a sleep and a wake take. It lets no other thread run between: where others keep the processors busy, it would
-// not run again for milliseconds.
+// How often a call looks again before its thread sleeps: over 959 pauses of the processor, some ten
+// microseconds, which is about what a sleep and a wake take. It lets no other thread run between:
+// where others keep the processors busy, it would not run again for milliseconds.
 const LOOKS: u32 = 20;
 
 impl<T, P: Ord, R: Wait + Clone, A: Allocator + Copy> Handle<T, P, R, A> {
-    /// Makes a call at once, in one hold of the lock and without memory for waiting; and where it is blocked, waits until
-    /// it is done or the time is over. The place is made where the thread has to wait, and is left for the next wait.
+    /// Makes a call at once, in one hold of the lock and without memory for waiting; and where it
+    /// is blocked, waits until it is done or the time is over. The waiter is made where the thread
+    /// has to wait, and is left for the next wait.
     pub fn wait<C: Attempt<T, P, A>, U: Until>(
         &self,
         call: C,
         until: &U,
-        place: &mut Option<KeptWaker<A>>,
+        waiter: &mut Option<Waiter<A>>,
     ) -> Result<C::Done, Ended<C, U::Over>>
         requires { C.can_attempt call }
-        ensures { IfErr result (λ ended. C.can_attempt (given_back ended) × C.leaves call (given_back ended)) }
+        ensures { IfErr result (λ ended. C.can_attempt (given_back ended)
+            × C.leaves call (given_back ended)) }
     {
         match self.attempt(call).answer() {
             Ok(answer) => answer,
-            Err(blocked) => self.wait_blocked(blocked, until, place),
+            Err(blocked) => self.wait_blocked(blocked, until, waiter),
         }
     }
 
@@ -52,21 +55,23 @@ impl<T, P: Ord, R: Wait + Clone, A: Allocator + Copy> Handle<T, P, R, A> {
         &self,
         call: C,
         until: &U,
-        place: &mut Option<KeptWaker<A>>,
+        waiter: &mut Option<Waiter<A>>,
     ) -> Result<C::Done, Ended<C, U::Over>>
         requires { C.can_attempt call }
-        ensures { IfErr result (λ ended. C.can_attempt (given_back ended) × C.leaves call (given_back ended)) }
+        ensures { IfErr result (λ ended. C.can_attempt (given_back ended)
+            × C.leaves call (given_back ended)) }
     {
         if let Err(over) = until.left() {
             return self.end_wait(call, over);
         }
         match self.spin(call).answer() {
             Ok(answer) => answer,
-            Err(blocked) => self.wait_in_line(blocked, until, place),
+            Err(blocked) => self.wait_in_line(blocked, until, waiter),
         }
     }
 
-    // Makes the call again for a while, where that was of use of late. Meanwhile the first in line is not listed.
+    // Makes the call again for a while, where that was of use of late. Meanwhile the first in line
+    // is not listed.
     fn spin<C: Attempt<T, P, A>>(&self, call: C) -> Outcome<C::Done, C>
         requires { C.can_attempt call }
         ensures { IfSome (left_over result) (λ rest. C.can_attempt rest × C.leaves call rest) }
@@ -114,7 +119,8 @@ impl<T, P: Ord, R: Wait + Clone, A: Allocator + Copy> Handle<T, P, R, A> {
         }
     }
 
-    // Where nothing would wake the first in line, the channel lists it, and it sleeps on, or it is woken.
+    // Where nothing would wake the first in line, the channel lists it, and it sleeps on, or it is
+    // woken.
     fn rouse(&self, side: Side, line: &mut Line<A>) {
         if !line.is_unattended() {
             return;
@@ -130,22 +136,23 @@ impl<T, P: Ord, R: Wait + Clone, A: Allocator + Copy> Handle<T, P, R, A> {
         &self,
         call: C,
         until: &U,
-        place: &mut Option<KeptWaker<A>>,
+        waiter: &mut Option<Waiter<A>>,
     ) -> Result<C::Done, Ended<C, U::Over>>
         requires { C.can_attempt call }
-        ensures { IfErr result (λ ended. C.can_attempt (given_back ended) × C.leaves call (given_back ended)) }
+        ensures { IfErr result (λ ended. C.can_attempt (given_back ended)
+            × C.leaves call (given_back ended)) }
     {
-        let Some(place) = self.place_in(place) else {
+        let Some(waiter) = self.waiter_in(waiter) else {
             return Err(Ended::Memory(call));
         };
         let side = C::side();
-        let joined = self.line(side).join(place);
+        let joined = self.line(side).join(waiter);
         let Ok(party) = joined else {
             return Err(Ended::Memory(call));
         };
-        match self.sleep_in_line(side, party, until, place) {
+        match self.sleep_in_line(side, party, until, waiter) {
             Ok(lead) => {
-                let answer = self.wait_as_first(call, until, place);
+                let answer = self.wait_as_first(call, until, waiter);
                 self.hand_on(side, lead);
                 answer
             }
@@ -159,7 +166,7 @@ impl<T, P: Ord, R: Wait + Clone, A: Allocator + Copy> Handle<T, P, R, A> {
         side: Side,
         party: Queued,
         until: &U,
-        place: &KeptWaker<A>,
+        waiter: &Waiter<A>,
     ) -> Result<Lead, U::Over> {
         let mut party = party;
         for _ in self.rt().forever() {
@@ -169,7 +176,7 @@ impl<T, P: Ord, R: Wait + Clone, A: Allocator + Copy> Handle<T, P, R, A> {
                 Err(waiting) => party = waiting,
             }
             match until.left() {
-                Ok(left) => place.park(self.rt(), left),
+                Ok(left) => waiter.park(self.rt(), left),
                 Err(over) => {
                     let left = self.line(side).leave(party);
                     match left {
@@ -187,10 +194,11 @@ impl<T, P: Ord, R: Wait + Clone, A: Allocator + Copy> Handle<T, P, R, A> {
         &self,
         call: C,
         until: &U,
-        place: &KeptWaker<A>,
+        waiter: &Waiter<A>,
     ) -> Result<C::Done, Ended<C, U::Over>>
         requires { C.can_attempt call }
-        ensures { IfErr result (λ ended. C.can_attempt (given_back ended) × C.leaves call (given_back ended)) }
+        ensures { IfErr result (λ ended. C.can_attempt (given_back ended)
+            × C.leaves call (given_back ended)) }
     {
         let side = C::side();
         let mut rest = call;
@@ -202,7 +210,7 @@ impl<T, P: Ord, R: Wait + Clone, A: Allocator + Copy> Handle<T, P, R, A> {
             let listing = self.line(side).list_first(side, &mut self.lock());
             match listing {
                 // It may wake early, or for what another one has taken by now.
-                Listing::Listed => place.park(self.rt(), left),
+                Listing::Listed => waiter.park(self.rt(), left),
                 Listing::Free => {}
                 Listing::Refused => return Err(Ended::Memory(rest)),
             }
@@ -240,7 +248,8 @@ impl<T, P: Ord, R: Wait + Clone, A: Allocator + Copy> Handle<T, P, R, A> {
         over: O,
     ) -> Result<C::Done, Ended<C, O>>
         requires { C.can_attempt call }
-        ensures { IfErr result (λ ended. C.can_attempt (given_back ended) × C.leaves call (given_back ended)) }
+        ensures { IfErr result (λ ended. C.can_attempt (given_back ended)
+            × C.leaves call (given_back ended)) }
     {
         match self.attempt(call) {
             Outcome::Done(done) => Ok(done),

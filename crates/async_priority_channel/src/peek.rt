@@ -6,11 +6,12 @@ use std::alloc::{AllocError, Allocator};
 use std::sync::Wait;
 
 impl<T, P: Ord, R: Wait + Clone, A: Allocator + Copy> Receiver<T, P, R, A> {
-    /// What `look` makes of the message and the priority that a receive would give, which stay pending; None where
-    /// nothing is pending. Another receiver may have taken them by the time of the answer.
+    /// What `look` makes of the message and the priority that a receive would give, which stay
+    /// pending; None where nothing is pending. Another receiver may have taken them by the time of
+    /// the answer.
     ///
-    /// `look` is called under the channel's lock: a call that it makes on the channel, or a handle of it that it drops,
-    /// waits for ever. Let it be short, since all others wait for it.
+    /// `look` is called under the channel's lock: a call that it makes on the channel, or a handle
+    /// of it that it drops, waits for ever. Let it be short, since all others wait for it.
     ///
     /// ```
     /// let is_due = rx.peek_with(|_, Reverse(due)| *due <= now);
@@ -19,7 +20,8 @@ impl<T, P: Ord, R: Wait + Clone, A: Allocator + Copy> Receiver<T, P, R, A> {
     where
         F: Drop,
         requires { F.IsAlwaysCallable look }
-        ensures { IfSome result (λ told. (msg : _) × (priority : _) × F.post look msg priority told) }
+        ensures { IfSome result (λ told. (msg : _) × (priority : _)
+            × F.post look msg priority told) }
     {
         let core = self.handle.lock();
         match core.peek() {
@@ -28,8 +30,8 @@ impl<T, P: Ord, R: Wait + Clone, A: Allocator + Copy> Receiver<T, P, R, A> {
         }
     }
 
-    /// A clone of the priority that a receive would give, which stays pending; None where nothing is pending. The error
-    /// is that the clone was refused. It is cloned under the channel's lock.
+    /// A clone of the priority that a receive would give, which stays pending; None where nothing
+    /// is pending. The error is that the clone was refused. It is cloned under the channel's lock.
     ///
     /// ```
     /// assert_eq!(rt; rx.peek_priority()?, Some(7));

@@ -1,7 +1,7 @@
 //! The handle that receives.
 ghost use Rattle.std.specs.Prelude.{◌≡◌};
 ghost use Rattle.priority_channel_core.specs.machine.OtherCalls.{capacity_told};
-ghost use Rattle.priority_channel_laws.specs.States.{unpolled};
+ghost use Rattle.priority_channel_laws.specs.Holding.{unpolled};
 
 use crate::shared::Handle;
 use crate::waiting::Recv;
@@ -12,7 +12,8 @@ use std::marker::Model;
 use std::random::RandomSource;
 use std::sync::Wait;
 
-/// Receives the messages of a channel, the greatest priority first, and the one accepted first among equals.
+/// Receives the messages of a channel, the greatest priority first, and the one accepted first
+/// among equals.
 ///
 /// | | at once | waits on its thread | for a limited time | for a task |
 /// |---|---|---|---|---|
@@ -21,22 +22,25 @@ use std::sync::Wait;
 /// | one after another | `try_iter` | `iter`, `for pair in &rx`, `for pair in rx` | | `stream`, `into_stream` |
 /// | a look | `peek_priority`, `peek_with` | | | |
 ///
-/// Beside them: `close`, `close_on_drop`, `downgrade`, `same_channel`, `clone`, and the looks `is_closed`, `is_empty`,
-/// `is_full`, `len`, `capacity`, `sender_count` and `receiver_count`.
+/// Beside them: `close`, `close_on_drop`, `downgrade`, `same_channel`, `clone`, and the looks
+/// `is_closed`, `is_empty`, `is_full`, `len`, `capacity`, `sender_count` and `receiver_count`.
 ///
-/// A call that answers at once takes the channel's lock for one step, and then wakes whom it lets go on: a receive wakes
-/// all tasks that wait for room, of which those that find none wait again, and the first of the threads that do. A call
-/// that waits makes such a step each time that it looks; on a thread it looks again for some microseconds before it
-/// sleeps, where that was of use of late. A receive of many looks at the length before. `capacity`, `same_channel`,
-/// `downgrade` and what makes a future, a stream, an iterator or a guard take no lock. A handle can be moved to other
-/// threads, lent to them, and cloned: each message goes to one receiver. The channel closes when its last receiver is
-/// dropped.
+/// A call that answers at once takes the channel's lock for one step, and then wakes whom it lets
+/// go on: a receive wakes all tasks that wait for room, of which those that find none wait again,
+/// and the first of the threads that do. A call that waits makes such a step each time that it
+/// looks; on a thread it looks again for some microseconds before it sleeps, where that was of use
+/// of late. A receive of many looks at the length before. `capacity`, `same_channel`, `downgrade`
+/// and what makes a future, a stream, an iterator or a guard take no lock. A handle can be moved to
+/// other threads, lent to them, and cloned: each message goes to one receiver. The channel closes
+/// when its last receiver is dropped.
 ///
-/// Of its user's code the channel calls under the lock the order of priorities, what `peek_with` is given, and the clone
-/// of a priority that `peek_priority` makes. These must neither use the channel nor own a handle of it.
+/// Of its user's code the channel calls under the lock the order of priorities, what `peek_with` is
+/// given, and the clone of a priority that `peek_priority` makes. These must neither use the
+/// channel nor own a handle of it.
 ///
-/// What is pending then stays in memory as long as there is a handle of the channel, and with it what the messages own: a
-/// client that waits for the answer to a request that nobody will receive waits for ever. `close_on_drop` lets it go.
+/// What is pending then stays in memory as long as there is a handle of the channel, and with it
+/// what the messages own: a client that waits for the answer to a request that nobody will receive
+/// waits for ever. `close_on_drop` lets it go.
 pub struct Receiver<T, P: Ord, R: Wait + Clone, A: Allocator + Copy = Global> {
     pub(crate) handle: Handle<T, P, R, A>,
 }
@@ -50,9 +54,10 @@ impl<T, P: Ord, R: Wait + Clone, A: Allocator + Copy> Model for Receiver<T, P, R
 }
 
 impl<T: Drop, P: Ord + Drop, R: Wait + Clone, A: Allocator + Copy> Receiver<T, P, R, A> {
-    /// Receives a message as soon as there is one: a future, which does nothing until it is polled. Dropped before it
-    /// has answered, it takes nothing. Its fault is `Closed`, where none can come any more, or `Memory` where memory was
-    /// refused, also for the place for its waker, for which its first poll asks.
+    /// Receives a message as soon as there is one: a future, which does nothing until it is polled.
+    /// Dropped before it has answered, it takes nothing. Its fault is `Closed`, where none can come
+    /// any more, or `Memory` where memory was refused, also for what keeps its waker, for which the
+    /// first poll that waits asks.
     ///
     /// Of the two `?` below the first is for `block_on`, and the second for the fault.
     ///
@@ -68,11 +73,12 @@ impl<T: Drop, P: Ord + Drop, R: Wait + Clone, A: Allocator + Copy> Receiver<T, P
 }
 
 impl<T, P: Ord, R: Wait + Clone, A: Allocator + Copy> Receiver<T, P, R, A> {
-    /// Receives a message at once, with its priority. The error is `Empty` where none is pending, and `Closed` where
-    /// none can come any more; what is pending in a closed channel is still received.
+    /// Receives a message at once, with its priority. The error is `Empty` where none is pending,
+    /// and `Closed` where none can come any more; what is pending in a closed channel is still
+    /// received.
     ///
-    /// It compares priorities as often as the core's call does: at most twice as often as the number of pending messages
-    /// has binary digits.
+    /// It compares priorities as often as the core's call does: at most twice as often as the
+    /// number of pending messages has binary digits.
     ///
     /// ```
     /// match rx.try_recv() {
@@ -88,8 +94,8 @@ impl<T, P: Ord, R: Wait + Clone, A: Allocator + Copy> Receiver<T, P, R, A> {
         received
     }
 
-    /// Closes the channel for good, and tells whether it was open. What is pending can still be received. All who wait
-    /// are woken.
+    /// Closes the channel for good, and tells whether it was open. What is pending can still be
+    /// received. All who wait are woken.
     ///
     /// ```
     /// assert!(rt; rx.close());
@@ -99,7 +105,8 @@ impl<T, P: Ord, R: Wait + Clone, A: Allocator + Copy> Receiver<T, P, R, A> {
         self.handle.close()
     }
 
-    /// Whether the channel is closed, by a call of `close` or by the drop of the last sender or receiver.
+    /// Whether the channel is closed, by a call of `close` or by the drop of the last sender or
+    /// receiver.
     pub fn is_closed(&self) -> bool {
         self.handle.is_closed()
     }
@@ -119,7 +126,8 @@ impl<T, P: Ord, R: Wait + Clone, A: Allocator + Copy> Receiver<T, P, R, A> {
         self.handle.len()
     }
 
-    /// How many messages may be pending at a time; None where the capacity is `u64::MAX`. It takes no lock.
+    /// How many messages may be pending at a time; None where the capacity is `u64::MAX`. It takes
+    /// no lock.
     pub fn capacity(&self) -> Option<u64>
         ensures { result ≡ capacity_told self.now.capacity }
     {
@@ -128,8 +136,8 @@ impl<T, P: Ord, R: Wait + Clone, A: Allocator + Copy> Receiver<T, P, R, A> {
 
     /// Whether the other is a receiver of the same channel.
     ///
-    /// A channel draws 128 random bits where it is compared for the first time, and is known by them: so the permission has
-    /// to be a `RandomSource` too.
+    /// A channel draws 128 random bits where it is compared for the first time, and is known by
+    /// them: so the permission has to be a `RandomSource` too.
     pub fn same_channel(&self, other: &Receiver<T, P, R, A>) -> bool
     where
         R: RandomSource,
@@ -148,8 +156,8 @@ impl<T, P: Ord, R: Wait + Clone, A: Allocator + Copy> Receiver<T, P, R, A> {
     }
 }
 
-/// A further receiver of the channel. Refused where there are more than `usize::MAX / 2`, or for want of memory; the
-/// count is then as it was.
+/// A further receiver of the channel. Refused where there are more than `usize::MAX / 2`, or for
+/// want of memory; the count is then as it was.
 impl<T: Drop, P: Ord + Drop, R: Wait + Clone, A: Allocator + Copy> Clone for Receiver<T, P, R, A> {
     ghost use Rattle.async_priority_channel.specs.Handles.{SameChannel};
 
@@ -183,7 +191,8 @@ impl<T: Drop, P: Ord + Drop, R: Wait + Clone, A: Allocator + Copy> Drop for Rece
     }
 }
 
-// Drops what is pending in a channel without receivers, each message after the lock is free, since it may use the channel.
+// Drops what is pending in a channel without receivers, each message after the lock is free, since
+// it may use the channel.
 fn let_go<T: Drop, P: Ord + Drop, R: Wait + Clone, A: Allocator + Copy>(
     handle: &Handle<T, P, R, A>,
 ) {

@@ -2,9 +2,9 @@
 ghost use Rattle.std.specs.Prelude.{◌≡◌, IfErr};
 ghost use Rattle.std.specs.Iterator.Adapters.{peekable_can};
 ghost use Rattle.priority_channel_core.specs.code.Lists.{HasList};
-ghost use Rattle.priority_channel_parts.specs.Errors.{refused};
+ghost use Rattle.priority_channel_parts.specs.Errors.{rest_of};
 ghost use Rattle.priority_channel_core.specs.machine.OtherCalls.{capacity_told};
-ghost use Rattle.priority_channel_laws.specs.States.{HoldsTail, unpolled};
+ghost use Rattle.priority_channel_laws.specs.Holding.{HoldsTail, unpolled};
 
 use crate::shared::Handle;
 use crate::waiting::{Send, Sendv};
@@ -23,18 +23,19 @@ use std::sync::Wait;
 /// | a message | `try_send` | `send_blocking` | `send_timeout`, `send_deadline` | `send` |
 /// | many messages | `try_sendv` | `sendv_blocking` | `sendv_timeout`, `sendv_deadline` | `sendv` |
 ///
-/// Beside them: `close`, `close_on_drop`, `downgrade`, `same_channel`, `clone`, and the looks `is_closed`, `is_empty`,
-/// `is_full`, `len`, `capacity`, `sender_count` and `receiver_count`.
+/// Beside them: `close`, `close_on_drop`, `downgrade`, `same_channel`, `clone`, and the looks
+/// `is_closed`, `is_empty`, `is_full`, `len`, `capacity`, `sender_count` and `receiver_count`.
 ///
-/// A call that answers at once takes the channel's lock for one step, and then wakes whom it lets go on: a message wakes
-/// all tasks that wait for one, of which those that find nothing wait again, and the first of the threads that do. A call
-/// that waits makes such a step each time that it looks; on a thread it looks again for some microseconds before it sleeps,
-/// where that was of use of late. `capacity`, `same_channel`, `downgrade` and what makes a future or a guard take no
-/// lock. A handle can be moved to other threads, lent to them, and cloned; the channel closes when its last sender is
-/// dropped.
+/// A call that answers at once takes the channel's lock for one step, and then wakes whom it lets
+/// go on: a message wakes all tasks that wait for one, of which those that find nothing wait again,
+/// and the first of the threads that do. A call that waits makes such a step each time that it
+/// looks; on a thread it looks again for some microseconds before it sleeps, where that was of use
+/// of late. `capacity`, `same_channel`, `downgrade` and what makes a future or a guard take no
+/// lock. A handle can be moved to other threads, lent to them, and cloned; the channel closes when
+/// its last sender is dropped.
 ///
-/// Of its user's code the channel calls under the lock the order of priorities, and the iterator of a bulk send and its
-/// drop. These must neither use the channel nor own a handle of it.
+/// Of its user's code the channel calls under the lock the order of priorities, and the iterator of
+/// a bulk send and its drop. These must neither use the channel nor own a handle of it.
 pub struct Sender<T, P: Ord, R: Wait + Clone, A: Allocator + Copy = Global> {
     pub(crate) handle: Handle<T, P, R, A>,
 }
@@ -48,12 +49,12 @@ impl<T, P: Ord, R: Wait + Clone, A: Allocator + Copy> Model for Sender<T, P, R, 
 }
 
 impl<T: Drop, P: Ord + Drop, R: Wait + Clone, A: Allocator + Copy> Sender<T, P, R, A> {
-    /// Sends as many messages as there is room for, in one step, and gives back the rest: `Closed` where the channel is
-    /// closed, `Full` where there was no more room, and `Memory` where none could be made. What was sent stays sent, and
-    /// the rest can be sent again.
+    /// Sends as many messages as there is room for, in one step, and gives back the rest: `Closed`
+    /// where the channel is closed, `Full` where there was no more room, and `Memory` where none
+    /// could be made. What was sent stays sent, and the rest can be sent again.
     ///
-    /// The iterator is called under the channel's lock, and where all was sent it is dropped there: a call that it makes
-    /// on the channel, or a handle of it that it drops, waits for ever.
+    /// The iterator is called under the channel's lock, and where all was sent it is dropped there:
+    /// a call that it makes on the channel, or a handle of it that it drops, waits for ever.
     ///
     /// ```
     /// let jobs = vec![in rt.alloc(); ("compile", 2), ("link", 1)]?;
@@ -64,8 +65,9 @@ impl<T: Drop, P: Ord + Drop, R: Wait + Clone, A: Allocator + Copy> Sender<T, P, 
         msgs: Peekable<I>,
     ) -> Result<(), TrySendError<Peekable<I>>>
         requires { peekable_can I.can_next msgs }
-        ensures tail { IfErr result (λ error. HoldsTail (HasList I.next_gives) msgs (refused error)) }
-        ensures callable { IfErr result (λ error. peekable_can I.can_next (refused error)) }
+        ensures tail { IfErr result (λ error. HoldsTail (HasList I.next_gives) msgs
+            (rest_of error)) }
+        ensures callable { IfErr result (λ error. peekable_can I.can_next (rest_of error)) }
     {
         let mut core = self.handle.lock();
         let (sent, wakes) = core.try_sendv(msgs);
@@ -73,9 +75,10 @@ impl<T: Drop, P: Ord + Drop, R: Wait + Clone, A: Allocator + Copy> Sender<T, P, 
         sent
     }
 
-    /// Sends a message as soon as there is room: a future, which does nothing until it is polled. Dropped before it has
-    /// answered, it sends nothing. Its fault is `Closed`, or `Memory` where memory was refused, also for the place for
-    /// its waker, for which its first poll asks; either gives the message back.
+    /// Sends a message as soon as there is room: a future, which does nothing until it is polled.
+    /// Dropped before it has answered, it sends nothing. Its fault is `Closed`, or `Memory` where
+    /// memory was refused, also for what keeps its waker, for which the first poll that waits asks;
+    /// either gives the message back.
     ///
     /// Of the two `?` below the first is for `block_on`, and the second for the fault.
     ///
@@ -89,9 +92,10 @@ impl<T: Drop, P: Ord + Drop, R: Wait + Clone, A: Allocator + Copy> Sender<T, P, 
         Send::new(self, msg, priority)
     }
 
-    /// Sends all messages, as there is room: a future, which sends a front at each poll and waits with the rest. What it
-    /// sent stays sent, also where it is dropped or ends in a fault, which is one of those of `send` and gives back the
-    /// rest. The iterator is called and dropped as by `try_sendv`.
+    /// Sends all messages, as there is room: a future, which sends a front at each poll and waits
+    /// with the rest. What it sent stays sent, also where it is dropped or ends in a fault, which
+    /// is one of those of `send` and gives back the rest. The iterator is called and dropped as by
+    /// `try_sendv`.
     ///
     /// ```
     /// let jobs = vec![in rt.alloc(); ("compile", 2), ("link", 1)]?;
@@ -110,11 +114,11 @@ impl<T: Drop, P: Ord + Drop, R: Wait + Clone, A: Allocator + Copy> Sender<T, P, 
 }
 
 impl<T, P: Ord, R: Wait + Clone, A: Allocator + Copy> Sender<T, P, R, A> {
-    /// Sends a message at once, or gives it back: `Closed` where the channel is closed, `Full` where it has no room,
-    /// and `Memory` where none could be made.
+    /// Sends a message at once, or gives it back: `Closed` where the channel is closed, `Full`
+    /// where it has no room, and `Memory` where none could be made.
     ///
-    /// It compares priorities as often as the core's call does: at most as often as the number of pending messages, with
-    /// this one, has binary digits.
+    /// It compares priorities as often as the core's call does: at most as often as the number of
+    /// pending messages, with this one, has binary digits.
     ///
     /// ```
     /// if let Err(TrySendError::Full((job, priority))) = tx.try_send(job, 7) {
@@ -122,7 +126,7 @@ impl<T, P: Ord, R: Wait + Clone, A: Allocator + Copy> Sender<T, P, R, A> {
     /// }
     /// ```
     pub fn try_send(&self, msg: T, priority: P) -> Result<(), TrySendError<(T, P)>>
-        ensures { IfErr result (λ error. refused error ≡ (msg, priority)) }
+        ensures { IfErr result (λ error. rest_of error ≡ (msg, priority)) }
     {
         let mut core = self.handle.lock();
         let (sent, wakes) = core.try_send(msg, priority);
@@ -130,8 +134,8 @@ impl<T, P: Ord, R: Wait + Clone, A: Allocator + Copy> Sender<T, P, R, A> {
         sent
     }
 
-    /// Closes the channel for good, and tells whether it was open. What is pending can still be received. All who wait
-    /// are woken.
+    /// Closes the channel for good, and tells whether it was open. What is pending can still be
+    /// received. All who wait are woken.
     ///
     /// ```
     /// assert!(rt; tx.close());
@@ -141,7 +145,8 @@ impl<T, P: Ord, R: Wait + Clone, A: Allocator + Copy> Sender<T, P, R, A> {
         self.handle.close()
     }
 
-    /// Whether the channel is closed, by a call of `close` or by the drop of the last sender or receiver.
+    /// Whether the channel is closed, by a call of `close` or by the drop of the last sender or
+    /// receiver.
     pub fn is_closed(&self) -> bool {
         self.handle.is_closed()
     }
@@ -161,7 +166,8 @@ impl<T, P: Ord, R: Wait + Clone, A: Allocator + Copy> Sender<T, P, R, A> {
         self.handle.len()
     }
 
-    /// How many messages may be pending at a time; None where the capacity is `u64::MAX`. It takes no lock.
+    /// How many messages may be pending at a time; None where the capacity is `u64::MAX`. It takes
+    /// no lock.
     pub fn capacity(&self) -> Option<u64>
         ensures { result ≡ capacity_told self.now.capacity }
     {
@@ -170,8 +176,8 @@ impl<T, P: Ord, R: Wait + Clone, A: Allocator + Copy> Sender<T, P, R, A> {
 
     /// Whether the other is a sender of the same channel.
     ///
-    /// A channel draws 128 random bits where it is compared for the first time, and is known by them: so the permission has
-    /// to be a `RandomSource` too.
+    /// A channel draws 128 random bits where it is compared for the first time, and is known by
+    /// them: so the permission has to be a `RandomSource` too.
     pub fn same_channel(&self, other: &Sender<T, P, R, A>) -> bool
     where
         R: RandomSource,
@@ -190,8 +196,8 @@ impl<T, P: Ord, R: Wait + Clone, A: Allocator + Copy> Sender<T, P, R, A> {
     }
 }
 
-/// A further sender of the channel. Refused where there are more than `usize::MAX / 2`, or for want of memory; the
-/// count is then as it was.
+/// A further sender of the channel. Refused where there are more than `usize::MAX / 2`, or for want
+/// of memory; the count is then as it was.
 impl<T: Drop, P: Ord + Drop, R: Wait + Clone, A: Allocator + Copy> Clone for Sender<T, P, R, A> {
     ghost use Rattle.async_priority_channel.specs.Handles.{SameChannel};
 

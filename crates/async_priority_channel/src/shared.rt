@@ -1,15 +1,16 @@
 //! What the handles of a channel share, and the calls that both kinds of handle make.
 //!
-//! The small calls of the hot path are inlined by force: their answers would go through memory, and be read back at once.
+//! The small calls of the hot path are inlined by force: their answers would go through memory, and
+//! be read back at once.
 ghost use Rattle.std.specs.Prelude.{◌≡◌, IfOk, IsSome};
 ghost use Rattle.futures.specs.Task.{Hears, IsArmed, Keeps};
 ghost use Rattle.priority_channel_core.specs.machine.State.{opening};
 ghost use Rattle.priority_channel_core.specs.machine.OtherCalls.{capacity_told};
 ghost use Rattle.async_priority_channel.specs.Handles.{source_of};
 
-use crate::kept_waker::{KeptWaker, wake_all};
 use crate::line::Line;
 use crate::spins::Spins;
+use crate::waiter::{Waiter, wake_all};
 use futures::task::{Context, Source};
 use priority_channel_core::awaitable_atomics::Wakes;
 use priority_channel_core::channel::PriorityQueueChannel;
@@ -20,7 +21,7 @@ use std::random::RandomSource;
 use std::sync::atomic::{AtomicBool, Ordering};
 use std::sync::{Arc, Mutex, MutexGuard, OnceLock, Wait, WaitMethods};
 
-pub type Core<T, P, A> = PriorityQueueChannel<T, P, KeptWaker<A>, A>;
+pub type Core<T, P, A> = PriorityQueueChannel<T, P, Waiter<A>, A>;
 
 /// Where those wait who wait for the same: tasks at a source, and threads in a line.
 #[derive(Drop)]
@@ -133,10 +134,10 @@ impl<T, P: Ord, R: Wait + Clone, A: Allocator + Copy> Handle<T, P, R, A> {
         self.shared.core.lock(&self.rt)
     }
 
-    /// Frees the lock, and then wakes those whom the call in this hold handed out. Nothing else wakes them, so none is
-    /// woken under the lock.
+    /// Frees the lock, and then wakes those whom the call in this hold handed out. Nothing else
+    /// wakes them, so none is woken under the lock.
     #[inline(always)]
-    pub fn release(&self, core: MutexGuard<'_, Core<T, P, A>>, wakes: Wakes<KeptWaker<A>, A>) {
+    pub fn release(&self, core: MutexGuard<'_, Core<T, P, A>>, wakes: Wakes<Waiter<A>, A>) {
         drop(core);
         wake_all(&self.rt, wakes);
     }
@@ -176,25 +177,26 @@ impl<T, P: Ord, R: Wait + Clone, A: Allocator + Copy> Handle<T, P, R, A> {
         &self.rt
     }
 
-    /// The place of a party, which is made where it waits for the first time. None where it was refused.
-    pub fn place_in<'k>(&self, place: &'k mut Option<KeptWaker<A>>) -> Option<&'k KeptWaker<A>> {
-        if place.is_none() {
-            *place = Some(KeptWaker::new(self.shared.alloc).ok()?);
+    /// The waiter of a party, which is made where it waits for the first time. None where memory
+    /// was refused.
+    pub fn waiter_in<'k>(&self, waiter: &'k mut Option<Waiter<A>>) -> Option<&'k Waiter<A>> {
+        if waiter.is_none() {
+            *waiter = Some(Waiter::new(self.shared.alloc).ok()?);
         }
-        place.as_ref()
+        waiter.as_ref()
     }
 
-    /// Leaves the task's waker in a future's place. None where the place or the waker was refused.
+    /// Leaves the task's waker in a future's waiter. None where either was refused.
     pub fn register<'k>(
         &self,
         cx: &mut Context<'_>,
         source: &Source,
-        place: &'k mut Option<KeptWaker<A>>,
-    ) -> Option<&'k KeptWaker<A>>
+        waiter: &'k mut Option<Waiter<A>>,
+    ) -> Option<&'k Waiter<A>>
         ensures heard { IsSome result → IsArmed cx.new × Hears cx.new source.now.id }
         ensures kept { Keeps cx.old cx.new }
     {
-        let kept = self.place_in(place)?;
+        let kept = self.waiter_in(waiter)?;
         if kept.register(&self.rt, cx, source) {
             Some(kept)
         } else {
@@ -211,8 +213,8 @@ impl<T, P: Ord, R: Wait + Clone, A: Allocator + Copy> Handle<T, P, R, A> {
         self.shared.lets_go.load(Ordering::SeqCst)
     }
 
-    /// Whether both are parts in one channel. The language compares no pointers into two blocks, so each channel has 128
-    /// random bits, which two channels share with a chance of 2^-128.
+    /// Whether both are parts in one channel. The language compares no pointers into two blocks, so
+    /// each channel has 128 random bits, which two channels share with a chance of 2^-128.
     pub fn is_same(&self, other: &Self) -> bool
     where
         R: RandomSource,

@@ -1,7 +1,8 @@
 //! Whether a thread that has to wait looks again for a while before it sleeps.
 //!
-//! What it waits for often comes sooner than a sleep and a wake would take. But where it does not, as on one processor,
-//! the looks are lost. So they are made as long as enough of them find something.
+//! What it waits for often comes sooner than a sleep and a wake would take. But where it does not,
+//! as on one processor, the looks are lost. So they are made as long as enough of them find
+//! something.
 use std::sync::atomic::{AtomicI32, Ordering};
 
 // How many waits may spin in vain at most, before no more do.
@@ -13,7 +14,8 @@ const GAIN: i32 = 2;
 // How many waits do not spin, then, before one tries whether that has changed.
 const PAUSE: i32 = 128;
 
-/// How often spinning found something of late. Threads that change it at once may lose a change, which does no harm.
+/// How often spinning found something of late. Threads that change it at once may lose a change,
+/// which does no harm.
 #[derive(Drop)]
 pub struct Spins {
     // Above zero so many waits may spin in vain, and else so many more do not spin.

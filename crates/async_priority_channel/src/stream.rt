@@ -7,20 +7,21 @@ ghost use Rattle.async_priority_channel.specs.Handles.{MayYield};
 ghost use Rattle.async_priority_channel.specs.Waits.{OnBlocked};
 
 use crate::attempts::{Attempt, Outcome, Receive};
-use crate::kept_waker::KeptWaker;
 use crate::receiver::Receiver;
 use crate::shared::{Core, Handle};
+use crate::waiter::Waiter;
 use futures::Stream;
 use futures::task::{Context, Poll};
 use std::alloc::{Allocator, Global};
 use std::marker::Model;
 use std::sync::Wait;
 
-/// The receives of a task: the ticket of the one that waits, the place of the task, and whether they have ended.
+/// The receives of a task: the ticket of the one that waits, the task's waiter, and whether they
+/// have ended.
 #[derive(Drop)]
 pub struct Receives<A: Allocator> {
     ticket: Option<u64>,
-    place: Option<KeptWaker<A>>,
+    waiter: Option<Waiter<A>>,
     has_ended: bool,
 }
 
@@ -30,7 +31,7 @@ impl<A: Allocator + Copy> Receives<A> {
     {
         Receives {
             ticket: None,
-            place: None,
+            waiter: None,
             has_ended: false,
         }
     }
@@ -40,10 +41,12 @@ impl<A: Allocator + Copy> Receives<A> {
         handle: &Handle<T, P, R, A>,
         cx: &mut Context<'_>,
     ) -> Poll<Option<(T, P)>>
-        ensures registered { OnPending result (Covers cx.new (λ source. source ≡ handle.now.message)) }
+        ensures registered { OnPending result (Covers cx.new (λ source.
+            source ≡ handle.now.message)) }
         ensures kept { Keeps cx.old cx.new }
         ensures ended { IfReady result (λ next. next ≡ None → self.new.has_ended ≡ true) }
-        ensures goes_on { IfReady result (λ next. OnSome next (self.new.has_ended ≡ self.old.has_ended)) }
+        ensures goes_on { IfReady result (λ next. OnSome next
+            (self.new.has_ended ≡ self.old.has_ended)) }
         ensures waits { OnPending result (self.new.has_ended ≡ self.old.has_ended) }
         ensures stays_ended { self.old.has_ended ≡ true → result ≡ Poll.Ready None }
     {
@@ -82,21 +85,22 @@ impl<A: Allocator + Copy> Receives<A> {
         outcome
     }
 
-    /// Receives, or waits in the task's place, where nothing was there before.
+    /// Receives, or waits in the task, where nothing was there before.
     pub fn wait<T, P: Ord, R: Wait + Clone>(
         &mut self,
         handle: &Handle<T, P, R, A>,
         cx: &mut Context<'_>,
     ) -> Outcome<(T, P), Receive>
-        ensures registered { OnBlocked result (Covers cx.new (λ source. source ≡ handle.now.message)) }
+        ensures registered { OnBlocked result (Covers cx.new (λ source.
+            source ≡ handle.now.message)) }
         ensures kept { Keeps cx.old cx.new }
         ensures same { self.new.has_ended ≡ self.old.has_ended }
     {
-        let Some(place) = handle.register(cx, handle.message(), &mut self.place) else {
+        let Some(waiter) = handle.register(cx, handle.message(), &mut self.waiter) else {
             return Outcome::Memory(Receive);
         };
         let mut core = handle.lock();
-        let (outcome, wakes) = Receive.poll_on(&mut core, &mut self.ticket, place);
+        let (outcome, wakes) = Receive.poll_on(&mut core, &mut self.ticket, waiter);
         handle.release(core, wakes);
         outcome
     }
@@ -123,7 +127,7 @@ impl<A: Allocator + Copy> Receives<A> {
         self.has_ended
     }
 
-    /// Nobody waits any more. A waker wakes as it is dropped, so the place goes after the lock.
+    /// Nobody waits any more. A waker wakes as it is dropped, so the waiter goes after the lock.
     pub fn end<T, P: Ord, R: Wait + Clone>(self, handle: &Handle<T, P, R, A>) {
         let mut receives = self;
         receives.give_up_on(&mut handle.lock());
@@ -131,12 +135,12 @@ impl<A: Allocator + Copy> Receives<A> {
     }
 }
 
-/// The messages of a channel as a stream, which ends for good where the channel is closed and empty. `Receiver::stream`
-/// makes it.
+/// The messages of a channel as a stream, which ends for good where the channel is closed and
+/// empty. `Receiver::stream` makes it.
 ///
-/// What is there is received at once, in one hold of the lock and without memory. To wait takes a place for the task's
-/// waker, which is kept over all waits, and one in the list of those who wait; where either is refused, the task asks to
-/// be polled again at once.
+/// What is there is received at once, in one hold of the lock and without memory. To wait takes
+/// memory for the task's waker, which is kept over all waits, and one in the list of those who
+/// wait; where either is refused, the task asks to be polled again at once.
 #[must_use = "a stream does nothing until it is polled: `block_on`, or `for pair in &rx`"]
 pub struct RecvStream<'a, T, P: Ord, R: Wait + Clone, A: Allocator + Copy = Global> {
     receiver: &'a Receiver<T, P, R, A>,
@@ -160,11 +164,14 @@ impl<T, P: Ord, R: Wait + Clone, A: Allocator + Copy> Stream for RecvStream<'_, 
 
     fn poll_next(&mut self, cx: &mut Context<'_>) -> Poll<Option<(T, P)>>
         ensures value { IfReady result (MayYield self.old []) }
-        ensures rest { IfReady result (λ next. IfSome next (λ pair. After (MayYield self.old) pair (MayYield self.new))) }
+        ensures rest { IfReady result (λ next. IfSome next
+            (λ pair. After (MayYield self.old) pair (MayYield self.new))) }
         ensures goes { IfReady result (λ next. OnSome next ⊤) }
         ensures again { OnPending result ⊤ }
-        ensures same { OnPending result (Within (MayYield {X = T × P} self.old) (MayYield self.new)) }
-        ensures registered { OnPending result (Covers cx.new (λ source. source ≡ self.new.channel.message)) }
+        ensures same { OnPending result (Within (MayYield {X = T × P} self.old)
+            (MayYield self.new)) }
+        ensures registered { OnPending result (Covers cx.new (λ source.
+            source ≡ self.new.channel.message)) }
         ensures kept { Keeps cx.old cx.new }
         ensures channel { self.new.channel ≡ self.old.channel }
         ensures ended { IfReady result (λ next. next ≡ None → self.new.has_ended ≡ true) }
@@ -184,7 +191,8 @@ impl<T, P: Ord, R: Wait + Clone, A: Allocator + Copy> Drop for RecvStream<'_, T,
     }
 }
 
-/// As `RecvStream`, with a receiver of its own, which goes with it: a task can take it. `Receiver::into_stream` makes it.
+/// As `RecvStream`, with a receiver of its own, which goes with it: a task can take it.
+/// `Receiver::into_stream` makes it.
 #[must_use = "a stream does nothing until it is polled: `block_on`, or `for pair in rx`"]
 pub struct IntoStream<T, P: Ord, R: Wait + Clone, A: Allocator + Copy = Global> {
     receiver: Receiver<T, P, R, A>,
@@ -209,11 +217,14 @@ impl<T: Drop, P: Ord + Drop, R: Wait + Clone, A: Allocator + Copy> Stream
 
     fn poll_next(&mut self, cx: &mut Context<'_>) -> Poll<Option<(T, P)>>
         ensures value { IfReady result (MayYield self.old []) }
-        ensures rest { IfReady result (λ next. IfSome next (λ pair. After (MayYield self.old) pair (MayYield self.new))) }
+        ensures rest { IfReady result (λ next. IfSome next
+            (λ pair. After (MayYield self.old) pair (MayYield self.new))) }
         ensures goes { IfReady result (λ next. OnSome next ⊤) }
         ensures again { OnPending result ⊤ }
-        ensures same { OnPending result (Within (MayYield {X = T × P} self.old) (MayYield self.new)) }
-        ensures registered { OnPending result (Covers cx.new (λ source. source ≡ self.new.channel.message)) }
+        ensures same { OnPending result (Within (MayYield {X = T × P} self.old)
+            (MayYield self.new)) }
+        ensures registered { OnPending result (Covers cx.new (λ source.
+            source ≡ self.new.channel.message)) }
         ensures kept { Keeps cx.old cx.new }
         ensures channel { self.new.channel ≡ self.old.channel }
         ensures ended { IfReady result (λ next. next ≡ None → self.new.has_ended ≡ true) }
@@ -234,7 +245,8 @@ impl<T: Drop, P: Ord + Drop, R: Wait + Clone, A: Allocator + Copy> Drop for Into
 }
 
 impl<T, P: Ord, R: Wait + Clone, A: Allocator + Copy> Receiver<T, P, R, A> {
-    /// The messages as a stream of the kit's `futures`, which ends where the channel is closed and empty.
+    /// The messages as a stream of the kit's `futures`, which ends where the channel is closed and
+    /// empty.
     ///
     /// ```
     /// let pairs = block_on(&rt, rx.stream().take(10).collect(rt.alloc()))??;

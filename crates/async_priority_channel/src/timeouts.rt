@@ -1,6 +1,7 @@
 //! Why a call that waits on its thread has ended in vain.
 //!
-//! The error of a send holds what was to be sent. `{}` and `{:?}` print nothing of that, so its type need not print.
+//! The error of a send holds what was to be sent. `{}` and `{:?}` print nothing of that, so its
+//! type need not print.
 ghost use Rattle.std.specs.Prelude.{◌≡◌, ◌↔◌, IsTrue, Some};
 ghost use Rattle.async_priority_channel.specs.Waits.{given_back, unsent_in_time};
 
@@ -21,7 +22,8 @@ impl<T> From<Ended<T, Infallible>> for SendFault<T> {
     ghost use Rattle.priority_channel_parts.specs.Errors.{unsent};
     ghost use Rattle.async_priority_channel.specs.Waits.{TellsSendFault};
 
-    ghost from_gives = { λ ended fault. TellsSendFault ended fault × (unsent fault ≡ given_back ended) };
+    ghost from_gives = { λ ended fault. TellsSendFault ended fault
+        × (unsent fault ≡ given_back ended) };
 
     fn from(ended: Ended<T, Infallible>) -> Self {
         match ended {
@@ -100,7 +102,8 @@ impl<T> SendTimeoutError<T> {
 impl<T> From<Ended<T, Overdue>> for SendTimeoutError<T> {
     ghost use Rattle.async_priority_channel.specs.Waits.{TellsSendTimeout};
 
-    ghost from_gives = { λ ended error. TellsSendTimeout ended error × (unsent_in_time error ≡ given_back ended) };
+    ghost from_gives = { λ ended error. TellsSendTimeout ended error
+        × (unsent_in_time error ≡ given_back ended) };
 
     fn from(ended: Ended<T, Overdue>) -> Self {
         match ended {

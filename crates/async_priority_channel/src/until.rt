@@ -38,7 +38,8 @@ struct Late {
 #[derive(Clone, Copy)]
 struct Unreadable;
 
-/// Evidence that a deadline has passed, or that nobody can tell. Only the deadline's own reading of the clock makes it.
+/// Evidence that a deadline has passed, or that nobody can tell. Only the deadline's own reading of
+/// the clock makes it.
 #[derive(Drop)]
 pub struct Overdue {
     reading: Result<Late, Unreadable>,

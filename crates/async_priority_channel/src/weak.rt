@@ -12,8 +12,9 @@ use std::sync::Wait;
 
 /// Knows a channel, and is none of its senders. `Sender::downgrade` makes it.
 ///
-/// It keeps no channel open, and cannot open one again. What is pending stays in memory while it is there, also once all
-/// senders and receivers are gone, unless a receiver's `close_on_drop` lets it go.
+/// It keeps no channel open, and cannot open one again. What is pending stays in memory while it is
+/// there, also once all senders and receivers are gone, unless a receiver's `close_on_drop` lets it
+/// go.
 ///
 /// ```
 /// let weak = tx.downgrade()?;
@@ -35,8 +36,8 @@ impl<T, P: Ord, R: Wait + Clone, A: Allocator + Copy> Model for WeakSender<T, P,
 }
 
 impl<T: Drop, P: Ord + Drop, R: Wait + Clone, A: Allocator + Copy> WeakSender<T, P, R, A> {
-    /// A further sender of the channel. None where the channel is closed, as it is once its last sender or its last receiver
-    /// is gone, and where a clone of a sender would be refused.
+    /// A further sender of the channel. None where the channel is closed, as it is once its last
+    /// sender or its last receiver is gone, and where a clone of a sender would be refused.
     pub fn upgrade(&self) -> Option<Sender<T, P, R, A>>
         ensures { IfSome result (λ sender. SameChannel self.now sender) }
     {
@@ -55,14 +56,16 @@ impl<T: Drop, P: Ord + Drop, R: Wait + Clone, A: Allocator + Copy> WeakSender<T,
 }
 
 impl<T, P: Ord, R: Wait + Clone, A: Allocator + Copy> WeakSender<T, P, R, A> {
-    /// Whether the channel is closed, by a call of `close` or by the drop of the last sender or receiver.
+    /// Whether the channel is closed, by a call of `close` or by the drop of the last sender or
+    /// receiver.
     pub fn is_closed(&self) -> bool {
         self.handle.is_closed()
     }
 }
 
 impl<T, P: Ord, R: Wait + Clone, A: Allocator + Copy> Sender<T, P, R, A> {
-    /// A handle that knows the channel and is none of its senders. It changes no count. Refused for want of memory.
+    /// A handle that knows the channel and is none of its senders. It changes no count. Refused for
+    /// want of memory.
     pub fn downgrade(&self) -> Result<WeakSender<T, P, R, A>, AllocError>
         ensures { IfOk result (λ weak. SameChannel self.now weak) }
     {
@@ -96,8 +99,9 @@ impl<T, P: Ord, R: Wait + Clone, A: Allocator + Copy> fmt::Debug for WeakSender<
 
 /// Knows a channel, and is none of its receivers. `Receiver::downgrade` makes it.
 ///
-/// It keeps no channel open, and cannot open one again. What is pending stays in memory while it is there, also once all
-/// receivers and senders are gone, unless a receiver's `close_on_drop` lets it go.
+/// It keeps no channel open, and cannot open one again. What is pending stays in memory while it is
+/// there, also once all receivers and senders are gone, unless a receiver's `close_on_drop` lets it
+/// go.
 ///
 /// ```
 /// let weak = rx.downgrade()?;
@@ -119,8 +123,8 @@ impl<T, P: Ord, R: Wait + Clone, A: Allocator + Copy> Model for WeakReceiver<T, 
 }
 
 impl<T: Drop, P: Ord + Drop, R: Wait + Clone, A: Allocator + Copy> WeakReceiver<T, P, R, A> {
-    /// A further receiver of the channel. None where the channel is closed, as it is once its last receiver or its last sender
-    /// is gone, and where a clone of a receiver would be refused.
+    /// A further receiver of the channel. None where the channel is closed, as it is once its last
+    /// receiver or its last sender is gone, and where a clone of a receiver would be refused.
     pub fn upgrade(&self) -> Option<Receiver<T, P, R, A>>
         ensures { IfSome result (λ receiver. SameChannel self.now receiver) }
     {
@@ -139,14 +143,16 @@ impl<T: Drop, P: Ord + Drop, R: Wait + Clone, A: Allocator + Copy> WeakReceiver<
 }
 
 impl<T, P: Ord, R: Wait + Clone, A: Allocator + Copy> WeakReceiver<T, P, R, A> {
-    /// Whether the channel is closed, by a call of `close` or by the drop of the last sender or receiver.
+    /// Whether the channel is closed, by a call of `close` or by the drop of the last sender or
+    /// receiver.
     pub fn is_closed(&self) -> bool {
         self.handle.is_closed()
     }
 }
 
 impl<T, P: Ord, R: Wait + Clone, A: Allocator + Copy> Receiver<T, P, R, A> {
-    /// A handle that knows the channel and is none of its receivers. It changes no count. Refused for want of memory.
+    /// A handle that knows the channel and is none of its receivers. It changes no count. Refused
+    /// for want of memory.
     pub fn downgrade(&self) -> Result<WeakReceiver<T, P, R, A>, AllocError>
         ensures { IfOk result (λ weak. SameChannel self.now weak) }
     {

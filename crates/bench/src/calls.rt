@@ -85,8 +85,8 @@ impl Calls {
         if let Calls::Stream = self {
             return send_stream(rt, tx, first, count);
         }
-        for place in 0..count {
-            let number = first.wrapping_add(place);
+        for position in 0..count {
+            let number = first.wrapping_add(position);
             self.send(rt, tx, number, Load::Random.priority(number))?;
         }
         Ok(())
@@ -151,13 +151,13 @@ where
     Ok(block_on(rt, sum)?)
 }
 
-/// With so many places, or with no limit for 0.
-pub fn channel<R>(rt: &R, places: u64) -> Result<Ends<u64, i64, R>, AllocError>
+/// Of this capacity, or without a limit for 0.
+pub fn channel<R>(rt: &R, capacity: u64) -> Result<Ends<u64, i64, R>, AllocError>
 where
     R: Wait + Clone + AllocGlobal,
 {
-    if places == 0 {
+    if capacity == 0 {
         return unbounded(rt, rt.alloc());
     }
-    bounded(rt, rt.alloc(), places)
+    bounded(rt, rt.alloc(), capacity)
 }

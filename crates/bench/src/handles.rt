@@ -20,10 +20,10 @@ where
     }
     let start = rt.thread_cpu_time()?;
     let mut sum = 0u64;
-    for place in 0..count {
-        let number = pending.wrapping_add(place);
+    for position in 0..count {
+        let number = pending.wrapping_add(position);
         calls.send(rt, &tx, number, Load::Random.priority(number))?;
-        sum = add_at(sum, place, calls.recv(rt, &rx)?);
+        sum = add_at(sum, position, calls.recv(rt, &rx)?);
     }
     let end = rt.thread_cpu_time()?;
     Ok(Measure::of_time(end.saturating_sub(start), sum))
@@ -45,10 +45,10 @@ where
         ensure!(tx.try_sendv(msgs.peekable()).is_ok(), "no batch was sent");
         batch.clear();
         rx.try_recv_many(&mut batch, limit)?;
-        let mut place = first;
+        let mut position = first;
         for (msg, _) in &batch {
-            sum = add_at(sum, place, *msg);
-            place = place.wrapping_add(1);
+            sum = add_at(sum, position, *msg);
+            position = position.wrapping_add(1);
         }
     }
     let end = rt.thread_cpu_time()?;

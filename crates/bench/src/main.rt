@@ -39,7 +39,7 @@ const ROWS: [&str; 19] = [
     "handles future 100 1000",
     // How many messages go in one call.
     "batches 8 960",
-    // By which calls, how many senders, receivers and places.
+    // By which calls, how many senders, receivers, and which capacity.
     "relay try 4 4 10 1600",
     "relay blocking 16 1 1 1600",
     "relay future 4 4 10 1600",
@@ -100,13 +100,13 @@ where
             handles::steady(&rt, calls.parse()?, pending.parse()?, count.parse()?)
         }
         ["batches", size, count] => handles::batches(&rt, size.parse()?, count.parse()?),
-        ["relay", calls, senders, receivers, places, count] => {
+        ["relay", calls, senders, receivers, capacity, count] => {
             relays::relay(
                 rt,
                 calls.parse()?,
                 senders.parse()?,
                 receivers.parse()?,
-                places.parse()?,
+                capacity.parse()?,
                 count.parse()?,
             )
         }

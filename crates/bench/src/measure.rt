@@ -19,7 +19,7 @@ impl Measure {
     }
 }
 
-/// A sum in which it counts at which place each message came.
-pub fn add_at(sum: u64, place: u64, msg: u64) -> u64 {
-    sum.wrapping_add(msg.wrapping_mul(place))
+/// A sum in which it counts at which position each message came.
+pub fn add_at(sum: u64, position: u64, msg: u64) -> u64 {
+    sum.wrapping_add(msg.wrapping_mul(position))
 }

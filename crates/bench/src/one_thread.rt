@@ -20,10 +20,10 @@ where
     send_all(&mut core, load, pending)?;
     let start = rt.thread_cpu_time()?;
     let mut sum = 0u64;
-    for place in 0..count {
-        let number = pending.wrapping_add(place);
+    for position in 0..count {
+        let number = pending.wrapping_add(position);
         send(&mut core, number, load.priority(number))?;
-        sum = add_at(sum, place, recv(&mut core)?);
+        sum = add_at(sum, position, recv(&mut core)?);
     }
     let end = rt.thread_cpu_time()?;
     Ok(Measure::of_time(end.saturating_sub(start), sum))
@@ -58,8 +58,8 @@ where
         let mut core = PriorityQueueChannel::unbounded(rt.alloc());
         send_all(&mut core, load, size)?;
         let start = rt.thread_cpu_time()?;
-        for place in 0..size {
-            sum = add_at(sum, place, recv(&mut core)?);
+        for position in 0..size {
+            sum = add_at(sum, position, recv(&mut core)?);
         }
         let end = rt.thread_cpu_time()?;
         took = took.saturating_add(end.saturating_sub(start));

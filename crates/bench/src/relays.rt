@@ -15,13 +15,13 @@ pub fn relay<R>(
     calls: Calls,
     senders: u64,
     receivers: u64,
-    places: u64,
+    capacity: u64,
     count: u64,
 ) -> anyhow::Result<Measure>
 where
     R: Threads + Wait + Copy + Clock + RandomSource + AllocGlobal + Send + 'static,
 {
-    let (tx, rx) = channel(&rt, places)?;
+    let (tx, rx) = channel(&rt, capacity)?;
     let start = Instant::now(&rt)?;
     let mut receiving = Vec::new(rt.alloc());
     let share = count / receivers.max(1);

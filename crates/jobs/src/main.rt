@@ -1,4 +1,5 @@
-//! A queue of jobs: the most urgent first, a worker on a thread of its own, and an end once all is done.
+//! A queue of jobs: the most urgent first, a worker on a thread of its own, and an end once all is
+//! done.
 #![tactic(auto)]
 
 use async_priority_channel::bounded;

@@ -52,7 +52,8 @@ module _ {A : Type 0} where
   text_is : (pairs : List (String A × ℤ)) → pairs_text pairs ≡ further_text (all_further pairs None)
   text_is pairs = sym (append-nil (pairs_text pairs)) ∙ further_is pairs None
 
-  -- where more fields stand behind the pairs that were read than in the text of some pairs, they begin with one of those
+  -- where more fields stand behind the pairs that were read than in the text of some pairs, they
+  -- begin with one of those
   next_pair : (read all : List (String A × ℤ)) (fields : List ℕ) → All IsPair read → All IsPair all
       → pairs_text read ++ further_text (Some fields) ≡ pairs_text all
       → (z : ℤ) × (word : List ℕ) × (further : Option (List ℕ)) × FitsSigned w64 z × IsWord word × (fields ≡ pair_text z word ++ further_text further)
@@ -73,7 +74,8 @@ module _ {A : Type 0} where
       let rest = same_further pair.1 (string_bytes pair.0) (all_further read (Some fields)) other.1 (string_bytes other.0) (all_further all None) one.1 one.0 two.1 two.0 same in
       next_pair read all fields (All-tail IsPair pair read h) (All-tail IsPair other all k) (further_is read (Some fields) ∙ ap further_text rest ∙ sym (text_is all))
 
-  -- where what stands behind the pairs that were read begins with no pair, all of it is the text of no pairs
+  -- where what stands behind the pairs that were read begins with no pair, all of it is the text of
+  -- no pairs
   pub no_pairs : (text : List ℕ) (read : List (String A × ℤ)) (fields : List ℕ) → text ≡ pairs_text read ++ further_text (Some fields) → All IsPair read
       → ((z : ℤ) (word : List ℕ) (further : Option (List ℕ)) → FitsSigned w64 z → IsWord word → fields ≢ pair_text z word ++ further_text further)
       → (all : List (String A × ℤ)) → All IsPair all → text ≢ pairs_text all

@@ -1,7 +1,7 @@
 //! The calls of a script, and what is written of each.
 //!
-//! Each is a function of its own that is not inlined: together they would share one frame, of which each call would
-//! clear the whole.
+//! Each is a function of its own that is not inlined: together they would share one frame, of which
+//! each call would clear the whole.
 use crate::faults::Fault;
 use async_priority_channel::{Receiver, Sender, TryRecvError, TrySendError};
 use itoa::Buffer;

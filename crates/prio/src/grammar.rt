@@ -13,13 +13,13 @@ use std::alloc::{AllocError, Allocator};
 pub enum Opening {
     /// A channel for at most so many pairs.
     Bounded(u64),
-    /// A channel with place for so many pairs, made at once.
+    /// A channel with memory for so many pairs, had at once.
     Reserved(u64),
     /// A channel without a limit but memory.
     Unbounded,
 }
 
-// More places cannot be made at once.
+// Memory for more cannot be had at once.
 const MOST_RESERVED: u64 = (1 << 63) - 1;
 
 /// What any other line asks for.
@@ -37,7 +37,8 @@ pub enum Call<'a> {
 #[tactic(auto, using(crate::proofs::Fields::joined, crate::proofs::Fields::whole))]
 pub fn parse_opening(line: &str) -> Option<Opening>
     ensures sound { IfSome result (λ opening. CanOpen opening × (line.now ≡ opening_text opening)) }
-    ensures complete { IfNone result ((opening : Opening) → CanOpen opening → line.now ≢ opening_text opening) }
+    ensures complete { IfNone result ((opening : Opening) → CanOpen opening
+        → line.now ≢ opening_text opening) }
 {
     match name_and_fields(line) {
         ("bounded", Some(capacity)) => Some(Opening::Bounded(parse_capacity(capacity, u64::MAX)?)),
@@ -76,8 +77,10 @@ pub fn parse_pairs<A: Allocator + Copy>(
     alloc: A,
     fields: Option<&str>,
 ) -> Result<Option<Vec<(String<A>, i64), A>>, AllocError>
-    ensures sound { IfOk result (λ parsed. IfSome parsed (λ pairs. All IsPair pairs.items × (further_text (option_copied fields.entry) ≡ pairs_text pairs.items))) }
-    ensures complete { IfOk result (λ parsed. IfNone parsed ((pairs : List (String A × ℤ)) → All IsPair pairs → further_text (option_copied fields.entry) ≢ pairs_text pairs)) }
+    ensures sound { IfOk result (λ parsed. IfSome parsed (λ pairs. All IsPair pairs.items
+        × (further_text (option_copied fields.entry) ≡ pairs_text pairs.items))) }
+    ensures complete { IfOk result (λ parsed. IfNone parsed ((pairs : List (String A × ℤ))
+        → All IsPair pairs → further_text (option_copied fields.entry) ≢ pairs_text pairs)) }
 {
     let mut pairs = Vec::new(alloc);
     let mut further = fields;
@@ -105,8 +108,10 @@ fn name_and_fields(line: &str) -> (&str, Option<&str>)
 
 // `PRIORITY WORD`.
 fn parse_pair(fields: &str) -> Option<(i64, &str)>
-    ensures sound { IfSome result (λ pair. IsWord pair.1.now × (fields.now ≡ pair_text pair.0 pair.1.now)) }
-    ensures complete { IfNone result ((z : ℤ) (word : List ℕ) → FitsSigned w64 z → IsWord word → fields.now ≢ pair_text z word) }
+    ensures sound { IfSome result (λ pair. IsWord pair.1.now
+        × (fields.now ≡ pair_text pair.0 pair.1.now)) }
+    ensures complete { IfNone result ((z : ℤ) (word : List ℕ) → FitsSigned w64 z → IsWord word
+        → fields.now ≢ pair_text z word) }
 {
     let (priority, word) = fields.split_once(' ')?;
     let priority = parse_priority(priority)?;
@@ -119,8 +124,11 @@ fn parse_pair(fields: &str) -> Option<(i64, &str)>
 
 // `PRIORITY WORD`, taken off the front of the fields, and what follows the space behind it.
 fn take_pair(fields: &str) -> Option<((i64, &str), Option<&str>)>
-    ensures sound { IfSome result (λ taken. IsWord taken.0.1.now × (fields.now ≡ pair_text taken.0.0 taken.0.1.now ++ further_text (option_copied taken.1))) }
-    ensures complete { IfNone result ((z : ℤ) (word : List ℕ) (further : Option (List ℕ)) → FitsSigned w64 z → IsWord word → fields.now ≢ pair_text z word ++ further_text further) }
+    ensures sound { IfSome result (λ taken. IsWord taken.0.1.now
+        × (fields.now ≡ pair_text taken.0.0 taken.0.1.now ++ further_text
+        (option_copied taken.1))) }
+    ensures complete { IfNone result ((z : ℤ) (word : List ℕ) (further : Option (List ℕ))
+        → FitsSigned w64 z → IsWord word → fields.now ≢ pair_text z word ++ further_text further) }
 {
     let (priority, rest) = fields.split_once(' ')?;
     let (word, further) = name_and_fields(rest);

@@ -38,7 +38,8 @@ impl<S: Read + Drop, A: Allocator + Copy> Script<S, A> {
 
     /// What the line asks for where it is the first.
     pub fn opening(&self) -> Result<Opening, Fault>
-        ensures { IfOk result (λ opening. CanOpen opening × (self.now.line.items ≡ opening_text opening)) }
+        ensures { IfOk result (λ opening. CanOpen opening
+            × (self.now.line.items ≡ opening_text opening)) }
     {
         parse_opening(str::from_utf8(&self.line)?).ok_or(Fault::NotACall)
     }
@@ -50,8 +51,8 @@ impl<S: Read + Drop, A: Allocator + Copy> Script<S, A> {
         parse_call(str::from_utf8(&self.line)?).ok_or(Fault::NotACall)
     }
 
-    /// Reads the next line, without its line feed. False at the end of the input. Before it waits for
-    /// input it writes out the answers so far.
+    /// Reads the next line, without its line feed. False at the end of the input. Before it waits
+    /// for input it writes out the answers so far.
     pub fn read_line<R: Wait, W: Write>(&mut self, rt: &R, answers: &mut W) -> Result<bool, Fault>
         ensures number { self.new.number ≡ min (self.old.number + 1) (2 ^ 64 - 1) }
     {

@@ -80,12 +80,13 @@ fn answers_each_line(rt: HostRuntime) {
             "unbounded\ncapacity\nsendv 1 a 3 c 2 b\nrecv\nrecv\nclose\nsend 4 d\nsendv\nrecv\nrecv\nlen\n",
             "ok\nnone\nok\nc 3\nb 2\ntrue\nclosed\nclosed 0\na 1\nclosed\n0\n",
         ),
-        // A bulk send that just fills the channel is `ok`, and into a full one even an empty one is refused.
+        // A bulk send that just fills the channel is `ok`, and into a full one even an empty one is
+        // refused.
         (
             "bounded 2\nsendv 1 a 2 b 3 c\nsendv\nrecv\nsendv 9 d\nsendv\n",
             "ok\nfull 1\nfull 0\nb 2\nok\nfull 0\n",
         ),
-        // So it is into reserved place, and on a closed channel nothing is sent.
+        // So it is into a reserved channel, and on a closed channel nothing is sent.
         (
             "reserved 2\nsendv\nlen\nsendv -1 a 0 b 1 c 2 d\nlen\nclose\nsendv 3 e 4 f\nlen\nrecv\nrecv\nrecv\n",
             "ok\nok\n0\nfull 2\n2\ntrue\nclosed 2\n2\nb 0\na -1\nclosed\n",
@@ -105,7 +106,7 @@ fn answers_each_line(rt: HostRuntime) {
             "bounded 1\nsend -9223372036854775808 m\nrecv",
             "ok\nok\nm -9223372036854775808\n",
         ),
-        // No place is made for a capacity before pairs come.
+        // A capacity takes no memory before pairs come.
         (
             "bounded 9223372036854775808\ncapacity\nsend 1 a\nrecv\n",
             "ok\n9223372036854775808\nok\na 1\n",

@@ -1,8 +1,8 @@
 //! The core's calls and their answers, as values.
 use crate::errors::{RecvFault, SendFault, TryRecvError, TrySendError};
 
-/// A call of the core. `M` is what holds the pairs of a bulk send: an iterator that can be peeked, or, in the
-/// definitions, a list.
+/// A call of the core. `M` is what holds the pairs of a bulk send: an iterator that can be peeked,
+/// or, in the definitions, a list.
 #[derive(Drop)]
 pub enum Call<T, P, W, M> {
     TrySend(T, P),
@@ -50,7 +50,8 @@ pub enum Answer<T, P, M> {
     GiveUp,
 }
 
-/// What a poll answers: the outcome, or what the caller keeps for its next poll with the ticket under which it waits.
+/// What a poll answers: the outcome, or what the caller keeps for its next poll with the ticket
+/// under which it waits.
 #[derive(Drop)]
 pub enum CorePoll<A, K> {
     Ready(A),

@@ -7,9 +7,10 @@ ghost use Rattle.priority_channel_core.specs.code.Lists.{HasList};
 
 pub use priority_channel_parts::laws::{digits_law, one_greatest_law};
 
-/// An iterator at which nobody has peeked has the list that it always yields. So of a vector's, a range's or a slice's
-/// iterator, or a map of one, a caller knows what a bulk send does with it.
+/// An iterator at which nobody has peeked has the list that it always yields. So of a vector's, a
+/// range's or a slice's iterator, or a map of one, a caller knows what a bulk send does with it.
 pub fn list_law<I: Iterator>()
     ensures { (msgs : Ahead I I.Item) (list : List I.Item) → peekable_peeked msgs ≡ None
-        → AlwaysYields I.next_gives (λ x. x) (peekable_source msgs) list → HasList I.next_gives msgs list }
+        → AlwaysYields I.next_gives (λ x. x) (peekable_source msgs) list
+        → HasList I.next_gives msgs list }
 {}

@@ -13,7 +13,7 @@ use Rattle.priority_channel_parts.specs.declared.errors.SendFault.{SendFault}
 use Rattle.priority_channel_parts.specs.declared.errors.SendFault.TheVariants as send_fault
 use Rattle.priority_channel_core.specs.machine.Sends.{as_list}
 use Rattle.priority_channel_core.specs.machine.Step.{Calls, Answers}
-use Rattle.priority_channel_core.specs.machine.Run.{Made}
+use Rattle.priority_channel_core.specs.machine.Run.{Operation}
 
 -- the pairs without the rest that came back
 abbrev pub all_but : {A : Type 0} → List A → List A → List A
@@ -27,16 +27,19 @@ sent pairs (Err (send_error.Full rest)) = all_but rest pairs
 sent pairs (Err (send_error.Memory rest)) = all_but rest pairs
 
 -- the pairs that a poll of a send with this answer accepted
-abbrev pub poll_sent : {A : Type 0} → List A → CorePoll (Result (Unit {0}) (SendFault (List A))) (List A) → List A
+abbrev pub poll_sent : {A : Type 0} → List A
+    → CorePoll (Result (Unit {0}) (SendFault (List A))) (List A) → List A
 poll_sent pairs (Ready (Ok done)) = pairs
 poll_sent pairs (Ready (Err (send_fault.Closed e))) = []
 poll_sent pairs (Ready (Err (send_fault.Memory rest))) = all_but rest pairs
 poll_sent pairs (Pending rest ticket) = all_but rest pairs
 
 abbrev pub accepted_by : {T P W : Type 0} → Calls T P W → Answers T P → List (T × P)
-accepted_by (call.TrySend msg priority) (answer.TrySend reply) = sent ((msg, priority) ∷ []) (as_list reply)
+accepted_by (call.TrySend msg priority) (answer.TrySend reply) =
+    sent ((msg, priority) ∷ []) (as_list reply)
 accepted_by (call.TrySendv pairs) (answer.TrySendv reply) = sent pairs reply
-accepted_by (call.PollSend msg priority given waker) (answer.PollSend (Ready (Ok done))) = (msg, priority) ∷ []
+accepted_by (call.PollSend msg priority given waker) (answer.PollSend (Ready (Ok done))) =
+    (msg, priority) ∷ []
 accepted_by (call.PollSendv pairs given waker) (answer.PollSendv reply) = poll_sent pairs reply
 accepted_by _ _ = []
 
@@ -46,10 +49,10 @@ received_by (answer.PollRecv (Ready (Ok pair))) = pair ∷ []
 received_by _ = []
 
 -- all pairs that a run accepted, and all that it received, in order
-abbrev pub accepted_in : {T P W : Type 0} → List (Made T P W) → List (T × P)
+abbrev pub accepted_in : {T P W : Type 0} → List (Operation T P W) → List (T × P)
 accepted_in run = flat_map (λ made. accepted_by made.call made.answer) run
 
-abbrev pub received_in : {T P W : Type 0} → List (Made T P W) → List (T × P)
+abbrev pub received_in : {T P W : Type 0} → List (Operation T P W) → List (T × P)
 received_in run = flat_map (λ made. received_by made.answer) run
 
 -- no pair has a greater priority than one before it

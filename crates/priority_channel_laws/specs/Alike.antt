@@ -9,7 +9,7 @@ use Rattle.priority_channel_parts.specs.declared.errors.RecvFault.TheVariants as
 use Rattle.priority_channel_parts.specs.Waiters.{Waiters}
 use Rattle.priority_channel_core.specs.machine.State.{State, Handed}
 use Rattle.priority_channel_core.specs.machine.Step.{Answers}
-use Rattle.priority_channel_core.specs.machine.Run.{Made}
+use Rattle.priority_channel_core.specs.machine.Run.{Operation}
 use Rattle.priority_channel_laws.specs.Accepted.{accepted_by}
 
 -- whether an answer is Memory
@@ -22,15 +22,17 @@ is_memory (answer.PollRecv (Ready (Err recv_fault.Memory))) = true
 is_memory _ = false
 
 -- the same call, which accepted as many pairs and answered Memory or not alike
-pub record IsAlike {T P W : Type 0} (one other : Made T P W) : Type 0 where
+pub record IsAlike {T P W : Type 0} (one other : Operation T P W) : Type 0 where
   pub same_call : other.call ≡ one.call
-  pub as_many : length (accepted_by other.call other.answer) ≡ length (accepted_by one.call one.answer)
+  pub as_many : length (accepted_by other.call other.answer)
+      ≡ length (accepted_by one.call one.answer)
   pub memory : is_memory other.answer ≡ is_memory one.answer
 
 module _ {W : Type 0} (is_clone : W → W → Type 0) where
   -- the same ticket, with the same waker or another clone of one waker
   abbrev pub SameWaiter : ℕ × W → ℕ × W → Type 0
-  SameWaiter a b = (b.0 ≡ a.0) × ((b.1 ≡ a.1) ⊎ ((waker : W) × is_clone waker a.1 × is_clone waker b.1))
+  SameWaiter a b =
+      (b.0 ≡ a.0) × ((b.1 ≡ a.1) ⊎ ((waker : W) × is_clone waker a.1 × is_clone waker b.1))
 
   pub record SameHanded (one other : Handed W) : Type 0 where
     pub room : AllZip SameWaiter one.room other.room
@@ -47,6 +49,6 @@ module _ {W : Type 0} (is_clone : W → W → Type 0) where
     pub others : other ≡ record one { waiters = other.waiters }
 
   -- the same answer, and the same parties handed out
-  pub record SameOutcome {T P : Type 0} (one other : Made T P W) : Type 0 where
+  pub record SameOutcome {T P : Type 0} (one other : Operation T P W) : Type 0 where
     pub answer : other.answer ≡ one.answer
     pub handed : SameHanded one.handed other.handed

@@ -45,8 +45,11 @@ poll_of (Sendv msgs) given waker = call.PollSendv msgs given waker
 poll_of Recv given waker = call.PollRecv given waker
 
 -- the future after its poll: waiting with what was not sent, or done
-abbrev pub polled : {T P W M : Type 0} → Task T P M → W → Answer T P M → Future T P W M
-polled task waker (answer.PollSend (Pending pair ticket)) = record { task = Send pair.0 pair.1; standing = Waiting ticket waker }
-polled task waker (answer.PollSendv (Pending rest ticket)) = record { task = Sendv rest; standing = Waiting ticket waker }
-polled task waker (answer.PollRecv (Pending kept ticket)) = record { task = Recv; standing = Waiting ticket waker }
-polled task waker _ = record { task = task; standing = Done }
+abbrev pub future_after : {T P W M : Type 0} → Task T P M → W → Answer T P M → Future T P W M
+future_after task waker (answer.PollSend (Pending pair ticket)) =
+    record { task = Send pair.0 pair.1; standing = Waiting ticket waker }
+future_after task waker (answer.PollSendv (Pending rest ticket)) =
+    record { task = Sendv rest; standing = Waiting ticket waker }
+future_after task waker (answer.PollRecv (Pending kept ticket)) =
+    record { task = Recv; standing = Waiting ticket waker }
+future_after task waker _ = record { task = task; standing = Done }

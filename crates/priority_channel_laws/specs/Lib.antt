@@ -3,4 +3,4 @@ pub mod Alike
 pub mod Future
 pub mod World
 pub mod WaitingLaw
-pub mod States
+pub mod Holding

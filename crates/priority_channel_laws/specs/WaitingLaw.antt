@@ -21,14 +21,16 @@ side_of (Send msg priority) = Room
 side_of (Sendv pairs) = Room
 side_of Recv = Message
 
--- a send can go on where the channel is closed or not full, and a receive where it is closed or not empty
+-- a send can go on where the channel is closed or not full, and a receive where it is closed or not
+-- empty
 abbrev pub CanGoOn : {T P W : Type 0} → State T P W → Side → Type 0
 CanGoOn s Room = (s.is_closed ≡ true) ⊎ (length s.pending ≢ s.capacity)
 CanGoOn s Message = (s.is_closed ≡ true) ⊎ (s.pending ≢ [])
 
 module _ {T P W : Type 0} (is_clone : W → W → Type 0) where
   -- a future that waits under this ticket, on this side, whose waker has `kept` as a clone
-  pub record HasWaiting (futures : List (Futures T P W)) (side : Side) (ticket : ℕ) (kept : W) : Type 0 where
+  pub record HasWaiting (futures : List (Futures T P W)) (side : Side) (ticket : ℕ)
+      (kept : W) : Type 0 where
     pub which : ℕ
     pub future : Futures T P W
     pub waker : W
@@ -42,34 +44,45 @@ module _ {T P W : Type 0} (is_clone : W → W → Type 0) where
     -- the two waiting lists have exactly the waiting futures, each with a clone of its waker
     pub waiting_is_listed : (which : ℕ) (future : Futures T P W) (ticket : ℕ) (waker : W)
         → slice_get world.futures which ≡ Some future → future.standing ≡ Waiting ticket waker
-        → (kept : W) × is_clone waker kept × (waker_of ticket (on_side (side_of future.task) world.state.waiters) ≡ Some kept)
+        → (kept : W) × is_clone waker kept
+        × (waker_of ticket (on_side (side_of future.task) world.state.waiters) ≡ Some kept)
     pub listed_is_waiting : (side : Side) (ticket : ℕ) (kept : W)
-        → waker_of ticket (on_side side world.state.waiters) ≡ Some kept → HasWaiting world.futures side ticket kept
+        → waker_of ticket (on_side side world.state.waiters) ≡ Some kept
+        → HasWaiting world.futures side ticket kept
     -- no waiting future can go on
     pub waiting_cannot_go_on : (which : ℕ) (future : Futures T P W) (ticket : ℕ) (waker : W)
         → slice_get world.futures which ≡ Some future → future.standing ≡ Waiting ticket waker
         → CanGoOn world.state (side_of future.task) → ⊥
     -- a future that was polled, has not answered and can go on has been called since
     pub called_if_can_go_on : (which : ℕ) (future : Futures T P W)
-        → slice_get world.futures which ≡ Some future → future.standing ≢ New → future.standing ≢ Done
-        → CanGoOn world.state (side_of future.task) → (ticket : ℕ) × (waker : W) × (future.standing ≡ Called ticket waker)
+        → slice_get world.futures which ≡ Some future → future.standing ≢ New
+        → future.standing ≢ Done
+        → CanGoOn world.state (side_of future.task)
+        → (ticket : ℕ) × (waker : W) × (future.standing ≡ Called ticket waker)
     -- each ticket that a future has was given
     pub tickets_were_given : (which : ℕ) (future : Futures T P W) (ticket : ℕ)
-        → slice_get world.futures which ≡ Some future → ticket_of future.standing ≡ Some ticket → ticket < world.state.waiters.next_ticket
+        → slice_get world.futures which ≡ Some future → ticket_of future.standing ≡ Some ticket
+        → ticket < world.state.waiters.next_ticket
     -- different futures have different tickets
     pub tickets_differ : (first second : ℕ) (one other : Futures T P W) (ticket : ℕ)
         → slice_get world.futures first ≡ Some one → slice_get world.futures second ≡ Some other
-        → ticket_of one.standing ≡ Some ticket → ticket_of other.standing ≡ Some ticket → first ≡ second
+        → ticket_of one.standing ≡ Some ticket → ticket_of other.standing ≡ Some ticket
+        → first ≡ second
 
--- a ticket that had been given by then, and is held now, was held by the same future then: no number is given twice
+-- a ticket that had been given by then, and is held now, was held by the same future then: no
+-- number is given twice
 abbrev pub GivenOnce : {T P W : Type 0} → World T P W → World T P W → Type 0
 GivenOnce {T} {P} {W} past now =
     (which : ℕ) (future : Futures T P W) (ticket : ℕ)
-    → slice_get now.futures which ≡ Some future → ticket_of future.standing ≡ Some ticket → ticket < past.state.waiters.next_ticket
-    → (earlier : Futures T P W) × (slice_get past.futures which ≡ Some earlier) × (ticket_of earlier.standing ≡ Some ticket)
+    → slice_get now.futures which ≡ Some future → ticket_of future.standing ≡ Some ticket
+    → ticket < past.state.waiters.next_ticket
+    → (earlier : Futures T P W) × (slice_get past.futures which ≡ Some earlier)
+    × (ticket_of earlier.standing ≡ Some ticket)
 
--- a future is called by an event that hands out its ticket, with a clone of the waker of its last poll
-abbrev pub CalledBy : {T P W : Type 0} → (W → W → Type 0) → World T P W → Handed W → World T P W → Type 0
+-- a future is called by an event that hands out its ticket, with a clone of the waker of its last
+-- poll
+abbrev pub CalledBy : {T P W : Type 0} → (W → W → Type 0) → World T P W → Handed W → World T P W
+    → Type 0
 CalledBy {T} {P} {W} is_clone old handed new =
     (which : ℕ) (future : Futures T P W) (ticket : ℕ) (waker : W)
     → slice_get new.futures which ≡ Some future → future.standing ≡ Called ticket waker

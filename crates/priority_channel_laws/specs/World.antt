@@ -8,7 +8,7 @@ use Rattle.priority_channel_core.specs.machine.State.{State, Handed, nobody, ope
 use Rattle.priority_channel_parts.specs.Waiting.{is_listed}
 use Rattle.priority_channel_core.specs.machine.Good.{IsGood}
 use Rattle.priority_channel_core.specs.machine.Step.{Step, Calls, Answers}
-use Rattle.priority_channel_laws.specs.Future.{Tasks, Standing, Futures, ticket_of, poll_of, polled}
+use Rattle.priority_channel_laws.specs.Future.{Tasks, Standing, Futures, ticket_of, poll_of, future_after}
 use Rattle.priority_channel_laws.specs.Future.Standing.{New, Waiting, Called, Done}
 
 -- a channel, and the futures that use it
@@ -16,7 +16,7 @@ pub record World (T P W : Type 0) : Type 0 where
   pub state : State T P W
   pub futures : List (Futures T P W)
 
--- a direct call on the channel, or a poll or the end of the future at a place of the list
+-- a direct call on the channel, or a poll or the end of the future at a position of the list
 pub data Event (T P W : Type 0) : Type 0 where
   Makes : Calls T P W → Event T P W
   Polls : ℕ → W → Event T P W
@@ -34,32 +34,41 @@ IsDirect _ = ⊤
 abbrev pub is_handed : {W : Type 0} → ℕ → Handed W → Bool
 is_handed ticket handed = is_listed ticket handed.room || is_listed ticket handed.message
 
-abbrev pub called : {W : Type 0} → Handed W → Standing W → Standing W
-called handed New = New
-called handed (Waiting ticket waker) = if is_handed ticket handed then Called ticket waker else Waiting ticket waker
-called handed (Called ticket waker) = Called ticket waker
-called handed Done = Done
+abbrev pub standing_after : {W : Type 0} → Handed W → Standing W → Standing W
+standing_after handed New = New
+standing_after handed (Waiting ticket waker) =
+    if is_handed ticket handed then Called ticket waker else Waiting ticket waker
+standing_after handed (Called ticket waker) = Called ticket waker
+standing_after handed Done = Done
 
 abbrev pub call_out : {T P W : Type 0} → Handed W → List (Futures T P W) → List (Futures T P W)
-call_out handed futures = map (λ future. record { task = future.task; standing = called handed future.standing }) futures
+call_out handed futures =
+    map (λ future. record { task = future.task; standing = standing_after handed future.standing })
+    futures
 
 module _ {T P W : Type 0} (cmp : P → P → Ordering) (is_clone : W → W → Type 0) where
-  -- a poll, with the future's own ticket. The waiting futures are called before the polled one gets its new standing
-  abbrev pub PollsFuture : World T P W → ℕ → W → Tasks T P → Standing W → Handed W → World T P W → Type 0
+  -- a poll, with the future's own ticket. The waiting futures are called before the polled one gets
+  -- its new standing
+  abbrev pub PollsFuture : World T P W → ℕ → W → Tasks T P → Standing W → Handed W → World T P W
+      → Type 0
   PollsFuture old which waker task Done handed new = (handed ≡ nobody) × (new ≡ old)
   PollsFuture old which waker task standing handed new =
-      (reply : Answers T P) × Step cmp is_clone old.state (poll_of task (ticket_of standing) waker) reply handed new.state
-      × (new.futures ≡ slice_set (call_out handed old.futures) which (polled task waker reply))
+      (reply : Answers T P)
+      × Step cmp is_clone old.state (poll_of task (ticket_of standing) waker) reply handed new.state
+      × (new.futures
+      ≡ slice_set (call_out handed old.futures) which (future_after task waker reply))
 
   -- giving a future up gives up its ticket, if it has one
   abbrev pub GivesUpTicket : State T P W → Option ℕ → State T P W → Type 0
   GivesUpTicket old None new = new ≡ old
-  GivesUpTicket old (Some ticket) new = Step cmp is_clone old (call.GiveUp ticket) answer.GiveUp nobody new
+  GivesUpTicket old (Some ticket) new =
+      Step cmp is_clone old (call.GiveUp ticket) answer.GiveUp nobody new
 
   -- an event, those whom it hands out, and the world after it
   abbrev pub Happens : World T P W → Event T P W → Handed W → World T P W → Type 0
   Happens old (Makes made) handed new =
-      IsDirect made × (reply : Answers T P) × Step cmp is_clone old.state made reply handed new.state
+      IsDirect made
+      × (reply : Answers T P) × Step cmp is_clone old.state made reply handed new.state
       × (new.futures ≡ call_out handed old.futures)
   Happens old (Polls which waker) handed new =
       (future : Futures T P W) × (slice_get old.futures which ≡ Some future)
@@ -72,7 +81,8 @@ module _ {T P W : Type 0} (cmp : P → P → Ordering) (is_clone : W → W → T
   -- events in turn, whomever they hand out
   abbrev pub Leads : World T P W → List (Event T P W) → World T P W → Type 0
   Leads old [] new = new ≡ old
-  Leads old (event ∷ more) new = (handed : Handed W) × (mid : World T P W) × Happens old event handed mid × Leads mid more new
+  Leads old (event ∷ more) new =
+      (handed : Handed W) × (mid : World T P W) × Happens old event handed mid × Leads mid more new
 
 -- a new channel, and new futures
 abbrev pub IsOpening : {T P W : Type 0} → World T P W → Type 0

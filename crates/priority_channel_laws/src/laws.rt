@@ -7,47 +7,62 @@ ghost use Rattle.priority_channel_core.specs.declared.calls.Call.TheVariants as 
 ghost use Rattle.priority_channel_core.specs.declared.calls.Answer.TheVariants as answer;
 ghost use Rattle.priority_channel_parts.specs.declared.errors.TryRecvError.TheVariants as recv_error;
 ghost use Rattle.priority_channel_core.specs.machine.State.{State, Handed};
-ghost use Rattle.priority_channel_core.specs.machine.Run.{Run, Made};
+ghost use Rattle.priority_channel_core.specs.machine.Run.{Run, Operation};
 ghost use Rattle.priority_channel_laws.specs.Accepted.{accepted_in, received_in, NeverRise};
 ghost use Rattle.priority_channel_laws.specs.World.{World, Event, Happens, IsOpening, Leads};
 ghost use Rattle.priority_channel_laws.specs.WaitingLaw.{NobodyIsForgotten, GivenOnce, CalledBy};
 
-/// No pair is lost, made up or received twice, and a closed channel stays closed and accepts nothing.
+/// No pair is lost, made up or received twice, and a closed channel stays closed and accepts
+/// nothing.
 pub fn conservation_law<T, P: Ord, W: Clone>()
-    ensures conserved { (old new : State T P W) (run : List (Made T P W)) → Run P.cmp W.is_clone old run new
+    ensures conserved { (old new : State T P W) (run : List (Operation T P W))
+        → Run P.cmp W.is_clone old run new
         → IsPermutation (old.pending ++ accepted_in run) (received_in run ++ new.pending) }
-    ensures closed { (old new : State T P W) (run : List (Made T P W)) → Run P.cmp W.is_clone old run new
+    ensures closed { (old new : State T P W) (run : List (Operation T P W))
+        → Run P.cmp W.is_clone old run new
         → old.is_closed ≡ true → (new.is_closed ≡ true) × (accepted_in run ≡ []) }
 {}
 
 /// Pairs come out in the order of their priorities.
 pub fn drain_law<T, P: Ord, W: Clone>()
     // Between two accepted pairs the priorities of what is received never rise.
-    ensures ordered { (old new : State T P W) (before between after : List (Made T P W))
-        → Run P.cmp W.is_clone old (before ++ between ++ after) new → accepted_in between ≡ [] → NeverRise P.cmp (received_in between) }
+    ensures ordered { (old new : State T P W) (before between after : List (Operation T P W))
+        → Run P.cmp W.is_clone old (before ++ between ++ after) new → accepted_in between ≡ []
+        → NeverRise P.cmp (received_in between) }
     // A closed channel gives each pending pair, and then nothing more.
-    ensures drained { (old new : State T P W) (run : List (Made T P W)) → Run P.cmp W.is_clone old run new → old.is_closed ≡ true
+    ensures drained { (old new : State T P W) (run : List (Operation T P W))
+        → Run P.cmp W.is_clone old run new → old.is_closed ≡ true
         → map (λ made. made.call) run ≡ replicate (length old.pending + 1) call.TryRecv
         → (pairs : List (T × P)) × IsPermutation old.pending pairs × NeverRise P.cmp pairs
-        × (map (λ made. made.answer) run ≡ map (λ pair. answer.TryRecv (Ok pair)) pairs ++ answer.TryRecv (Err recv_error.Closed) ∷ []) }
+        × (map (λ made. made.answer) run ≡ map (λ pair. answer.TryRecv (Ok pair)) pairs
+        ++ answer.TryRecv (Err recv_error.Closed) ∷ []) }
 {}
 
-/// Two runs over the same calls go alike, where each call accepts as many pairs and answers Memory or not alike.
+/// Two runs over the same calls go alike, where each call accepts as many pairs and answers Memory
+/// or not alike.
 pub fn alike_law<T, P: Ord, W: Clone>()
-    ensures { (old new other : State T P W) (run another : List (Made T P W))
+    ensures { (old new other : State T P W) (run another : List (Operation T P W))
         → Run P.cmp W.is_clone old run new → Run P.cmp W.is_clone old another other
-        → AllZip IsAlike run another → AllZip (SameOutcome W.is_clone) run another × SameState W.is_clone new other }
+        → AllZip IsAlike run another → AllZip (SameOutcome W.is_clone) run another
+        × SameState W.is_clone new other }
 {}
 
-/// Whatever happens, in any order, no future that waits could go on, and no ticket number is given twice.
+/// Whatever happens, in any order, no future that waits could go on, and no ticket number is given
+/// twice.
 pub fn waiting_law<T, P: Ord, W: Clone>()
-    ensures forgotten { (opening world : World T P W) (events : List (Event T P W)) → IsOpening opening
+    ensures forgotten { (opening world : World T P W) (events : List (Event T P W))
+        → IsOpening opening
         → Leads P.cmp W.is_clone opening events world → NobodyIsForgotten W.is_clone world }
-    ensures once { (opening earlier later : World T P W) (before after : List (Event T P W)) → IsOpening opening
-        → Leads P.cmp W.is_clone opening before earlier → Leads P.cmp W.is_clone earlier after later → GivenOnce earlier later }
-    ensures rising { (opening earlier later : World T P W) (before after : List (Event T P W)) → IsOpening opening
-        → Leads P.cmp W.is_clone opening before earlier → Leads P.cmp W.is_clone earlier after later → earlier.state.waiters.next_ticket ≤ later.state.waiters.next_ticket }
-    ensures called { (opening old new : World T P W) (events : List (Event T P W)) (event : Event T P W) (handed : Handed W)
+    ensures once { (opening earlier later : World T P W) (before after : List (Event T P W))
+        → IsOpening opening
+        → Leads P.cmp W.is_clone opening before earlier → Leads P.cmp W.is_clone earlier after later
+        → GivenOnce earlier later }
+    ensures rising { (opening earlier later : World T P W) (before after : List (Event T P W))
+        → IsOpening opening
+        → Leads P.cmp W.is_clone opening before earlier → Leads P.cmp W.is_clone earlier after later
+        → earlier.state.waiters.next_ticket ≤ later.state.waiters.next_ticket }
+    ensures called { (opening old new : World T P W) (events : List (Event T P W))
+        (event : Event T P W) (handed : Handed W)
         → IsOpening opening → Leads P.cmp W.is_clone opening events old
         → Happens P.cmp W.is_clone old event handed new → CalledBy W.is_clone old handed new }
 {}

@@ -1,5 +1,5 @@
-//! What a future keeps between its polls: a send its pair, a bulk send the pairs that were not sent yet, and each its
-//! ticket. A poll is made on the core, in one hold of what guards it.
+//! What a future keeps between its polls: a send its pair, a bulk send the pairs that were not sent
+//! yet, and each its ticket. A poll is made on the core, in one hold of what guards it.
 ghost use Rattle.std.specs.Prelude.{◌≡◌, ◌↔◌, ◌*◌, List, [], length, false, IsTrue, IfSome, MatchOption, Some, None, is_some};
 ghost use Rattle.std.specs.Option.{ForSome};
 ghost use Rattle.std.specs.Iterator.Adapters.{peekable_can};
@@ -14,7 +14,7 @@ ghost use Rattle.priority_channel_core.specs.code.Channel.{ComparesAtMost};
 ghost use Rattle.priority_channel_parts.specs.Waiters.{search_bound};
 ghost use Rattle.priority_channel_laws.specs.Future.Task.{Sendv as sendv_of};
 ghost use Rattle.priority_channel_laws.specs.World.{GivesUpTicket};
-ghost use Rattle.priority_channel_laws.specs.States.{unpolled, done, told_by, left_by, told_at_once, left_at_once, handed_back, HoldsTail, send_of, recv_of, TriesFront, PollsKept};
+ghost use Rattle.priority_channel_laws.specs.Holding.{unpolled, done, told_by, left_by, told_at_once, left_at_once, handed_back, HoldsTail, send_of, recv_of, TriesFront, PollsKept};
 ghost use Rattle.futures.specs.Poll.{IfReady, OnPending};
 
 use futures::task::Poll;
@@ -37,7 +37,7 @@ struct Kept<K> {
 
 impl<K> Model for Kept<K> {
     ghost use Rattle.std.specs.Prelude.{◌≡◌, None};
-    ghost use Rattle.priority_channel_laws.specs.States.{Holding};
+    ghost use Rattle.priority_channel_laws.specs.Holding.{Holding};
 
     ghost Value = { Holding K };
 
@@ -72,7 +72,8 @@ impl<K> Kept<K> {
 impl<K: Drop> Kept<K> {
     // Takes out what was kept, with the ticket; None where it was done.
     fn take(&mut self) -> Option<(K, Option<u64>)>
-        ensures taken { MatchOption result (self.old ≡ done) (λ taken. self.old ≡ record { kept = Some taken.0; ticket = taken.1 }) }
+        ensures taken { MatchOption result (self.old ≡ done) (λ taken.
+            self.old ≡ record { kept = Some taken.0; ticket = taken.1 }) }
         ensures done { self.new ≡ done }
     {
         let ticket = self.ticket.take();
@@ -103,8 +104,8 @@ impl<K: Drop> Kept<K> {
         }
     }
 
-    // Of a try to send, which took out what was kept: who was answered waits no more, and else what was not sent is kept
-    // on, under the ticket of before.
+    // Of a try to send, which took out what was kept: who was answered waits no more, and else what
+    // was not sent is kept on, under the ticket of before.
     fn keep_tried<T, P: Ord, W: Clone, A: Allocator + Copy>(
         &mut self,
         tried: Result<(), TrySendError<K>>,
@@ -113,7 +114,8 @@ impl<K: Drop> Kept<K> {
     ) -> Poll<Result<(), SendFault<K>>>
         ensures told { result ≡ told_at_once tried }
         ensures left { self.new ≡ left_at_once ticket tried }
-        ensures answered { IfReady result (λ _. GivesUpTicket P.cmp W.is_clone core.old.state ticket core.new.state) }
+        ensures answered { IfReady result (λ _. GivesUpTicket P.cmp W.is_clone core.old.state ticket
+            core.new.state) }
         ensures waits { OnPending result (core.new ≡ core.old) }
         ensures cost { ComparesAtMost 0 (search_bound core.old.state.waiters) core.old core.new }
     {
@@ -143,7 +145,8 @@ impl<K: Drop> Kept<K> {
     ) -> Option<K>
         ensures kept { result ≡ self.old.kept }
         ensures done { self.new ≡ done }
-        ensures left { GivesUpTicket P.cmp W.is_clone core.old.state self.old.ticket core.new.state }
+        ensures left { GivesUpTicket P.cmp W.is_clone core.old.state self.old.ticket
+            core.new.state }
         ensures cost { ComparesAtMost 0 (search_bound core.old.state.waiters) core.old core.new }
     {
         let (kept, ticket) = self.take()?;
@@ -172,7 +175,7 @@ pub struct SendState<T, P> {
 }
 
 impl<T, P> Model for SendState<T, P> {
-    ghost use Rattle.priority_channel_laws.specs.States.{Holding};
+    ghost use Rattle.priority_channel_laws.specs.Holding.{Holding};
 
     ghost Value = { Holding (T × P) };
 
@@ -205,19 +208,23 @@ impl<T, P> SendState<T, P> {
 }
 
 impl<T: Drop, P: Ord + Drop> SendState<T, P> {
-    /// Sends the pair where it need not wait, as a poll does with whatever waker. Where the channel is open and full it
-    /// answers `Pending`, and changes nothing; so does a state that is done.
+    /// Sends the pair where it need not wait, as a poll does with whatever waker. Where the channel
+    /// is open and full it answers `Pending`, and changes nothing; so does a state that is done.
     pub fn try_on<W: Clone, A: Allocator + Copy>(
         &mut self,
         core: &mut PriorityQueueChannel<T, P, W, A>,
     ) -> (Poll<Result<(), SendFault<(T, P)>>>, Wakes<W, A>)
-        ensures step { IfSome self.old.kept (λ pair. IfReady result.0 (λ _. (waker : W) → PollsKept (Step P.cmp W.is_clone) send_of (λ reply. Answer.PollSend reply)
+        ensures step { IfSome self.old.kept (λ pair. IfReady result.0 (λ _. (waker : W)
+            → PollsKept (Step P.cmp W.is_clone) send_of (λ reply. Answer.PollSend reply)
             pair self.old.ticket waker core.old.state result.0 result.1 core.new.state self.new)) }
-        ensures blocked { IfSome self.old.kept (λ _. OnPending result.0 ((core.old.state.is_closed ≡ false) × (room core.old.state ≡ 0))) }
-        ensures waits { OnPending result.0 ((result.1 ≡ nobody) × (self.new ≡ self.old) × (core.new.state ≡ core.old.state)) }
+        ensures blocked { IfSome self.old.kept (λ _. OnPending result.0
+            ((core.old.state.is_closed ≡ false) × (room core.old.state ≡ 0))) }
+        ensures waits { OnPending result.0 ((result.1 ≡ nobody) × (self.new ≡ self.old)
+            × (core.new.state ≡ core.old.state)) }
         ensures unsent { IfSome (handed_back result.0) (λ pair. self.old.kept ≡ Some pair) }
         ensures answered { IfReady result.0 (λ _. self.new ≡ done) }
-        ensures cost { ComparesAtMost (digits (length core.new.state.pending)) (search_bound core.old.state.waiters) core.old core.new }
+        ensures cost { ComparesAtMost (digits (length core.new.state.pending))
+            (search_bound core.old.state.waiters) core.old core.new }
     {
         let Some((pair, ticket)) = self.pair.take() else {
             return (Poll::Pending, core.nobody());
@@ -227,20 +234,25 @@ impl<T: Drop, P: Ord + Drop> SendState<T, P> {
         (self.pair.keep_tried(tried, ticket, core), wakes)
     }
 
-    /// Sends the pair, or waits for room with the waker. A state that is done answers `Pending`, and changes nothing.
+    /// Sends the pair, or waits for room with the waker. A state that is done answers `Pending`,
+    /// and changes nothing.
     pub fn poll_on<W: Clone, A: Allocator + Copy>(
         &mut self,
         core: &mut PriorityQueueChannel<T, P, W, A>,
         waker: &W,
     ) -> (Poll<Result<(), SendFault<(T, P)>>>, Wakes<W, A>)
-        ensures step { IfSome self.old.kept (λ pair. PollsKept (Step P.cmp W.is_clone) send_of (λ reply. Answer.PollSend reply)
-            pair self.old.ticket waker.now core.old.state result.0 result.1 core.new.state self.new) }
-        ensures done { self.old.kept ≡ None → (result.0 ≡ Poll.Pending) × (result.1 ≡ nobody) × (self.new ≡ self.old) × (core.new ≡ core.old) }
+        ensures step { IfSome self.old.kept (λ pair. PollsKept (Step P.cmp W.is_clone) send_of
+            (λ reply. Answer.PollSend reply)
+            pair self.old.ticket waker.now core.old.state result.0 result.1 core.new.state
+            self.new) }
+        ensures done { self.old.kept ≡ None → (result.0 ≡ Poll.Pending) × (result.1 ≡ nobody)
+            × (self.new ≡ self.old) × (core.new ≡ core.old) }
         ensures unsent { IfSome (handed_back result.0) (λ pair. self.old.kept ≡ Some pair) }
         ensures kept { IfSome self.new.kept (λ pair. self.old.kept ≡ Some pair) }
         ensures answered { IfReady result.0 (λ _. self.new ≡ done) }
         ensures waits { OnPending result.0 (self.new.kept ≡ self.old.kept) }
-        ensures cost { ComparesAtMost (digits (length core.new.state.pending)) (search_bound core.old.state.waiters) core.old core.new }
+        ensures cost { ComparesAtMost (digits (length core.new.state.pending))
+            (search_bound core.old.state.waiters) core.old core.new }
     {
         let Some(((msg, priority), ticket)) = self.pair.take() else {
             return (Poll::Pending, core.nobody());
@@ -249,28 +261,31 @@ impl<T: Drop, P: Ord + Drop> SendState<T, P> {
         (self.pair.keep(answer), wakes)
     }
 
-    /// Ends the send, which waits no more, and answers the pair that was not sent; None where it was done.
+    /// Ends the send, which waits no more, and answers the pair that was not sent; None where it
+    /// was done.
     pub fn give_up_on<W: Clone, A: Allocator + Copy>(
         &mut self,
         core: &mut PriorityQueueChannel<T, P, W, A>,
     ) -> Option<(T, P)>
         ensures kept { result ≡ self.old.kept }
         ensures done { self.new ≡ done }
-        ensures left { GivesUpTicket P.cmp W.is_clone core.old.state self.old.ticket core.new.state }
+        ensures left { GivesUpTicket P.cmp W.is_clone core.old.state self.old.ticket
+            core.new.state }
         ensures cost { ComparesAtMost 0 (search_bound core.old.state.waiters) core.old core.new }
     {
         self.pair.give_up_on(core)
     }
 }
 
-/// What a bulk send keeps: the pairs that were not sent yet, until it has answered or was given up, and its ticket.
+/// What a bulk send keeps: the pairs that were not sent yet, until it has answered or was given up,
+/// and its ticket.
 #[derive(Drop)]
 pub struct SendvState<M> {
     rest: Kept<M>,
 }
 
 impl<M> Model for SendvState<M> {
-    ghost use Rattle.priority_channel_laws.specs.States.{Holding};
+    ghost use Rattle.priority_channel_laws.specs.Holding.{Holding};
 
     ghost Value = { Holding M };
 
@@ -303,15 +318,16 @@ impl<M> SendvState<M> {
 }
 
 impl<M: Drop> SendvState<M> {
-    /// Ends the bulk send, which waits no more, and answers the pairs that were not sent; None where it was done. What
-    /// was sent stays sent.
+    /// Ends the bulk send, which waits no more, and answers the pairs that were not sent; None
+    /// where it was done. What was sent stays sent.
     pub fn give_up_on<T, P: Ord, W: Clone, A: Allocator + Copy>(
         &mut self,
         core: &mut PriorityQueueChannel<T, P, W, A>,
     ) -> Option<M>
         ensures kept { result ≡ self.old.kept }
         ensures done { self.new ≡ done }
-        ensures left { GivesUpTicket P.cmp W.is_clone core.old.state self.old.ticket core.new.state }
+        ensures left { GivesUpTicket P.cmp W.is_clone core.old.state self.old.ticket
+            core.new.state }
         ensures cost { ComparesAtMost 0 (search_bound core.old.state.waiters) core.old core.new }
     {
         self.rest.give_up_on(core)
@@ -319,28 +335,38 @@ impl<M: Drop> SendvState<M> {
 }
 
 impl<T: Drop, P: Ord + Drop, I: Iterator<Item = (T, P)>> SendvState<Peekable<I>> {
-    /// Sends what there is room for, and nothing more where that was not all: it then answers `Pending`, as a state that
-    /// is done does, and waits on under the ticket that it had. Else it is a poll with whatever waker.
+    /// Sends what there is room for, and nothing more where that was not all: it then answers
+    /// `Pending`, as a state that is done does, and waits on under the ticket that it had. Else it
+    /// is a poll with whatever waker.
     pub fn try_on<W: Clone, A: Allocator + Copy>(
         &mut self,
         core: &mut PriorityQueueChannel<T, P, W, A>,
     ) -> (Poll<Result<(), SendFault<Peekable<I>>>>, Wakes<W, A>)
         requires { ForSome self.old.kept (peekable_can I.can_next) }
-        ensures step { IfSome self.old.kept (λ msgs. IfReady result.0 (λ _. (waker : W) → PollsKept (Performs (HasList I.next_gives) P.cmp W.is_clone) sendv_of (λ reply. Answer.PollSendv reply)
+        ensures step { IfSome self.old.kept (λ msgs. IfReady result.0 (λ _. (waker : W)
+            → PollsKept (Performs (HasList I.next_gives) P.cmp W.is_clone) sendv_of
+            (λ reply. Answer.PollSendv reply)
             msgs self.old.ticket waker core.old.state result.0 result.1 core.new.state self.new)) }
-        ensures tried { IfSome self.old.kept (λ msgs. (reply : _) × (result.0 ≡ told_at_once reply) × (self.new ≡ left_at_once self.old.ticket reply)
-            × (OnPending result.0 (Performs (HasList I.next_gives) P.cmp W.is_clone core.old.state (Call.TrySendv msgs) (Answer.TrySendv reply) result.1 core.new.state))) }
-        ensures done { self.old.kept ≡ None → (result.0 ≡ Poll.Pending) × (result.1 ≡ nobody) × (self.new ≡ self.old) × (core.new ≡ core.old) }
-        ensures unsent { IfSome self.old.kept (λ msgs. IfSome (handed_back result.0) (HoldsTail (HasList I.next_gives) msgs)) }
-        ensures kept { IfSome self.old.kept (λ msgs. IfSome self.new.kept (HoldsTail (HasList I.next_gives) msgs)) }
+        ensures tried { IfSome self.old.kept (λ msgs. (reply : _) × (result.0 ≡ told_at_once reply)
+            × (self.new ≡ left_at_once self.old.ticket reply)
+            × (OnPending result.0 (Performs (HasList I.next_gives) P.cmp W.is_clone core.old.state
+            (Call.TrySendv msgs) (Answer.TrySendv reply) result.1 core.new.state))) }
+        ensures done { self.old.kept ≡ None → (result.0 ≡ Poll.Pending) × (result.1 ≡ nobody)
+            × (self.new ≡ self.old) × (core.new ≡ core.old) }
+        ensures unsent { IfSome self.old.kept (λ msgs. IfSome (handed_back result.0)
+            (HoldsTail (HasList I.next_gives) msgs)) }
+        ensures kept { IfSome self.old.kept (λ msgs. IfSome self.new.kept
+            (HoldsTail (HasList I.next_gives) msgs)) }
         ensures answered { IfReady result.0 (λ _. self.new ≡ done) }
         ensures waits { OnPending result.0 (is_some self.new.kept ≡ is_some self.old.kept) }
 
         // Whether or not the iterator has one list.
         ensures unsent_callable { IfSome (handed_back result.0) (peekable_can I.can_next) }
         ensures kept_callable { ForSome self.new.kept (peekable_can I.can_next) }
-        ensures front { IfSome self.old.kept (λ _. (front : List (T × P)) × TriesFront core.old.state self.old.ticket front result.0 result.1 core.new.state
-            × ComparesAtMost (length front * digits (length core.new.state.pending)) (search_bound core.old.state.waiters) core.old core.new) }
+        ensures front { IfSome self.old.kept (λ _. (front : List (T × P))
+            × TriesFront core.old.state self.old.ticket front result.0 result.1 core.new.state
+            × ComparesAtMost (length front * digits (length core.new.state.pending))
+            (search_bound core.old.state.waiters) core.old core.new) }
         ensures good { IfSome self.old.kept (λ _. IsGood core.new.state) }
     {
         let Some((rest, ticket)) = self.rest.take() else {
@@ -350,27 +376,36 @@ impl<T: Drop, P: Ord + Drop, I: Iterator<Item = (T, P)>> SendvState<Peekable<I>>
         (self.rest.keep_tried(tried, ticket, core), wakes)
     }
 
-    /// Sends what there is room for, and waits for room with the rest and the waker. A state that is done answers
-    /// `Pending`, and changes nothing.
+    /// Sends what there is room for, and waits for room with the rest and the waker. A state that
+    /// is done answers `Pending`, and changes nothing.
     pub fn poll_on<W: Clone, A: Allocator + Copy>(
         &mut self,
         core: &mut PriorityQueueChannel<T, P, W, A>,
         waker: &W,
     ) -> (Poll<Result<(), SendFault<Peekable<I>>>>, Wakes<W, A>)
         requires { ForSome self.old.kept (peekable_can I.can_next) }
-        ensures step { IfSome self.old.kept (λ msgs. PollsKept (Performs (HasList I.next_gives) P.cmp W.is_clone) sendv_of (λ reply. Answer.PollSendv reply)
-            msgs self.old.ticket waker.now core.old.state result.0 result.1 core.new.state self.new) }
-        ensures done { self.old.kept ≡ None → (result.0 ≡ Poll.Pending) × (result.1 ≡ nobody) × (self.new ≡ self.old) × (core.new ≡ core.old) }
-        ensures unsent { IfSome self.old.kept (λ msgs. IfSome (handed_back result.0) (HoldsTail (HasList I.next_gives) msgs)) }
-        ensures kept { IfSome self.old.kept (λ msgs. IfSome self.new.kept (HoldsTail (HasList I.next_gives) msgs)) }
+        ensures step { IfSome self.old.kept (λ msgs.
+            PollsKept (Performs (HasList I.next_gives) P.cmp W.is_clone) sendv_of
+            (λ reply. Answer.PollSendv reply)
+            msgs self.old.ticket waker.now core.old.state result.0 result.1 core.new.state
+            self.new) }
+        ensures done { self.old.kept ≡ None → (result.0 ≡ Poll.Pending) × (result.1 ≡ nobody)
+            × (self.new ≡ self.old) × (core.new ≡ core.old) }
+        ensures unsent { IfSome self.old.kept (λ msgs. IfSome (handed_back result.0)
+            (HoldsTail (HasList I.next_gives) msgs)) }
+        ensures kept { IfSome self.old.kept (λ msgs. IfSome self.new.kept
+            (HoldsTail (HasList I.next_gives) msgs)) }
         ensures answered { IfReady result.0 (λ _. self.new ≡ done) }
         ensures waits { OnPending result.0 (is_some self.new.kept ≡ is_some self.old.kept) }
 
         // Whether or not the iterator has one list.
         ensures unsent_callable { IfSome (handed_back result.0) (peekable_can I.can_next) }
         ensures kept_callable { ForSome self.new.kept (peekable_can I.can_next) }
-        ensures front { IfSome self.old.kept (λ _. (front : List (T × P)) × PollsFront W.is_clone core.old.state self.old.ticket waker.now front result.1 core.new.state
-            × ComparesAtMost (length front * digits (length core.new.state.pending)) (search_bound core.old.state.waiters) core.old core.new) }
+        ensures front { IfSome self.old.kept (λ _. (front : List (T × P))
+            × PollsFront W.is_clone core.old.state self.old.ticket waker.now front result.1
+            core.new.state
+            × ComparesAtMost (length front * digits (length core.new.state.pending))
+            (search_bound core.old.state.waiters) core.old core.new) }
         ensures good { IfSome self.old.kept (λ _. IsGood core.new.state) }
     {
         let Some((msgs, ticket)) = self.rest.take() else {
@@ -388,7 +423,7 @@ pub struct RecvState {
 }
 
 impl Model for RecvState {
-    ghost use Rattle.priority_channel_laws.specs.States.{Holding};
+    ghost use Rattle.priority_channel_laws.specs.Holding.{Holding};
 
     ghost Value = { Holding (Unit {0}) };
 
@@ -419,18 +454,23 @@ impl RecvState {
         self.receive.is_done()
     }
 
-    /// Receives a pair where it need not wait, as a poll does with whatever waker. Where the channel is open and empty it
-    /// answers `Pending`, and changes nothing; so does a state that is done.
+    /// Receives a pair where it need not wait, as a poll does with whatever waker. Where the
+    /// channel is open and empty it answers `Pending`, and changes nothing; so does a state that is
+    /// done.
     pub fn try_on<T, P: Ord, W: Clone, A: Allocator + Copy>(
         &mut self,
         core: &mut PriorityQueueChannel<T, P, W, A>,
     ) -> (Poll<Result<(T, P), RecvFault>>, Wakes<W, A>)
-        ensures step { IfSome self.old.kept (λ kept. IfReady result.0 (λ _. (waker : W) → PollsKept (Step P.cmp W.is_clone) recv_of (λ reply. Answer.PollRecv reply)
+        ensures step { IfSome self.old.kept (λ kept. IfReady result.0 (λ _. (waker : W)
+            → PollsKept (Step P.cmp W.is_clone) recv_of (λ reply. Answer.PollRecv reply)
             kept self.old.ticket waker core.old.state result.0 result.1 core.new.state self.new)) }
-        ensures blocked { IfSome self.old.kept (λ _. OnPending result.0 ((core.old.state.is_closed ≡ false) × (core.old.state.pending ≡ []))) }
-        ensures waits { OnPending result.0 ((result.1 ≡ nobody) × (self.new ≡ self.old) × (core.new.state ≡ core.old.state)) }
+        ensures blocked { IfSome self.old.kept (λ _. OnPending result.0
+            ((core.old.state.is_closed ≡ false) × (core.old.state.pending ≡ []))) }
+        ensures waits { OnPending result.0 ((result.1 ≡ nobody) × (self.new ≡ self.old)
+            × (core.new.state ≡ core.old.state)) }
         ensures answered { IfReady result.0 (λ _. self.new ≡ done) }
-        ensures cost { ComparesAtMost (2 * digits (length core.old.state.pending)) (search_bound core.old.state.waiters) core.old core.new }
+        ensures cost { ComparesAtMost (2 * digits (length core.old.state.pending))
+            (search_bound core.old.state.waiters) core.old core.new }
     {
         if self.is_done() {
             return (Poll::Pending, core.nobody());
@@ -449,19 +489,23 @@ impl RecvState {
         }
     }
 
-    /// Receives a pair, or waits for a message with the waker. A state that is done answers `Pending`, and changes
-    /// nothing.
+    /// Receives a pair, or waits for a message with the waker. A state that is done answers
+    /// `Pending`, and changes nothing.
     pub fn poll_on<T, P: Ord, W: Clone, A: Allocator + Copy>(
         &mut self,
         core: &mut PriorityQueueChannel<T, P, W, A>,
         waker: &W,
     ) -> (Poll<Result<(T, P), RecvFault>>, Wakes<W, A>)
-        ensures step { IfSome self.old.kept (λ kept. PollsKept (Step P.cmp W.is_clone) recv_of (λ reply. Answer.PollRecv reply)
-            kept self.old.ticket waker.now core.old.state result.0 result.1 core.new.state self.new) }
+        ensures step { IfSome self.old.kept (λ kept. PollsKept (Step P.cmp W.is_clone) recv_of
+            (λ reply. Answer.PollRecv reply)
+            kept self.old.ticket waker.now core.old.state result.0 result.1 core.new.state
+            self.new) }
         ensures answered { IfReady result.0 (λ _. self.new ≡ done) }
         ensures waits { OnPending result.0 (self.new.kept ≡ self.old.kept) }
-        ensures done { self.old.kept ≡ None → (result.0 ≡ Poll.Pending) × (result.1 ≡ nobody) × (self.new ≡ self.old) × (core.new ≡ core.old) }
-        ensures cost { ComparesAtMost (2 * digits (length core.old.state.pending)) (search_bound core.old.state.waiters) core.old core.new }
+        ensures done { self.old.kept ≡ None → (result.0 ≡ Poll.Pending) × (result.1 ≡ nobody)
+            × (self.new ≡ self.old) × (core.new ≡ core.old) }
+        ensures cost { ComparesAtMost (2 * digits (length core.old.state.pending))
+            (search_bound core.old.state.waiters) core.old core.new }
     {
         let Some(((), ticket)) = self.receive.take() else {
             return (Poll::Pending, core.nobody());
@@ -477,7 +521,8 @@ impl RecvState {
     ) -> Option<()>
         ensures kept { result ≡ self.old.kept }
         ensures done { self.new ≡ done }
-        ensures left { GivesUpTicket P.cmp W.is_clone core.old.state self.old.ticket core.new.state }
+        ensures left { GivesUpTicket P.cmp W.is_clone core.old.state self.old.ticket
+            core.new.state }
         ensures cost { ComparesAtMost 0 (search_bound core.old.state.waiters) core.old core.new }
     {
         self.receive.give_up_on(core)

@@ -1,4 +1,4 @@
--- Two elements of a list change places, one on each side of a cut.
+-- Two elements of a list are swapped, one on each side of a cut.
 use Rattle.std.proofs.Common.{◌≡◌, ℕ, ◌<◌, List, [], ◌∷◌, ◌++◌, length, length-append, slice_index_or, slice_set, sym, ap, ◌∙◌, arith}
 use Rattle.std.proofs.Math.ListN.{get_or-append}
 use Rattle.std.proofs.lemmas.List.{get_or_at, get_or_default, set_at, set-append_left, length-set}

@@ -1,9 +1,9 @@
 pub mod ByKey
-pub mod DigitsLemmas
+pub mod Digits
 pub mod Exchange
-pub mod GreatestLemmas
-pub mod HeapLemmas
+pub mod Greatest
+pub mod Heaps
 pub mod ItemOrder
 pub mod Packed
 pub mod Tickets
-pub mod WaitingLemmas
+pub mod Waiting

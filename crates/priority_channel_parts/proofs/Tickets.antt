@@ -1,13 +1,14 @@
--- Listing a party and taking a ticket off keep each ticket one of the word's own, in one list alone.
+-- Listing a party and taking a ticket off keep each ticket one of the word's own, in one list
+-- alone.
 use Rattle.std.proofs.Common.{◌≡◌, ℕ, ◌+◌, ◌<◌, ◌≤◌, ◌≢◌, true, false, not, List, [], ◌∷◌, ◌++◌, get_or, map, refl, sym, subst, arith, inl, inr}
 use Rattle.std.specs.Prelude.{◌==◌, if◌then◌else◌, Option, Some, None, IfSome, IfNone}
 use Rattle.std.specs.List.{All}
 use Rattle.std.proofs.lemmas.Bool.{cases_lt, ne_eqb}
 use Rattle.std.proofs.lemmas.List.Elements.{All-filter, All-map, All-push, All-weaker}
 use Rattle.std.proofs.lemmas.List.Folds.{list_any_none}
-use Rattle.priority_channel_parts.specs.Waiting.{IsRising, is_listed, without, with_waker, without_given, listing, fresh, Listing, TakesPlace}
+use Rattle.priority_channel_parts.specs.Waiting.{IsRising, is_listed, without, with_waker, without_given, listing, fresh, Listing, IsListing}
 use Rattle.priority_channel_parts.specs.Waiters.{HasOwnTickets}
-use Rattle.priority_channel_parts.proofs.WaitingLemmas.{all_from_unlisted, rising-with_waker, rising-without, same_ticket}
+use Rattle.priority_channel_parts.proofs.Waiting.{all_from_unlisted, rising-with_waker, rising-without, same_ticket}
 use Rattle.std.proofs.lemmas.List.Quantifiers.{all_pairs_push}
 
 module _ {W : Type 0} where
@@ -104,7 +105,7 @@ module _ {W : Type 0} where
 
   -- what `listen_beside` promises of the list where a party is listed, and of the others
   pub own-listed : (is_clone : W → W → Type 0) (rs ss ms ns : List (ℕ × W)) (given r : Option ℕ) (waker : W) (n m : ℕ) → Own rs ms n
-      → IfSome r (λ u. TakesPlace is_clone given waker rs n (record { ticket = u; waiters = ss; next_ticket = m }) × (ns ≡ ms))
+      → IfSome r (λ u. IsListing is_clone given waker rs n (record { ticket = u; waiters = ss; next_ticket = m }) × (ns ≡ ms))
       → IfNone r ((ss ≡ without_given given rs) × (ns ≡ without_given given ms) × (m ≡ n)) → Own ss ns m
   own-listed is_clone rs ss ms ns given None waker n m own some none =
       let left = own-room rs (without_given given rs) ms n n own (follows-without rs given n own.room_rises own.room_given) in

@@ -12,10 +12,10 @@ use Rattle.priority_channel_parts.specs.declared.errors.RecvFault.{RecvFault}
 use Rattle.priority_channel_parts.specs.declared.errors.RecvFault.TheVariants as recv_fault
 
 -- what a refused send hands back
-abbrev pub refused : {A : Type 0} → TrySendError A → A
-refused (Closed held) = held
-refused (Full held) = held
-refused (Memory held) = held
+abbrev pub rest_of : {A : Type 0} → TrySendError A → A
+rest_of (Closed held) = held
+rest_of (Full held) = held
+rest_of (Memory held) = held
 
 -- what a send that waited in vain has not sent
 abbrev pub unsent : {A : Type 0} → SendFault A → A

@@ -27,22 +27,22 @@ module _ {W : Type 0} where
     message = without_given given waiters.message;
   }
 
-  -- a place taken on a side
+  -- the waiters once a party is listed on a side
   abbrev pub enlist : Side → Listing W → Waiters W → Waiters W
-  enlist Room place waiters =
-      record waiters { room = place.waiters; next_ticket = place.next_ticket }
-  enlist Message place waiters =
-      record waiters { message = place.waiters; next_ticket = place.next_ticket }
+  enlist Room listed waiters =
+      record waiters { room = listed.waiters; next_ticket = listed.next_ticket }
+  enlist Message listed waiters =
+      record waiters { message = listed.waiters; next_ticket = listed.next_ticket }
 
-  -- a party is listed on a side under this ticket, with a clone of its waker; without a ticket it is
-  -- in neither list
+  -- a party is listed on a side under this ticket, with a clone of its waker; without a ticket it
+  -- is in neither list
   abbrev pub Enlists : (W → W → Type 0) → Side → Option ℕ → W → Option ℕ
       → Waiters W → Waiters W → Type 0
   Enlists is_clone side given waker None old new = new ≡ unlist given old
   Enlists is_clone side given waker (Some ticket) old new =
       (kept : W) × is_clone waker kept
-      × (let place = listing given kept (on_side side old) old.next_ticket in
-      (ticket ≡ place.ticket) × (new ≡ enlist side place old))
+      × (let listed = listing given kept (on_side side old) old.next_ticket in
+      (ticket ≡ listed.ticket) × (new ≡ enlist side listed old))
 
   -- in each list the tickets rise, each was given before the next one, and none is in both
   pub record HasOwnTickets (waiters : Waiters W) : Type 0 where

@@ -47,7 +47,7 @@ module _ {W : Type 0} where
       then record { ticket = ticket; waiters = with_waker ticket waker waiters; next_ticket = next }
       else fresh waker waiters next
 
-  -- a party takes this place in the list, with a clone of its waker
-  abbrev pub TakesPlace : (W → W → Type 0) → Option ℕ → W → List (ℕ × W) → ℕ → Listing W → Type 0
-  TakesPlace is_clone given waker waiters next place =
-      (kept : W) × is_clone waker kept × (listing given kept waiters next ≡ place)
+  -- so a party is listed, with a clone of its waker
+  abbrev pub IsListing : (W → W → Type 0) → Option ℕ → W → List (ℕ × W) → ℕ → Listing W → Type 0
+  IsListing is_clone given waker waiters next listed =
+      (kept : W) × is_clone waker kept × (listing given kept waiters next ≡ listed)

@@ -1,6 +1,7 @@
 //! A count with a closed bit in one word, and the parties that wait for the count to change.
 //!
-//! The small calls of the hot path are inlined by force: their answers would go through memory, and be read back at once.
+//! The small calls of the hot path are inlined by force: their answers would go through memory, and
+//! be read back at once.
 ghost use Rattle.std.specs.Prelude.{◌≡◌, ◌+◌, ◌-◌, ◌<◌, ◌≤◌, ◌^◌, ◌==◌, if◌then◌else◌, [], IsSome, true, false, Some};
 ghost use Rattle.priority_channel_parts.specs.Word.{nobody};
 ghost use Rattle.priority_channel_parts.specs.Waiting.{is_given_listed};
@@ -15,8 +16,8 @@ use std::marker::Model;
 
 const CLOSED_BIT: u64 = 1 << 63;
 
-/// Whom a step hands out: those who waited for room, and those who waited for a message. It must be spent, by
-/// `into_lists`.
+/// Whom a step hands out: those who waited for room, and those who waited for a message. It must be
+/// spent, by `into_lists`.
 pub struct Wakes<W, A: Allocator = Global> {
     room: Vec<(u64, W), A>,
     message: Vec<(u64, W), A>,
@@ -55,12 +56,12 @@ impl<W, A: Allocator + Copy> Wakes<W, A> {
     }
 }
 
-/// A count below 2^63 and a closed bit, in one word, and the parties that wait: for the count to fall, so that there
-/// is room, or to rise, so that there is a message. The name is the Rust crate's: here nothing is atomic, since a lock
-/// guards the channel.
+/// A count below 2^63 and a closed bit, in one word, and the parties that wait: for the count to
+/// fall, so that there is room, or to rise, so that there is a message. The name is the Rust
+/// crate's: here nothing is atomic, since a lock guards the channel.
 ///
-/// A waiting party is known by its ticket, a number that is given once. Whom a call hands out is moved out as whole
-/// lists, so no call that hands out takes memory.
+/// A waiting party is known by its ticket, a number that is given once. Whom a call hands out is
+/// moved out as whole lists, so no call that hands out takes memory.
 ///
 /// ```
 /// let mut length: AwaitableAtomicCounterAndBit<Waker> = AwaitableAtomicCounterAndBit::new(alloc, 5);
@@ -88,12 +89,20 @@ impl<W, A: Allocator> Model for AwaitableAtomicCounterAndBit<W, A> {
       word = record {
         is_closed = closed_bit a.packed;
         count = count_below a.packed;
-        waiters = record { room = a.room_waiters; message = a.message_waiters; next_ticket = a.next_ticket };
+        waiters = record {
+          room = a.room_waiters;
+          message = a.message_waiters;
+          next_ticket = a.next_ticket;
+        };
       };
       comparisons = a.comparisons.count;
     } };
 
-    ghost invariant = { λ a. HasOwnTickets (record { room = a.room_waiters; message = a.message_waiters; next_ticket = a.next_ticket }) };
+    ghost invariant = { λ a. HasOwnTickets (record {
+      room = a.room_waiters;
+      message = a.message_waiters;
+      next_ticket = a.next_ticket;
+    }) };
 }
 
 #[inline(always)]
@@ -108,7 +117,11 @@ impl<W, A: Allocator + Copy> AwaitableAtomicCounterAndBit<W, A> {
     /// An open word of this count, for which nobody waits. It takes no memory.
     pub fn new(alloc: A, value: u64) -> Self
         requires { value < 2 ^ 63 }
-        ensures word { result.word ≡ record { is_closed = false; count = value; waiters = no_waiters } }
+        ensures word { result.word ≡ record {
+          is_closed = false;
+          count = value;
+          waiters = no_waiters;
+        } }
         ensures tickets { HasOwnTickets result.word.waiters }
     {
         AwaitableAtomicCounterAndBit {
@@ -133,8 +146,14 @@ impl<W, A: Allocator + Copy> AwaitableAtomicCounterAndBit<W, A> {
     /// Sets the bit, answers the bit before, and hands out everybody.
     pub fn set_bit(&mut self) -> (bool, Wakes<W, A>)
         ensures bit { result.0 ≡ self.old.word.is_closed }
-        ensures handed { result.1 ≡ record { room = self.old.word.waiters.room; message = self.old.word.waiters.message } }
-        ensures word { self.new.word ≡ record self.old.word { is_closed = true; waiters = record self.old.word.waiters { room = []; message = [] } } }
+        ensures handed { result.1 ≡ record {
+          room = self.old.word.waiters.room;
+          message = self.old.word.waiters.message;
+        } }
+        ensures word { self.new.word ≡ record self.old.word {
+          is_closed = true;
+          waiters = record self.old.word.waiters { room = []; message = [] };
+        } }
         ensures tickets { HasOwnTickets self.new.word.waiters }
         ensures comparisons { self.new.comparisons ≡ self.old.comparisons }
     {
@@ -145,17 +164,20 @@ impl<W, A: Allocator + Copy> AwaitableAtomicCounterAndBit<W, A> {
         (was_closed, Wakes { room, message })
     }
 
-    /// Adds to the count, and answers the bit and the count before. Where the count rises, those who wait for a
-    /// message are handed out.
+    /// Adds to the count, and answers the bit and the count before. Where the count rises, those
+    /// who wait for a message are handed out.
     #[inline(always)]
     pub fn incr(&mut self, n: u64) -> ((bool, u64), Wakes<W, A>)
         requires { self.old.word.count + n < 2 ^ 63 }
         ensures bit { result.0.0 ≡ self.old.word.is_closed }
         ensures count { result.0.1 ≡ self.old.word.count }
-        ensures handed { result.1 ≡ (if n == 0 then nobody else record { room = []; message = self.old.word.waiters.message }) }
+        ensures handed { result.1 ≡ (if n == 0 then nobody
+            else record { room = []; message = self.old.word.waiters.message }) }
         ensures word { self.new.word ≡ record self.old.word {
           count = self.old.word.count + n;
-          waiters = record self.old.word.waiters { message = if n == 0 then self.old.word.waiters.message else [] };
+          waiters = record self.old.word.waiters {
+            message = if n == 0 then self.old.word.waiters.message else [];
+          };
         } }
         ensures tickets { HasOwnTickets self.new.word.waiters }
         ensures comparisons { self.new.comparisons ≡ self.old.comparisons }
@@ -170,14 +192,18 @@ impl<W, A: Allocator + Copy> AwaitableAtomicCounterAndBit<W, A> {
         (before, Wakes { room, message })
     }
 
-    /// Takes one from the count, answers the bit and the count before, and hands out those who wait for room.
+    /// Takes one from the count, answers the bit and the count before, and hands out those who wait
+    /// for room.
     #[inline(always)]
     pub fn decr(&mut self) -> ((bool, u64), Wakes<W, A>)
         requires { 0 < self.old.word.count }
         ensures bit { result.0.0 ≡ self.old.word.is_closed }
         ensures count { result.0.1 ≡ self.old.word.count }
         ensures handed { result.1 ≡ record { room = self.old.word.waiters.room; message = [] } }
-        ensures word { self.new.word ≡ record self.old.word { count = self.old.word.count - 1; waiters = record self.old.word.waiters { room = [] } } }
+        ensures word { self.new.word ≡ record self.old.word {
+          count = self.old.word.count - 1;
+          waiters = record self.old.word.waiters { room = [] };
+        } }
         ensures tickets { HasOwnTickets self.new.word.waiters }
         ensures comparisons { self.new.comparisons ≡ self.old.comparisons }
     {
@@ -192,9 +218,11 @@ impl<W, A: Allocator + Copy> AwaitableAtomicCounterAndBit<W, A> {
     pub fn unlisten(&mut self, ticket: u64)
     where
         W: Drop,
-        ensures word { self.new.word ≡ record self.old.word { waiters = unlist (Some ticket) self.old.word.waiters } }
+        ensures word { self.new.word
+            ≡ record self.old.word { waiters = unlist (Some ticket) self.old.word.waiters } }
         ensures tickets { HasOwnTickets self.new.word.waiters }
-        ensures cost { self.new.comparisons ≤ self.old.comparisons + search_bound self.old.word.waiters }
+        ensures cost { self.new.comparisons
+            ≤ self.old.comparisons + search_bound self.old.word.waiters }
     {
         self.room_waiters.remove(ticket, &mut self.comparisons);
         self.message_waiters.remove(ticket, &mut self.comparisons);
@@ -202,15 +230,19 @@ impl<W, A: Allocator + Copy> AwaitableAtomicCounterAndBit<W, A> {
 }
 
 impl<W: Clone, A: Allocator + Copy> AwaitableAtomicCounterAndBit<W, A> {
-    /// Lists a party on a side, under its own ticket where that stands there, and else under the next one. None where
-    /// the clone of the waker or its place was refused, or where the numbers ran out; it is then listed nowhere.
+    /// Lists a party on a side, under its own ticket where that stands there, and else under the
+    /// next one. None where the clone of the waker or memory for its entry was refused, or where
+    /// the numbers ran out; it is then listed nowhere.
     pub fn listen(&mut self, side: Side, ticket: Option<u64>, waker: &W) -> Option<u64>
-        ensures enlists { Enlists W.is_clone side ticket waker.now result self.old.word.waiters self.new.word.waiters }
+        ensures enlists { Enlists W.is_clone side ticket waker.now result self.old.word.waiters
+            self.new.word.waiters }
         ensures word { self.new.word ≡ record self.old.word { waiters = self.new.word.waiters } }
-        ensures renewed { is_given_listed ticket (on_side side self.old.word.waiters) ≡ true → W.is_infallible waker.now → IsSome result }
+        ensures renewed { is_given_listed ticket (on_side side self.old.word.waiters) ≡ true
+            → W.is_infallible waker.now → IsSome result }
         ensures tickets { HasOwnTickets self.new.word.waiters }
         ensures fits { self.new.word.waiters.next_ticket < 2 ^ 64 }
-        ensures cost { self.new.comparisons ≤ self.old.comparisons + search_bound self.old.word.waiters }
+        ensures cost { self.new.comparisons
+            ≤ self.old.comparisons + search_bound self.old.word.waiters }
     {
         match side {
             Side::Room => self.room_waiters.listen_beside(

@@ -1,6 +1,7 @@
 //! What a send and a receive that were refused answer.
 //!
-//! The error of a send holds what was to be sent. `{}` and `{:?}` print nothing of that, so its type need not print.
+//! The error of a send holds what was to be sent. `{}` and `{:?}` print nothing of that, so its
+//! type need not print.
 ghost use Rattle.std.specs.Prelude.{◌≡◌, ◌↔◌, IsTrue, Some, codes};
 
 use std::error::Error;
@@ -24,11 +25,11 @@ pub enum TrySendError<T> {
 }
 
 impl<T> TrySendError<T> {
-    ghost use Rattle.priority_channel_parts.specs.Errors.{refused};
+    ghost use Rattle.priority_channel_parts.specs.Errors.{rest_of};
 
     /// What was to be sent.
     pub fn into_inner(self) -> T
-        ensures { result ≡ refused self }
+        ensures { result ≡ rest_of self }
     {
         match self {
             TrySendError::Full(held) => held,
@@ -39,21 +40,21 @@ impl<T> TrySendError<T> {
 
     /// Whether the channel was full, rather than closed or out of memory.
     pub fn is_full(&self) -> bool
-        ensures { IsTrue result ↔ (self.now ≡ TrySendError.Full (refused self.now)) }
+        ensures { IsTrue result ↔ (self.now ≡ TrySendError.Full (rest_of self.now)) }
     {
         matches!(self, TrySendError::Full(_))
     }
 
     /// Whether the channel was closed, so that it takes nothing any more.
     pub fn is_closed(&self) -> bool
-        ensures { IsTrue result ↔ (self.now ≡ TrySendError.Closed (refused self.now)) }
+        ensures { IsTrue result ↔ (self.now ≡ TrySendError.Closed (rest_of self.now)) }
     {
         matches!(self, TrySendError::Closed(_))
     }
 
     /// Whether there was room, but no memory for it.
     pub fn is_memory(&self) -> bool
-        ensures { IsTrue result ↔ (self.now ≡ TrySendError.Memory (refused self.now)) }
+        ensures { IsTrue result ↔ (self.now ≡ TrySendError.Memory (rest_of self.now)) }
     {
         matches!(self, TrySendError::Memory(_))
     }
@@ -349,7 +350,7 @@ impl<T> From<SendError<T>> for SendFault<T> {
 pub enum RecvFault {
     /// The channel is closed and empty.
     Closed(RecvError),
-    /// There is no memory, for waiting or for the place of many messages.
+    /// There is no memory, for waiting or for many messages.
     Memory,
 }
 

@@ -7,7 +7,8 @@ ghost use Rattle.std.specs.Ordering.{on, as_partial_cmp, eq_of_both};
 
 use std::cmp::Ordering;
 
-/// Items are ordered by their priority. Of two with equal priorities the one that was accepted first is the greater.
+/// Items are ordered by their priority. Of two with equal priorities the one that was accepted
+/// first is the greater.
 #[derive(Drop)]
 pub struct Item<T, P> {
     pub msg: T,
@@ -34,7 +35,8 @@ impl<T, P: Ord> PartialOrd for Item<T, P> {
 
     ghost partial_cmp = { as_partial_cmp (item_cmp P.cmp) };
 
-    ghost laws = { partial_order_from_own_ties (Prim.search (comparing, rules)) (Prim.search (comparing, rules)) };
+    ghost laws = { partial_order_from_own_ties (Prim.search (comparing, rules))
+        (Prim.search (comparing, rules)) };
 
     fn partial_cmp(&self, other: &Item<T, P>) -> Option<Ordering> {
         Some(self.cmp(other))

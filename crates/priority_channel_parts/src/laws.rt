@@ -3,17 +3,19 @@ ghost use Rattle.std.specs.Prelude.{◌≡◌, ◌-◌, ◌<◌, ◌≤◌, ◌^
 ghost use Rattle.priority_channel_parts.specs.Digits.{digits};
 ghost use Rattle.priority_channel_parts.specs.Greatest.{TakesGreatest};
 
-/// A list of pairs has at most one first greatest pair, and leaves one rest. So which pair a receive gives is
-/// decided by what is pending.
+/// A list of pairs has at most one first greatest pair, and leaves one rest. So which pair a
+/// receive gives is decided by what is pending.
 pub fn one_greatest_law<T, P: Ord>()
     ensures { (pending : List (T × P)) (pair other : T × P) (rest others : List (T × P))
-        → TakesGreatest P.cmp pending pair rest → TakesGreatest P.cmp pending other others → (pair ≡ other) × (rest ≡ others) }
+        → TakesGreatest P.cmp pending pair rest → TakesGreatest P.cmp pending other others
+        → (pair ≡ other) × (rest ≡ others) }
 {}
 
-/// How many binary digits a length has, in which the bounds on comparisons are: one more than its logarithm, rounded
-/// down.
+/// How many binary digits a length has, in which the bounds on comparisons are: one more than its
+/// logarithm, rounded down.
 pub fn digits_law()
     ensures above { (n : ℕ) → n < 2 ^ digits n }
     ensures least { (n : ℕ) → 0 < n → 2 ^ (digits n - 1) ≤ n }
-    ensures samples { (digits 0 ≡ 0) × (digits 1 ≡ 1) × (digits 2 ≡ 2) × (digits 3 ≡ 2) × (digits 4 ≡ 3) × (digits 1000 ≡ 10) × (digits 1024 ≡ 11) }
+    ensures samples { (digits 0 ≡ 0) × (digits 1 ≡ 1) × (digits 2 ≡ 2) × (digits 3 ≡ 2)
+        × (digits 4 ≡ 3) × (digits 1000 ≡ 10) × (digits 1024 ≡ 11) }
 {}

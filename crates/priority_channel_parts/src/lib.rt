@@ -1,5 +1,6 @@
-//! The parts of a channel's core: the bag of pending pairs, the word with its two waiting lists, the waiting list itself,
-//! its two sides, the counter of comparisons that contracts alone see, and the errors.
+//! The parts of a channel's core: the bag of pending pairs, the word with its two waiting lists,
+//! the waiting list itself, its two sides, the counter of comparisons that contracts alone see, and
+//! the errors.
 //!
 //! A caller has them in `priority_channel_core`, which is made of them.
 #![tactic(auto)]

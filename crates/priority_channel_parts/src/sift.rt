@@ -1,4 +1,5 @@
-//! The two ways in which an item moves through a heap. The parent of the item at i is at (i - 1) / 2.
+//! The two ways in which an item moves through a heap. The parent of the item at i is at (i - 1) /
+//! 2.
 ghost use Rattle.std.specs.Prelude.{◌≡◌, ◌+◌, ◌*◌, ◌<◌, ◌≤◌, length};
 ghost use Rattle.std.specs.List.Sorted.{IsPermutation};
 ghost use Rattle.std.specs.List.{swap};
@@ -28,15 +29,15 @@ pub(crate) fn rise<T, P: Ord>(items: &mut [Item<T, P>], comparisons: &mut Compar
     }
 }
 
-/// Takes the first item to a place where no parent is below its child: down to the bottom, and up again.
+/// Takes the first item to where no parent is below its child: down to the bottom, and up again.
 pub(crate) fn sink<T, P: Ord>(items: &mut [Item<T, P>], comparisons: &mut Comparisons)
     ensures moves { IsPermutation items.old items.new }
     ensures order { RestoresHeap (item_cmp P.cmp) items.old 1 (length items.old) items.new }
     ensures cost { comparisons.new.count ≤ comparisons.old.count + 2 * digits (length items.old) }
 {
-    // Once for all levels: which child is the greater cannot be foretold, so a branch is wrong at every second
-    // level; but it begins to load the next level before the comparison has ended, which counts for more where the
-    // items lie in far memory.
+    // Once for all levels: which child is the greater cannot be foretold, so a branch is wrong at
+    // every second level; but it begins to load the next level before the comparison has ended,
+    // which counts for more where the items lie in far memory.
     if items.len() < FAR {
         sink_by::<WithoutBranch, T, P>(items, comparisons);
     } else {
@@ -55,7 +56,8 @@ trait Choice {
         at: usize,
     ) -> usize
         requires { at * 2 + 1 < length items.now }
-        ensures child { (at * 2 + 1 ≤ result) × (result ≤ at * 2 + 2) × (result < length items.now) }
+        ensures child { (at * 2 + 1 ≤ result) × (result ≤ at * 2 + 2)
+            × (result < length items.now) }
         ensures best { IsGreaterChild (item_cmp P.cmp) items.now at result (length items.now) }
         ensures cost { comparisons.new.count ≤ comparisons.old.count + 1 };
 }
@@ -116,7 +118,8 @@ fn sink_by<C: Choice, T, P: Ord>(items: &mut [Item<T, P>], comparisons: &mut Com
     rise(items, comparisons, at);
 }
 
-/// Two items change places. Field by field, since fields of a few bytes move in registers, where a whole item goes through memory.
+/// Swaps two items. Field by field, since fields of a few bytes move in registers, where a whole
+/// item goes through memory.
 fn exchange<T, P>(items: &mut [Item<T, P>], low: usize, high: usize)
     requires { (low < high) × (high < length items.old) }
     ensures after { items.new ≡ swap items.old low high }

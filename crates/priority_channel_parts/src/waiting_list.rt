@@ -2,7 +2,7 @@
 ghost use Rattle.std.specs.Prelude.{◌≡◌, ℕ, ◌+◌, ◌<◌, ◌≤◌, false, IfSome, IsSome, true, IfNone, None, List, [], ◌++◌, length, option_to_list, ◌^◌};
 ghost use Rattle.std.specs.List.{All, HoldsAt};
 ghost use Rattle.priority_channel_parts.specs.Digits.{digits};
-ghost use Rattle.priority_channel_parts.specs.Waiting.{is_listed, is_given_listed, without, with_waker, without_given, TakesPlace};
+ghost use Rattle.priority_channel_parts.specs.Waiting.{is_listed, is_given_listed, without, with_waker, without_given, IsListing};
 
 mod entries;
 
@@ -39,8 +39,9 @@ impl<W, A: Allocator> WaitingList<W, A> {
     }
 
     /// Where the ticket stands, by halving.
-    fn place_of(&self, ticket: u64, comparisons: &mut Comparisons) -> Option<usize>
-        ensures found { IfSome result (λ i. (i < length self.now) × HoldsAt (λ a. a.0 ≡ ticket) self.now i) }
+    fn position_of(&self, ticket: u64, comparisons: &mut Comparisons) -> Option<usize>
+        ensures found { IfSome result (λ i. (i < length self.now)
+            × HoldsAt (λ a. a.0 ≡ ticket) self.now i) }
         ensures absent { IfNone result (is_listed ticket self.now ≡ false) }
         ensures cost { comparisons.new.count ≤ comparisons.old.count + digits (length self.now) }
     {
@@ -64,8 +65,8 @@ impl<W, A: Allocator> WaitingList<W, A> {
         ensures list { self.new ≡ without ticket self.old }
         ensures cost { comparisons.new.count ≤ comparisons.old.count + digits (length self.old) }
     {
-        if let Some(place) = self.place_of(ticket, comparisons) {
-            self.entries.remove(place);
+        if let Some(position) = self.position_of(ticket, comparisons) {
+            self.entries.remove(position);
         }
     }
 
@@ -112,18 +113,21 @@ impl<W: Clone, A: Allocator> WaitingList<W, A> {
     ) -> Option<u64>
         requires given { All (λ a. a.0 < next_ticket.old) self.old }
         requires fits { next_ticket.old < 2 ^ 64 }
-        ensures listed { IfSome result (λ listed. TakesPlace W.is_clone ticket waker.now self.old next_ticket.old
+        ensures listed { IfSome result (λ listed. IsListing W.is_clone ticket waker.now self.old
+            next_ticket.old
             (record { ticket = listed; waiters = self.new; next_ticket = next_ticket.new })) }
-        ensures refused { IfNone result ((self.new ≡ without_given ticket self.old) × (next_ticket.new ≡ next_ticket.old)) }
-        ensures renewed { is_given_listed ticket self.old ≡ true → W.is_infallible waker.now → IsSome result }
+        ensures refused { IfNone result ((self.new ≡ without_given ticket self.old)
+            × (next_ticket.new ≡ next_ticket.old)) }
+        ensures renewed { is_given_listed ticket self.old ≡ true → W.is_infallible waker.now
+            → IsSome result }
         ensures fits { next_ticket.new < 2 ^ 64 }
         ensures cost { comparisons.new.count ≤ comparisons.old.count + digits (length self.old) }
     {
         match ticket {
             None => self.list_next(waker, next_ticket),
-            Some(ticket) => match self.place_of(ticket, comparisons) {
+            Some(ticket) => match self.position_of(ticket, comparisons) {
                 None => self.list_next(waker, next_ticket),
-                Some(place) => self.renew(place, ticket, waker),
+                Some(position) => self.renew(position, ticket, waker),
             },
         }
     }
@@ -139,13 +143,18 @@ impl<W: Clone, A: Allocator> WaitingList<W, A> {
     ) -> Option<u64>
         requires given { All (λ a. a.0 < next_ticket.old) self.old }
         requires fits { next_ticket.old < 2 ^ 64 }
-        ensures listed { IfSome result (λ listed. TakesPlace W.is_clone ticket waker.now self.old next_ticket.old
-            (record { ticket = listed; waiters = self.new; next_ticket = next_ticket.new }) × (others.new ≡ others.old)) }
-        ensures refused { IfNone result ((self.new ≡ without_given ticket self.old) × (others.new ≡ without_given ticket others.old)
+        ensures listed { IfSome result (λ listed. IsListing W.is_clone ticket waker.now self.old
+            next_ticket.old
+            (record { ticket = listed; waiters = self.new; next_ticket = next_ticket.new })
+            × (others.new ≡ others.old)) }
+        ensures refused { IfNone result ((self.new ≡ without_given ticket self.old)
+            × (others.new ≡ without_given ticket others.old)
             × (next_ticket.new ≡ next_ticket.old)) }
-        ensures renewed { is_given_listed ticket self.old ≡ true → W.is_infallible waker.now → IsSome result }
+        ensures renewed { is_given_listed ticket self.old ≡ true → W.is_infallible waker.now
+            → IsSome result }
         ensures fits { next_ticket.new < 2 ^ 64 }
-        ensures cost { comparisons.new.count ≤ comparisons.old.count + digits (length self.old) + digits (length others.old) }
+        ensures cost { comparisons.new.count
+            ≤ comparisons.old.count + digits (length self.old) + digits (length others.old) }
     {
         let listed = self.listen(ticket, waker, next_ticket, comparisons);
         if listed.is_none() {
@@ -155,20 +164,22 @@ impl<W: Clone, A: Allocator> WaitingList<W, A> {
     }
 
     // Without memory for the new waker the ticket leaves the list.
-    fn renew(&mut self, place: usize, ticket: u64, waker: &W) -> Option<u64>
-        requires in_list { place < length self.old }
-        requires here { HoldsAt (λ a. a.0 ≡ ticket) self.old place }
-        ensures renewed { IfSome result (λ given. (given ≡ ticket) × ((kept : W) × W.is_clone waker.now kept × (self.new ≡ with_waker ticket kept self.old))) }
+    fn renew(&mut self, position: usize, ticket: u64, waker: &W) -> Option<u64>
+        requires in_list { position < length self.old }
+        requires here { HoldsAt (λ a. a.0 ≡ ticket) self.old position }
+        ensures renewed { IfSome result (λ given. (given ≡ ticket)
+            × ((kept : W) × W.is_clone waker.now kept
+            × (self.new ≡ with_waker ticket kept self.old))) }
         ensures refused { IfNone result (self.new ≡ without ticket self.old) }
         ensures succeeds { W.is_infallible waker.now → IsSome result }
     {
         match waker.clone() {
             Ok(waker) => {
-                self.entries.set(place, ticket, waker);
+                self.entries.set(position, ticket, waker);
                 Some(ticket)
             }
             Err(_) => {
-                self.entries.remove(place);
+                self.entries.remove(position);
                 None
             }
         }
@@ -177,9 +188,11 @@ impl<W: Clone, A: Allocator> WaitingList<W, A> {
     fn list_next(&mut self, waker: &W, next_ticket: &mut u64) -> Option<u64>
         requires given { All (λ a. a.0 < next_ticket.old) self.old }
         requires fits { next_ticket.old < 2 ^ 64 }
-        ensures listed { IfSome result (λ listed. TakesPlace W.is_clone None waker.now self.old next_ticket.old
+        ensures listed { IfSome result (λ listed. IsListing W.is_clone None waker.now self.old
+            next_ticket.old
             (record { ticket = listed; waiters = self.new; next_ticket = next_ticket.new })) }
-        ensures refused { IfNone result ((self.new ≡ self.old) × (next_ticket.new ≡ next_ticket.old)) }
+        ensures refused { IfNone result ((self.new ≡ self.old)
+            × (next_ticket.new ≡ next_ticket.old)) }
         ensures fits { next_ticket.new < 2 ^ 64 }
     {
         let ticket = *next_ticket;

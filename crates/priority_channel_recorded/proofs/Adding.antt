@@ -98,7 +98,8 @@ module _ {T P : Type 0} (cmp : P → P → Ordering) where
           rw is (after.capacity, after.whole),
         )
 
-    -- whatever the log is, the exchange adds the entry to all that was seen, or finds another number of entries
+    -- whatever the log is, the exchange adds the entry to all that was seen, or finds another
+    -- number of entries
     pub adds : Moves (IsLog cmp) shown moved 0 (seen, (no_nib, None)) (λ n. either (n == count) (count + 1) n)
         (Adds cmp (step 0 count (count + 1) (Made entry)) (seen, (no_nib, None)))
     adds cells log rule front away =

@@ -9,7 +9,7 @@ use Rattle.priority_channel_parts.specs.Greatest.{TakesGreatest}
 use Rattle.priority_channel_core.specs.machine.State.{Handed, opening}
 use Rattle.priority_channel_core.specs.machine.Sends.{AddsFront}
 use Rattle.priority_channel_core.specs.machine.Step.{Moves, Step, Answers}
-use Rattle.priority_channel_core.specs.machine.Run.{Made, Run}
+use Rattle.priority_channel_core.specs.machine.Run.{Operation, Run}
 use Rattle.priority_channel_recorded.specs.declared.book.Call.{Call}
 use Rattle.priority_channel_recorded.specs.declared.book.Call.TheVariants.{TrySend, TryRecv, Close, IsClosed, IsEmpty, IsFull, Len}
 use Rattle.priority_channel_recorded.specs.declared.book.Reply.{Reply}
@@ -75,7 +75,7 @@ module _ {T P : Type 0} (cmp : P → P → Ordering)
   same_state old new other handed others _ _ m n = absurd m
 
   -- two steps of one entry lead to one state
-  same_step : (entry : Entry T P) (made again : Made T P (Unit {0})) (old new other : Machine T P) → Records entry made → Records entry again
+  same_step : (entry : Entry T P) (made again : Operation T P (Unit {0})) (old new other : Machine T P) → Records entry made → Records entry again
       → Step cmp (λ waker kept. kept ≡ waker) old made.call made.answer made.handed new
       → Step cmp (λ waker kept. kept ≡ waker) old again.call again.answer again.handed other → new ≡ other
   same_step entry made again old new other one two step next =
@@ -89,7 +89,7 @@ module _ {T P : Type 0} (cmp : P → P → Ordering)
       (subst (λ reply. Goes old entry.call reply again.handed other) told n)
 
   -- two runs of one history lead to one state
-  same_end : (history : List (Entry T P)) (run again : List (Made T P (Unit {0}))) (old new other : Machine T P)
+  same_end : (history : List (Entry T P)) (run again : List (Operation T P (Unit {0}))) (old new other : Machine T P)
       → AllZip Records history run → AllZip Records history again
       → Run cmp (λ waker kept. kept ≡ waker) old run new → Run cmp (λ waker kept. kept ≡ waker) old again other → new ≡ other
   same_end [] [] [] old new other one two r s = r ∙ sym s

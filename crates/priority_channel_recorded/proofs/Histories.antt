@@ -6,8 +6,8 @@ use Rattle.priority_channel_parts.specs.declared.errors.TrySendError.TheVariants
 use Rattle.priority_channel_parts.specs.declared.errors.TryRecvError.TheVariants as recv_error
 use Rattle.priority_channel_core.specs.machine.State.{Handed, opening}
 use Rattle.priority_channel_core.specs.machine.Step.{Moves, Answers}
-use Rattle.priority_channel_core.specs.machine.Run.{Made}
-use Rattle.priority_channel_core.proofs.RunLemmas.{zip_push, Run-more}
+use Rattle.priority_channel_core.specs.machine.Run.{Operation}
+use Rattle.priority_channel_core.proofs.Runs.{zip_push, Run-more}
 use Rattle.priority_channel_recorded.specs.declared.book.Call.{Call}
 use Rattle.priority_channel_recorded.specs.declared.book.Call.TheVariants.{TrySend, TryRecv, Close, IsClosed, IsEmpty, IsFull, Len}
 use Rattle.priority_channel_recorded.specs.declared.book.Reply.{Reply}
@@ -41,7 +41,7 @@ module _ {T P : Type 0} (cmp : P → P → Ordering) where
       → IsHistory cmp old.capacity history old → IsStep cmp old last.call last.reply new
       → IsHistory cmp new.capacity (history ++ last ∷ []) new
   history_more old new history last legal step =
-      let made : Made T P (Unit {0}) = record { call = call_of last.call; answer = step.answer; handed = step.handed } in
+      let made : Operation T P (Unit {0}) = record { call = call_of last.call; answer = step.answer; handed = step.handed } in
       subst (λ (k : ℕ). IsHistory cmp k (history ++ last ∷ []) new)
       (sym (step_capacity old new last.call last.reply step)) (record {
         run = legal.run ++ made ∷ [];

@@ -6,7 +6,7 @@ use Rattle.priority_channel_core.specs.declared.calls.Call.TheVariants as call
 use Rattle.priority_channel_core.specs.declared.calls.Answer.TheVariants as answer
 use Rattle.priority_channel_core.specs.machine.State.{State, Handed, opening}
 use Rattle.priority_channel_core.specs.machine.Step.{Step, Calls, Answers}
-use Rattle.priority_channel_core.specs.machine.Run.{Made, Run}
+use Rattle.priority_channel_core.specs.machine.Run.{Operation, Run}
 use Rattle.priority_channel_recorded.specs.declared.book.Call.{Call}
 use Rattle.priority_channel_recorded.specs.declared.book.Call.TheVariants.{TrySend, TryRecv, Close, IsClosed, IsEmpty, IsFull, Len}
 use Rattle.priority_channel_recorded.specs.declared.book.Reply.{Reply}
@@ -17,11 +17,11 @@ use Rattle.priority_channel_recorded.specs.declared.book.Entry.{Entry}
 abbrev pub Machine : Type 0 → Type 0 → Type 0
 Machine T P = State T P (Unit {0})
 
--- a channel's state, the history of its calls, and for how many entries there is place
+-- a channel's state, the history of its calls, and for how many entries there is memory
 pub record Chronicle (T P : Type 0) : Type 0 where
   pub state : Machine T P
   pub history : List (Entry T P)
-  pub place : ℕ
+  pub slots : ℕ
 
 module _ {T P : Type 0} where
   abbrev pub entry : ℕ → Call T P → Reply T P → Entry T P
@@ -49,19 +49,22 @@ module _ {T P : Type 0} where
   reply_of other = None
 
   -- the entry is of this call of a run
-  abbrev pub Records : Entry T P → Made T P (Unit {0}) → Type 0
+  abbrev pub Records : Entry T P → Operation T P (Unit {0}) → Type 0
   Records entry made = (made.call ≡ call_of entry.call) × (reply_of made.answer ≡ Some entry.reply)
 
   module _ (cmp : P → P → Ordering) where
     -- the call is a step of the machine, of whose answer this is recorded
-    pub record IsStep (old : Machine T P) (made : Call T P) (reply : Reply T P) (new : Machine T P) : Type 0 where
+    pub record IsStep (old : Machine T P) (made : Call T P) (reply : Reply T P)
+        (new : Machine T P) : Type 0 where
       pub answer : Answers T P
       pub handed : Handed (Unit {0})
       pub replies : reply_of answer ≡ Some reply
       pub step : Step cmp (λ waker kept. kept ≡ waker) old (call_of made) answer handed new
 
-    -- the entries are those of a run of the machine, from the opening of a reserved channel of this capacity to this state
-    pub record IsHistory (capacity : ℕ) (history : List (Entry T P)) (state : Machine T P) : Type 0 where
-      pub run : List (Made T P (Unit {0}))
+    -- the entries are those of a run of the machine, from the opening of a reserved channel of this
+    -- capacity to this state
+    pub record IsHistory (capacity : ℕ) (history : List (Entry T P))
+        (state : Machine T P) : Type 0 where
+      pub run : List (Operation T P (Unit {0}))
       pub records : AllZip Records history run
       pub leads : Run cmp (λ waker kept. kept ≡ waker) (opening capacity true) run state

@@ -1,4 +1,5 @@
--- The log that the callers of one recorder share: what its word says, and what one step on it tells.
+-- The log that the callers of one recorder share: what its word says, and what one step on it
+-- tells.
 use Rattle.std.specs.Prelude.{◌≡◌, ◌==◌, ◌≤◌, ℕ, true, List, [], ◌∷◌, ◌++◌, length, MatchBool}
 use Rattle.std.specs.declared.cmp.Ordering.{Ordering}
 use Rattle.logbook.specs.Pages.{Cell, Step, View, Book, Named}
@@ -7,7 +8,8 @@ use Rattle.priority_channel_recorded.specs.declared.log.Line.{Line}
 use Rattle.priority_channel_recorded.specs.declared.log.Line.TheVariants.{Opened, Made}
 use Rattle.priority_channel_recorded.specs.History.{Machine, IsHistory}
 
--- the names of a recorder: of its log, its channel's capacity, the name of its ledger, and how many passes share that
+-- the names of a recorder: of its log, its channel's capacity, the name of its ledger, and how many
+-- passes share that
 pub record Names : Type 0 where
   pub log : Book
   pub capacity : ℕ
@@ -15,7 +17,8 @@ pub record Names : Type 0 where
   pub passes : ℕ
 
 abbrev pub names : Book → ℕ → ℕ → ℕ → Names
-names log capacity ledger passes = record { log = log; capacity = capacity; ledger = ledger; passes = passes }
+names log capacity ledger passes =
+    record { log = log; capacity = capacity; ledger = ledger; passes = passes }
 
 -- the word of a log
 abbrev pub word_of : Book → Named
@@ -43,7 +46,8 @@ module _ {T P : Type 0} (cmp : P → P → Ordering) where
     pub state : Machine T P
     pub run : IsHistory cmp capacity history state
 
-  -- the log of a channel of this capacity begins with its opening, and its entries are a legal history
+  -- the log of a channel of this capacity begins with its opening, and its entries are a legal
+  -- history
   pub record IsLogOf (capacity : ℕ) (log : List (Line T P)) : Type 0 where
     pub calls : List (Line T P)
     pub opens : log ≡ Opened capacity ∷ calls
@@ -65,10 +69,12 @@ module _ {T P : Type 0} (cmp : P → P → Ordering) where
   Looks step before found after =
       (length (entries_in after.0) ≡ found) × ((capacity : ℕ) × IsLogOf capacity after.0)
 
-  -- what was seen was the whole log, and the entry was added; or the log had another length, and was seen
+  -- what was seen was the whole log, and the entry was added; or the log had another length, and
+  -- was seen
   abbrev pub Adds : Step (Line T P) → View (Line T P) ℕ → ℕ → View (Line T P) ℕ → Type 0
   Adds step before found after =
       MatchBool (found == step.old)
-      ((length (entries_in before.0) ≡ step.old) × (entries_in after.0 ≡ entries_in before.0 ++ entries_in (step.ask ∷ []))
+      ((length (entries_in before.0) ≡ step.old)
+      × (entries_in after.0 ≡ entries_in before.0 ++ entries_in (step.ask ∷ []))
       × ((capacity : ℕ) × IsLogOf capacity after.0))
       ((capacity : ℕ) × IsLogOf capacity after.0)

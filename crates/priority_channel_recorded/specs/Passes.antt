@@ -18,7 +18,9 @@ module _ {T P : Type 0} where
 
   -- passes that have made no call, numbered from 0 on
   abbrev pub AreNew : List (Carried T P) → Type 0
-  AreNew passes = EachIndex passes (λ i. slice_get passes i ≡ Some (record { number = i; count = 0; seen = [] }))
+  AreNew passes =
+      EachIndex passes
+      (λ i. slice_get passes i ≡ Some (record { number = i; count = 0; seen = [] }))
 
   -- how many calls were made with these passes
   abbrev pub calls_made : List (Carried T P) → ℕ
@@ -35,9 +37,11 @@ module _ {T P : Type 0} where
       All (λ pass. calls_of pass.number history ≡ pass.count) passes
       × ((number : ℕ) → All (λ pass. number ≢ pass.number) passes → calls_of number history ≡ 0)
 
--- Now a legal history of a channel of this capacity was seen that begins with all that had been seen, is longer, and ends
--- with this entry. Under the pass's number it has at least as many entries as the pass has made calls.
-pub record IsTold {T P : Type 0} (cmp : P → P → Ordering) (capacity : ℕ) (old : Carried T P) (last : Entry T P) (new : Carried T P) : Type 0 where
+-- Now a legal history of a channel of this capacity was seen that begins with all that had been
+-- seen, is longer, and ends with this entry. Under the pass's number it has at least as many
+-- entries as the pass has made calls.
+pub record IsTold {T P : Type 0} (cmp : P → P → Ordering) (capacity : ℕ) (old : Carried T P)
+    (last : Entry T P) (new : Carried T P) : Type 0 where
   pub between : List (Entry T P)
   pub seen : new.seen ≡ (old.seen ++ between) ++ last ∷ []
   pub legal : IsLegal cmp capacity new.seen

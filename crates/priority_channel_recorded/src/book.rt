@@ -30,7 +30,8 @@ pub enum Reply<T, P> {
     Sent(Result<(), TrySendError<(T, P)>>),
     /// To `TryRecv`.
     Received(Result<(T, P), TryRecvError>),
-    /// To `Close`, whether the channel was open; to `IsClosed`, `IsEmpty` and `IsFull`, whether it is so.
+    /// To `Close`, whether the channel was open; to `IsClosed`, `IsEmpty` and `IsFull`, whether it
+    /// is so.
     Bool(bool),
     /// To `Len`.
     Len(u64),
@@ -44,22 +45,22 @@ pub struct Entry<T, P> {
     pub reply: Reply<T, P>,
 }
 
-/// There was no place for the entry of a call, so the call was not made.
+/// There was no memory for the entry of a call, so the call was not made.
 #[derive(Clone, Copy, Debug, Drop, PartialEq, Eq)]
-pub struct NoPlace;
+pub struct NoMemory;
 
-impl fmt::Display for NoPlace {
-    ghost output = { λ _. Some (codes "no place for an entry") };
+impl fmt::Display for NoMemory {
+    ghost output = { λ _. Some (codes "no memory for an entry") };
 
     fn fmt<W: fmt::Write>(&self, f: &mut fmt::Formatter<W>) -> fmt::Result {
-        f.write_str("no place for an entry")
+        f.write_str("no memory for an entry")
     }
 }
 
-impl Error for NoPlace {}
+impl Error for NoMemory {}
 
-/// A channel in reserved place, and the history of its calls. Contracts see the channel's state, the history, and for
-/// how many entries there is place.
+/// A reserved channel, and the history of its calls. Contracts see the channel's state, the
+/// history, and for how many entries there is memory.
 ///
 /// ```
 /// let mut book = Book::new(alloc, 2, 8)?;
@@ -79,39 +80,51 @@ impl<T, P: Ord, A: Allocator> Model for Book<T, P, A> {
 
     ghost Value = { Chronicle T P };
 
-    ghost view = { λ b. record { state = b.channel.state; history = b.history.items; place = vec_capacity b.history } };
+    ghost view = { λ b. record {
+      state = b.channel.state;
+      history = b.history.items;
+      slots = vec_capacity b.history;
+    } };
 
-    ghost invariant = { λ b. IsHistory P.cmp b.channel.state.capacity b.history.items b.channel.state };
+    ghost invariant = { λ b. IsHistory P.cmp b.channel.state.capacity b.history.items
+        b.channel.state };
 }
 
 impl<T: Copy, P: Copy + Ord, A: Allocator + Copy> Book<T, P, A> {
-    /// An open and empty channel with place for `cap` pairs for good, and an empty history with place for `entries`
-    /// entries. The error is that memory was refused.
+    /// An open and empty channel with memory for `cap` pairs for good, and an empty history with
+    /// memory for `entries` entries. The error is that memory was refused.
     #[tactic(auto, using(crate::proofs::Histories::history_none))]
     pub fn new(alloc: A, cap: u64, entries: usize) -> Result<Self, AllocError>
         requires positive { 0 < cap }
         requires fits { cap < 2 ^ 63 }
-        ensures { IfOk result (λ book. book ≡ record { state = opening cap true; history = []; place = entries }) }
+        ensures { IfOk result (λ book. book ≡ record {
+          state = opening cap true;
+          history = [];
+          slots = entries;
+        }) }
     {
         let channel = PriorityQueueChannel::bounded_reserved(alloc, cap)?;
         let history = Vec::with_capacity(alloc, entries)?;
         Ok(Book { channel, history })
     }
 
-    /// Makes a call, and enters it under the caller's number with what it answered. Where there is no place for the
-    /// entry the call is not made; that never comes as long as there are fewer entries than place was made for.
+    /// Makes a call, and enters it under the caller's number with what it answered. Where there is
+    /// no memory for the entry the call is not made; that never comes as long as there are fewer
+    /// entries than memory was had for.
     #[tactic(auto, using(crate::proofs::Histories::history_more, crate::proofs::Histories::step_capacity))]
-    pub fn record(&mut self, who: u64, call: Call<T, P>) -> Result<Reply<T, P>, NoPlace>
-        ensures step { IfOk result (λ reply. IsStep P.cmp self.old.state call reply self.new.state) }
-        ensures entered { IfOk result (λ reply. self.new.history ≡ self.old.history ++ entry who call reply ∷ []) }
+    pub fn record(&mut self, who: u64, call: Call<T, P>) -> Result<Reply<T, P>, NoMemory>
+        ensures step { IfOk result (λ reply.
+            IsStep P.cmp self.old.state call reply self.new.state) }
+        ensures entered { IfOk result (λ reply. self.new.history
+            ≡ self.old.history ++ entry who call reply ∷ []) }
         ensures unchanged { OnErr result (self.new ≡ self.old) }
-        ensures refused { OnErr result (self.old.place ≤ length self.old.history) }
-        ensures place { self.old.place ≤ self.new.place }
+        ensures refused { OnErr result (self.old.slots ≤ length self.old.history) }
+        ensures slots { self.old.slots ≤ self.new.slots }
         ensures capacity { self.new.state.capacity ≡ self.old.state.capacity }
         ensures legal { IsHistory P.cmp self.new.state.capacity self.new.history self.new.state }
     {
         let Ok(()) = self.history.reserve(1) else {
-            return Err(NoPlace);
+            return Err(NoMemory);
         };
         let reply = make(&mut self.channel, call);
         self.history.push_reserved(Entry { who, call, reply });

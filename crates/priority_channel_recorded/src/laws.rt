@@ -7,5 +7,6 @@ ghost use Rattle.priority_channel_recorded.specs.History.{Machine, IsHistory};
 /// knows its state.
 pub fn history_law<T, P: Ord>()
     ensures { (capacity : ℕ) (history : List (Entry T P)) (state other : Machine T P)
-        → IsHistory P.cmp capacity history state → IsHistory P.cmp capacity history other → state ≡ other }
+        → IsHistory P.cmp capacity history state → IsHistory P.cmp capacity history other
+        → state ≡ other }
 {}

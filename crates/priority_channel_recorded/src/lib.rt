@@ -1,8 +1,8 @@
 //! A channel that keeps the history of its calls: who called, what, and what was answered.
 //!
-//! A `Book` is for one caller, and a `Recorded` for many threads, each with a `Pass`. A pass tells in its contracts
-//! which history its holder has seen, so that a caller can conclude from its own replies what the others did. A caller has
-//! both in `async_priority_channel`.
+//! A `Book` is for one caller, and a `Recorded` for many threads, each with a `Pass`. A pass tells
+//! in its contracts which history its holder has seen, so that a caller can conclude from its own
+//! replies what the others did. A caller has both in `async_priority_channel`.
 #![tactic(auto)]
 
 mod book;
@@ -11,7 +11,7 @@ mod log;
 mod pass;
 mod recorder;
 
-pub use book::{Book, Call, Entry, NoPlace, Reply};
+pub use book::{Book, Call, Entry, NoMemory, Reply};
 pub use log::{Fresh, Recording};
 pub use pass::Pass;
 pub use recorder::{History, Recorded};

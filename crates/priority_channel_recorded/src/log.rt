@@ -1,5 +1,5 @@
-//! The log that the callers of one recorder share. It exists in contracts alone, but for the number of
-//! its entries.
+//! The log that the callers of one recorder share. It exists in contracts alone, but for the number
+//! of its entries.
 ghost use Rattle.std.specs.Prelude.{◌≡◌, ◌+◌, ◌<◌, ◌^◌, ◌∷◌, [], ◌++◌, length, MatchBool};
 ghost use mathlib.Core.List.{IsPrefix};
 ghost use Rattle.priority_channel_recorded.specs.Log.{IsLegal, MayFollow, word_of};
@@ -9,8 +9,8 @@ use logbook::{Gain, Offer, Opening, Plain, Play, Rule, Start, Word};
 use std::marker::{Brand, Model, PhantomData};
 use std::sync::ledger::{Blank, Ledger};
 
-/// A line of the log. The first is the opening of the channel, with its capacity, and each other is a
-/// call.
+/// A line of the log. The first is the opening of the channel, with its capacity, and each other is
+/// a call.
 pub enum Line<T, P> {
     Opened(u64),
     Made(Entry<T, P>),
@@ -92,13 +92,13 @@ impl<T, P> Plain<Entry<T, P>, Line<T, P>, u64> for Add {
     ghost state = { λ entry. None };
 }
 
-/// What contracts call one recorder by: the name of its log, its channel's capacity, and the names of
-/// its ledger. A function that uses a recorder is generic in it, so that a pass of another recorder is
-/// of another type.
+/// What contracts call one recorder by: the name of its log, its channel's capacity, and the names
+/// of its ledger. A function that uses a recorder is generic in it, so that a pass of another
+/// recorder is of another type.
 ///
-/// The outermost call passes `Brand`, and its caller says that the names are those of the `Fresh` that is passed. Where a
-/// function `main` of the crate `app` calls `audited`, whose parameter `fresh` is the `Fresh`, the file
-/// `proofs/main/Invariants.antt` says:
+/// The outermost call passes `Brand`, and its caller says that the names are those of the `Fresh`
+/// that is passed. Where a function `main` of the crate `app` calls `audited`, whose parameter
+/// `fresh` is the `Fresh`, the file `proofs/main/Invariants.antt` says:
 ///
 /// ```text
 /// use Rattle.app.proofs.main.Given as goal
@@ -139,7 +139,8 @@ impl<T, P: Ord> Model for Fresh<T, P> {
 
     ghost view = { λ f. names f.seen.book (capacity_in f.seen.log) f.ledger.name f.ledger.parts };
 
-    ghost invariant = { λ f. (f.seen.log ≡ opened (capacity_in f.seen.log)) × (f.word ≡ word_of f.seen.book) };
+    ghost invariant = { λ f. (f.seen.log ≡ opened (capacity_in f.seen.log))
+        × (f.word ≡ word_of f.seen.book) };
 }
 
 impl<T, P: Ord> Fresh<T, P> {
@@ -166,7 +167,8 @@ pub struct Log<T, P: Ord, J: Recording> {
     pub(crate) ghost word_is: { word ≡ word_of J.log },
 }
 
-/// A front of the log that was seen: the fact that it is one, which takes no memory. Contracts see its entries.
+/// A front of the log that was seen: the fact that it is one, which takes no memory. Contracts see
+/// its entries.
 #[derive(Drop)]
 pub struct Seen<T, P: Ord, J: Recording> {
     pub(crate) token: logbook::Seen<Line<T, P>, u64, Law>,
@@ -225,7 +227,8 @@ impl<T, P: Ord, J: Recording> Seen<T, P, J> {
     pub fn append(&mut self, log: &Log<T, P, J>, count: u64, entry: &Entry<T, P>) -> bool
         requires room { count + 1 < 2 ^ 64 }
         requires next { MayFollow P.cmp J.capacity self.old count entry.now }
-        ensures added { MatchBool result ((length self.old ≡ count) × (self.new ≡ self.old ++ entry.now ∷ [])) (IsPrefix self.old self.new) }
+        ensures added { MatchBool result ((length self.old ≡ count)
+            × (self.new ≡ self.old ++ entry.now ∷ [])) (IsPrefix self.old self.new) }
         ensures legal { IsLegal P.cmp J.capacity self.new }
     {
         let mut offer: Offer<Line<T, P>, u64, Law, Nothing> = self

@@ -8,8 +8,8 @@ use std::alloc::{AllocError, Allocator};
 use std::marker::Model;
 use std::sync::ledger::Share;
 
-/// The right to call a recorder, for one holder at a time. Contracts see its number, how many calls were made with it,
-/// and the history that its holder has seen.
+/// The right to call a recorder, for one holder at a time. Contracts see its number, how many calls
+/// were made with it, and the history that its holder has seen.
 #[derive(Drop)]
 pub struct Pass<T, P: Ord, J: Recording> {
     pub(crate) number: u64,
@@ -26,7 +26,8 @@ impl<T, P: Ord, J: Recording> Model for Pass<T, P, J> {
 
     ghost view = { λ p. record { number = p.number; count = p.count; seen = p.seen } };
 
-    ghost invariant = { λ p. (p.share.parts ≡ 1) × (p.share.amount ≡ p.count) × (p.count ≤ calls_of p.number p.seen) };
+    ghost invariant = { λ p. (p.share.parts ≡ 1) × (p.share.amount ≡ p.count)
+        × (p.count ≤ calls_of p.number p.seen) };
 }
 
 impl<T, P: Ord, J: Recording> Pass<T, P, J> {

@@ -5,7 +5,7 @@ ghost use Rattle.priority_channel_recorded.specs.History.{entry, IsStep};
 ghost use Rattle.priority_channel_recorded.specs.Log.{IsLegal, names};
 ghost use Rattle.priority_channel_recorded.specs.Passes.{calls_made, AreNew, AreApart, Accounts, IsTold};
 
-use crate::book::{Book, Call, Entry, NoPlace, Reply};
+use crate::book::{Book, Call, Entry, NoMemory, Reply};
 use crate::log::{Fresh, Log, Recording, Seen};
 use crate::pass::{Pass, gather, new_passes};
 use std::alloc::{AllocError, Allocator, Global};
@@ -13,7 +13,8 @@ use std::marker::{Model, PhantomData};
 use std::sync::ledger::Share;
 use std::sync::{Mutex, Wait, ledger};
 
-// What the lock guards: a book, whose history is the log, and a ledger in which the calls of all passes are counted.
+// What the lock guards: a book, whose history is the log, and a ledger in which the calls of all
+// passes are counted.
 #[derive(Drop)]
 struct Guarded<T, P: Ord, J: Recording, A: Allocator> {
     book: Book<T, P, A>,
@@ -31,7 +32,8 @@ impl<T, P: Ord, J: Recording, A: Allocator> Model for Guarded<T, P, J, A> {
 
     ghost view = { λ g. g.book };
 
-    ghost invariant = { λ g. (g.seen ≡ g.book.history) × (g.calls.total ≡ length g.book.history) × (g.none.parts ≡ 0) × (g.none.amount ≡ 0) × (g.book.state.capacity ≡ J.capacity) };
+    ghost invariant = { λ g. (g.seen ≡ g.book.history) × (g.calls.total ≡ length g.book.history)
+        × (g.none.parts ≡ 0) × (g.none.amount ≡ 0) × (g.book.state.capacity ≡ J.capacity) };
 }
 
 impl<T: Copy, P: Copy + Ord, J: Recording, A: Allocator + Copy> Guarded<T, P, J, A> {
@@ -42,14 +44,17 @@ impl<T: Copy, P: Copy + Ord, J: Recording, A: Allocator + Copy> Guarded<T, P, J,
         log: &Log<T, P, J>,
         pass: &mut Pass<T, P, J>,
         call: Call<T, P>,
-    ) -> Result<Reply<T, P>, NoPlace>
+    ) -> Result<Reply<T, P>, NoMemory>
         ensures number { pass.new.number ≡ pass.old.number }
         ensures counted { IfOk result (λ _. pass.new.count ≡ pass.old.count + 1) }
-        ensures told { IfOk result (λ reply. IsTold P.cmp J.capacity pass.old (entry pass.old.number call reply) pass.new) }
-        ensures step { IfOk result (λ reply. IsStep P.cmp self.old.state call reply self.new.state) }
-        ensures entered { IfOk result (λ reply. self.new.history ≡ self.old.history ++ entry pass.old.number call reply ∷ []) }
+        ensures told { IfOk result (λ reply. IsTold P.cmp J.capacity pass.old
+            (entry pass.old.number call reply) pass.new) }
+        ensures step { IfOk result (λ reply.
+            IsStep P.cmp self.old.state call reply self.new.state) }
+        ensures entered { IfOk result (λ reply. self.new.history
+            ≡ self.old.history ++ entry pass.old.number call reply ∷ []) }
         ensures refused { OnErr result ((pass.new ≡ pass.old) × (self.new ≡ self.old)) }
-        ensures full { OnErr result (self.old.place ≤ length self.old.history) }
+        ensures full { OnErr result (self.old.slots ≤ length self.old.history) }
     {
         let number = pass.number;
         let reply = self.book.record(number, call)?;
@@ -70,8 +75,8 @@ impl<T: Copy, P: Copy + Ord, J: Recording, A: Allocator + Copy> Guarded<T, P, J,
     }
 }
 
-// Adds an entry behind all that was kept, of which what `other` has seen is a front. No one else adds one meanwhile, so
-// the first try succeeds, but no contract can say so.
+// Adds an entry behind all that was kept, of which what `other` has seen is a front. No one else
+// adds one meanwhile, so the first try succeeds, but no contract can say so.
 fn append<T: Copy, P: Copy + Ord, J: Recording, R: Wait>(
     rt: &R,
     log: &Log<T, P, J>,
@@ -97,10 +102,11 @@ fn append<T: Copy, P: Copy + Ord, J: Recording, R: Wait>(
     unreachable!()
 }
 
-/// A channel in reserved place that many threads call, each with its pass, and the history of their calls.
+/// A reserved channel that many threads call, each with its pass, and the history of their calls.
 ///
-/// Each call is one step, in one hold of the recorder's lock. A pass learns the history up to its own call, so what its
-/// holder has seen begins what it sees later, what it sees when it meets another, and what is told at the end.
+/// Each call is one step, in one hold of the recorder's lock. A pass learns the history up to its
+/// own call, so what its holder has seen begins what it sees later, what it sees when it meets
+/// another, and what is told at the end.
 ///
 /// ```
 /// ghost use Rattle.std.specs.Prelude.{◌≡◌, IfOk};
@@ -130,8 +136,8 @@ pub struct Recorded<T, P: Ord, J: Recording, A: Allocator = Global> {
 }
 
 impl<T: Copy, P: Copy + Ord, J: Recording, A: Allocator + Copy> Recorded<T, P, J, A> {
-    /// A recorder over an open and empty channel with place for `cap` pairs, with place for `entries` entries, and its
-    /// passes. The error is that memory was refused.
+    /// A recorder over an open and empty channel with memory for `cap` pairs and for `entries`
+    /// entries, and its passes. The error is that memory was refused.
     #[tactic(auto, using(crate::proofs::Lines::log_opened, crate::proofs::Lines::no_entries, crate::proofs::Accounts::new_apart))]
     pub fn new(
         alloc: A,
@@ -177,23 +183,26 @@ impl<T: Copy, P: Copy + Ord, J: Recording, A: Allocator + Copy> Recorded<T, P, J
         ))
     }
 
-    /// Makes a call under the pass's number, and enters it with what it answered. Where there is no place for the entry
-    /// the call is not made; that never comes before there are as many entries as place was made for.
+    /// Makes a call under the pass's number, and enters it with what it answered. Where there is no
+    /// memory for the entry the call is not made; that never comes before there are as many entries
+    /// as memory was had for.
     pub fn call<R: Wait>(
         &self,
         rt: &R,
         pass: &mut Pass<T, P, J>,
         call: Call<T, P>,
-    ) -> Result<Reply<T, P>, NoPlace>
+    ) -> Result<Reply<T, P>, NoMemory>
         ensures number { pass.new.number ≡ pass.old.number }
         ensures counted { IfOk result (λ _. pass.new.count ≡ pass.old.count + 1) }
-        ensures told { IfOk result (λ reply. IsTold P.cmp J.capacity pass.old (entry pass.old.number call reply) pass.new) }
+        ensures told { IfOk result (λ reply. IsTold P.cmp J.capacity pass.old
+            (entry pass.old.number call reply) pass.new) }
         ensures refused { OnErr result (pass.new ≡ pass.old) }
     {
         self.guarded.lock(rt).call(rt, &self.log, pass, call)
     }
 
-    /// Lets both passes see what either has seen, and the history as it is. It takes no lock and waits for nobody.
+    /// Lets both passes see what either has seen, and the history as it is. It takes no lock and
+    /// waits for nobody.
     pub fn meet(&self, one: &mut Pass<T, P, J>, other: &mut Pass<T, P, J>)
         ensures one_number { one.new.number ≡ one.old.number }
         ensures one_count { one.new.count ≡ one.old.count }
@@ -222,8 +231,8 @@ impl<T: Copy, P: Copy + Ord, J: Recording, A: Allocator + Copy> Recorded<T, P, J
         seen
     }
 
-    /// Ends the recording, once all passes have come back, and tells the history, which nothing shows before. So no pass
-    /// may be lost.
+    /// Ends the recording, once all passes have come back, and tells the history, which nothing
+    /// shows before. So no pass may be lost.
     #[tactic(auto, using(crate::proofs::Accounts::account, crate::proofs::Fronts::prefix_whole, crate::proofs::Histories::legal_at))]
     pub fn end<R: Wait>(self, rt: &R, passes: Vec<Pass<T, P, J>, A>) -> History<T, P, A>
         requires all { vec_len passes ≡ J.parts }

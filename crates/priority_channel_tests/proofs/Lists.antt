@@ -1,4 +1,4 @@
--- What a bulk send into reserved place accepts, where its list is known.
+-- What a bulk send into a reserved channel accepts, where its list is known.
 use Rattle.std.proofs.Common.{◌≡◌, ◌+◌, ◌<◌, ◌^◌, true, false, List, ◌++◌, length, refl, sym, ap, ◌∙◌, arith, inl, inr, true≢false, length-append}
 use Rattle.std.specs.Prelude.{Result, Ok, Err, take}
 use Rattle.std.specs.declared.cmp.Ordering.{Ordering}

@@ -1,12 +1,12 @@
 //! What the tests share.
 use async_priority_channel::TrySendError;
-use async_priority_channel::recorded::{Call, NoPlace, Reply};
+use async_priority_channel::recorded::{Call, NoMemory, Reply};
 
 mod books;
 mod passes;
 mod threads;
 
-type Told = Result<Reply<u64, u64>, NoPlace>;
+type Told = Result<Reply<u64, u64>, NoMemory>;
 
 // Seven calls on a channel of capacity two, and what they answer.
 const SEVEN: [(Call<u64, u64>, Reply<u64, u64>); 7] = [

@@ -55,14 +55,16 @@ impl Refusals {
     }
 }
 
-/// An allocator that refuses the requests that a test names, by an `AllocError` as where memory has run out, and passes
-/// the others on to the allocator that it was made of.
+/// An allocator that refuses the requests that a test names, by an `AllocError` as where memory has
+/// run out, and passes the others on to the allocator that it was made of.
 ///
-/// Each call of `allocate` is a request. A collection makes one for its first memory, one for each growth, and one where
-/// it shrinks to a smaller block; an empty collection makes none. What is given back is neither counted nor refused. A
-/// request counts too where the inner allocator refuses it.
+/// Each call of `allocate` is a request. A collection makes one for its first memory, one for each
+/// growth, and one where it shrinks to a smaller block; an empty collection makes none. What is
+/// given back is neither counted nor refused. A request counts too where the inner allocator
+/// refuses it.
 ///
-/// Collections take a `&` to it, so that the test keeps it. This refuses each request of `fill` in turn:
+/// Collections take a `&` to it, so that the test keeps it. This refuses each request of `fill` in
+/// turn:
 ///
 /// ```
 /// let alloc = Refusing::new(rt.alloc());
@@ -94,7 +96,8 @@ impl<B: Allocator> Refusing<B> {
         }
     }
 
-    /// From now on refuses the nth request, counted from 1, and no other. So `refuse_nth(0)` refuses none.
+    /// From now on refuses the nth request, counted from 1, and no other. So `refuse_nth(0)`
+    /// refuses none.
     pub fn refuse_nth(&self, n: u64) {
         self.refusals.set(Refusals::nth(n));
     }
@@ -104,8 +107,9 @@ impl<B: Allocator> Refusing<B> {
         self.refusals.set(Refusals::Always);
     }
 
-    /// From now on refuses no request. Tells whether the one that `refuse_nth` named was still to come. So it is false
-    /// once that was refused, and where none was named, as after `refuse_all` or `refuse_nth(0)`.
+    /// From now on refuses no request. Tells whether the one that `refuse_nth` named was still to
+    /// come. So it is false once that was refused, and where none was named, as after `refuse_all`
+    /// or `refuse_nth(0)`.
     pub fn refuse_none(&self) -> bool {
         let is_to_come = matches!(self.refusals.get(), Refusals::After(_));
         self.refusals.set(if is_to_come {
@@ -116,12 +120,14 @@ impl<B: Allocator> Refusing<B> {
         is_to_come
     }
 
-    /// Numbers for `refuse_nth`, from 1 on, until no request was left to refuse. So each was refused once.
+    /// Numbers for `refuse_nth`, from 1 on, until no request was left to refuse. So each was
+    /// refused once.
     pub fn rounds(&self) -> Rounds<'_, B> {
         Rounds::new(self)
     }
 
-    // From now on refuses no request. Tells whether the one that was named in this round never came.
+    // From now on refuses no request. Tells whether the one that was named in this round never
+    // came.
     fn end_round(&self) -> bool {
         matches!(
             self.refusals.replace(Refusals::Never),

@@ -18,9 +18,9 @@ pub enum Vacuous {
 
 /// The numbers of rounds, from 1 on. `Refusing::rounds` makes it.
 ///
-/// A round is one turn of a loop: it passes its number to `refuse_nth`, and then makes its requests.
-/// The first round whose refusal never comes is the last. An error stands in place of round 2 where
-/// that was round 1, and in place of an end where a thousand rounds had none.
+/// A round is one turn of a loop: it passes its number to `refuse_nth`, and then makes its
+/// requests. The first round whose refusal never comes is the last. An error stands in place of
+/// round 2 where that was round 1, and in place of an end where a thousand rounds had none.
 #[derive(Drop)]
 #[must_use = "no round begins until its number is asked for"]
 pub struct Rounds<'a, B: Allocator> {

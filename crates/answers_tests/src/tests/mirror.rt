@@ -276,7 +276,7 @@ fn peeks_alike<R: Wait + Clone>(rx: &Receiver<u64, u64, R>, core: &Core) -> bool
         && rx.peek_priority() == Ok(want.map(|(_, priority)| priority))
 }
 
-// The handle that the making gave is left, so the core counts more than one.
+// The handle that the constructor gave is left, so the core counts more than one.
 fn drop_sender<R: Wait + Clone>(clones: &mut Vec<Sender<u64, u64, R>>, core: &mut Core) {
     let Some(clone) = clones.pop() else {
         return;

@@ -3,10 +3,10 @@ ghost use Rattle.std.specs.Prelude.{◌≡◌, ⊤, None, Result};
 ghost use Rattle.futures.specs.Task.{Covers, Keeps};
 ghost use Rattle.futures.specs.Poll.{IfReady, OnPending};
 ghost use Rattle.priority_channel_parts.specs.declared.errors.RecvFault.{RecvFault};
-ghost use Rattle.priority_channel_laws.specs.States.{unpolled, done};
+ghost use Rattle.priority_channel_laws.specs.Holding.{unpolled, done};
 
-use crate::kept_waker::KeptWaker;
 use crate::receiver::Receiver;
+use crate::waiter::Waiter;
 use crate::waiting::RecvState;
 use futures::Future;
 use futures::task::{Context, Poll};
@@ -17,13 +17,14 @@ use std::sync::Wait;
 
 /// Receives one message once there is one. `Receiver::recv` makes it.
 ///
-/// Its fault is `Closed`, where none can come any more, or `Memory`, where memory was refused. Polled again after its
-/// answer it is pending, changes nothing, and asks to be polled once more, so it should not be polled on.
+/// Its fault is `Closed`, where none can come any more, or `Memory`, where memory was refused.
+/// Polled again after its answer it is pending, changes nothing, and asks to be polled once more,
+/// so it should not be polled on.
 #[must_use = "a future does nothing until it is polled: `block_on`, or a call that ends in `_blocking`"]
 pub struct Recv<'a, T, P: Ord, R: Wait + Clone, A: Allocator + Copy = Global> {
     receiver: &'a Receiver<T, P, R, A>,
     state: RecvState,
-    place: Option<KeptWaker<A>>,
+    waiter: Option<Waiter<A>>,
 }
 
 impl<'a, T, P: Ord, R: Wait + Clone, A: Allocator + Copy> Model for Recv<'a, T, P, R, A> {
@@ -42,7 +43,7 @@ impl<'a, T: Drop, P: Ord + Drop, R: Wait + Clone, A: Allocator + Copy> Recv<'a, 
         Recv {
             receiver,
             state: RecvState::new(),
-            place: None,
+            waiter: None,
         }
     }
 }
@@ -56,12 +57,14 @@ impl<T: Drop, P: Ord + Drop, R: Wait + Clone, A: Allocator + Copy> Future for Re
         ensures value { IfReady result (λ _. ⊤) }
         ensures again { OnPending result ⊤ }
         ensures same { OnPending result ((x : Result (T × P) RecvFault) → ⊤ → ⊤) }
-        ensures registered { OnPending result (Covers cx.new (λ source. source ≡ self.new.channel.message)) }
+        ensures registered { OnPending result (Covers cx.new (λ source.
+            source ≡ self.new.channel.message)) }
         ensures kept { Keeps cx.old cx.new }
         ensures channel { self.new.channel ≡ self.old.channel }
         ensures answered { IfReady result (λ _. self.new.state ≡ done) }
         ensures waits { OnPending result (self.new.state.kept ≡ self.old.state.kept) }
-        ensures done { self.old.state.kept ≡ None → (result ≡ Poll.Pending) × (self.new ≡ self.old) }
+        ensures done { self.old.state.kept ≡ None → (result ≡ Poll.Pending)
+            × (self.new ≡ self.old) }
     {
         if self.state.is_done() {
             return cx.yield_now();
@@ -74,12 +77,12 @@ impl<T: Drop, P: Ord + Drop, R: Wait + Clone, A: Allocator + Copy> Future for Re
         if let Poll::Ready(received) = tried {
             return Poll::Ready(received);
         }
-        let Some(waker) = handle.register(cx, handle.message(), &mut self.place) else {
+        let Some(waiter) = handle.register(cx, handle.message(), &mut self.waiter) else {
             self.state.give_up_on(&mut handle.lock());
             return Poll::Ready(Err(RecvFault::Memory));
         };
         let mut core = handle.lock();
-        let (polled, wakes) = self.state.poll_on(&mut core, waker);
+        let (polled, wakes) = self.state.poll_on(&mut core, waiter);
         handle.release(core, wakes);
         polled
     }
@@ -90,12 +93,12 @@ impl<T: Drop, P: Ord + Drop, R: Wait + Clone, A: Allocator + Copy> Drop for Recv
         let Recv {
             receiver,
             mut state,
-            place,
+            waiter,
         } = self;
         if state.ticket().is_some() {
             state.give_up_on(&mut receiver.handle.lock());
         }
         // A waker wakes as it is dropped.
-        drop(place);
+        drop(waiter);
     }
 }

@@ -2,11 +2,11 @@
 ghost use Rattle.std.specs.Prelude.{◌≡◌, ⊤, None};
 ghost use Rattle.futures.specs.Task.{Covers, Keeps};
 ghost use Rattle.futures.specs.Poll.{IfReady, OnPending};
-ghost use Rattle.priority_channel_laws.specs.States.{unpolled, done};
+ghost use Rattle.priority_channel_laws.specs.Holding.{unpolled, done};
 ghost use Rattle.async_priority_channel.specs.Handles.{HandsBack};
 
-use crate::kept_waker::KeptWaker;
 use crate::sender::Sender;
+use crate::waiter::Waiter;
 use crate::waiting::SendState;
 use futures::Future;
 use futures::task::{Context, Poll};
@@ -17,13 +17,14 @@ use std::sync::Wait;
 
 /// Sends one message once there is room. `Sender::send` makes it.
 ///
-/// Its fault is `Closed`, or `Memory` where memory was refused, and gives the message back. Polled again after its
-/// answer it is pending, changes nothing, and asks to be polled once more, so it should not be polled on.
+/// Its fault is `Closed`, or `Memory` where memory was refused, and gives the message back. Polled
+/// again after its answer it is pending, changes nothing, and asks to be polled once more, so it
+/// should not be polled on.
 #[must_use = "a future does nothing until it is polled: `block_on`, or a call that ends in `_blocking`"]
 pub struct Send<'a, T, P: Ord, R: Wait + Clone, A: Allocator + Copy = Global> {
     sender: &'a Sender<T, P, R, A>,
     state: SendState<T, P>,
-    place: Option<KeptWaker<A>>,
+    waiter: Option<Waiter<A>>,
 }
 
 impl<'a, T, P: Ord, R: Wait + Clone, A: Allocator + Copy> Model for Send<'a, T, P, R, A> {
@@ -42,7 +43,7 @@ impl<'a, T: Drop, P: Ord + Drop, R: Wait + Clone, A: Allocator + Copy> Send<'a, 
         Send {
             sender,
             state: SendState::new(msg, priority),
-            place: None,
+            waiter: None,
         }
     }
 }
@@ -58,12 +59,14 @@ impl<T: Drop, P: Ord + Drop, R: Wait + Clone, A: Allocator + Copy> Future for Se
         ensures value { IfReady result (HandsBack self.old) }
         ensures again { OnPending result ⊤ }
         ensures same { OnPending result ((x : _) → HandsBack self.new x → HandsBack self.old x) }
-        ensures registered { OnPending result (Covers cx.new (λ source. source ≡ self.new.channel.room)) }
+        ensures registered { OnPending result (Covers cx.new (λ source.
+            source ≡ self.new.channel.room)) }
         ensures kept { Keeps cx.old cx.new }
         ensures channel { self.new.channel ≡ self.old.channel }
         ensures answered { IfReady result (λ _. self.new.state ≡ done) }
         ensures waits { OnPending result (self.new.state.kept ≡ self.old.state.kept) }
-        ensures done { self.old.state.kept ≡ None → (result ≡ Poll.Pending) × (self.new ≡ self.old) }
+        ensures done { self.old.state.kept ≡ None → (result ≡ Poll.Pending)
+            × (self.new ≡ self.old) }
     {
         if self.state.is_done() {
             return cx.yield_now();
@@ -76,13 +79,13 @@ impl<T: Drop, P: Ord + Drop, R: Wait + Clone, A: Allocator + Copy> Future for Se
         if let Poll::Ready(sent) = tried {
             return Poll::Ready(sent);
         }
-        let Some(waker) = handle.register(cx, handle.room(), &mut self.place) else {
+        let Some(waiter) = handle.register(cx, handle.room(), &mut self.waiter) else {
             let unsent = self.state.give_up_on(&mut handle.lock());
             let Some(pair) = unsent else { unreachable!() };
             return Poll::Ready(Err(SendFault::Memory(pair)));
         };
         let mut core = handle.lock();
-        let (polled, wakes) = self.state.poll_on(&mut core, waker);
+        let (polled, wakes) = self.state.poll_on(&mut core, waiter);
         handle.release(core, wakes);
         polled
     }
@@ -93,7 +96,7 @@ impl<T: Drop, P: Ord + Drop, R: Wait + Clone, A: Allocator + Copy> Drop for Send
         let Send {
             sender,
             mut state,
-            place,
+            waiter,
         } = self;
         let mut unsent = None;
         if state.ticket().is_some() {
@@ -101,6 +104,6 @@ impl<T: Drop, P: Ord + Drop, R: Wait + Clone, A: Allocator + Copy> Drop for Send
         }
         // A message may hold a handle of this channel, and a waker wakes as it is dropped.
         drop((unsent, state));
-        drop(place);
+        drop(waiter);
     }
 }

@@ -5,11 +5,11 @@ ghost use Rattle.std.specs.Iterator.Adapters.{peekable_can};
 ghost use Rattle.futures.specs.Task.{Covers, Keeps};
 ghost use Rattle.futures.specs.Poll.{IfReady, OnPending};
 ghost use Rattle.priority_channel_core.specs.code.Lists.{HasList};
-ghost use Rattle.priority_channel_laws.specs.States.{unpolled, done};
+ghost use Rattle.priority_channel_laws.specs.Holding.{unpolled, done};
 ghost use Rattle.async_priority_channel.specs.Handles.{HandsBackTail};
 
-use crate::kept_waker::KeptWaker;
 use crate::sender::Sender;
+use crate::waiter::Waiter;
 use crate::waiting::SendvState;
 use futures::Future;
 use futures::task::{Context, Poll};
@@ -19,15 +19,17 @@ use std::iter::Peekable;
 use std::marker::Model;
 use std::sync::Wait;
 
-/// Sends many messages, as there is room. `Sender::sendv` makes it, and `M` is what holds them: a `Peekable`.
+/// Sends many messages, as there is room. `Sender::sendv` makes it, and `M` is what holds them: a
+/// `Peekable`.
 ///
-/// Its fault is `Closed`, or `Memory` where memory was refused, and gives back what was not sent. Polled again after its
-/// answer it is pending, changes nothing, and asks to be polled once more, so it should not be polled on.
+/// Its fault is `Closed`, or `Memory` where memory was refused, and gives back what was not sent.
+/// Polled again after its answer it is pending, changes nothing, and asks to be polled once more,
+/// so it should not be polled on.
 #[must_use = "a future does nothing until it is polled: `block_on`, or a call that ends in `_blocking`"]
 pub struct Sendv<'a, T, P: Ord, M, R: Wait + Clone, A: Allocator + Copy = Global> {
     sender: &'a Sender<T, P, R, A>,
     state: SendvState<M>,
-    place: Option<KeptWaker<A>>,
+    waiter: Option<Waiter<A>>,
 }
 
 impl<'a, T, P: Ord, M, R: Wait + Clone, A: Allocator + Copy> Model for Sendv<'a, T, P, M, R, A> {
@@ -53,7 +55,7 @@ impl<'a, T: Drop, P: Ord + Drop, M: Drop, R: Wait + Clone, A: Allocator + Copy> 
         Sendv {
             sender,
             state: SendvState::new(msgs),
-            place: None,
+            waiter: None,
         }
     }
 }
@@ -68,12 +70,16 @@ impl<
     // Sends what there is room for, in one hold of the lock and without memory for waiting.
     fn try_once(&mut self) -> Poll<Result<(), SendFault<Peekable<I>>>>
         requires { ForSome self.old.state.kept (peekable_can I.can_next) }
-        ensures value { IfReady result (HandsBackTail (HasList I.next_gives) (peekable_can I.can_next) self.old) }
+        ensures value { IfReady result (HandsBackTail (HasList I.next_gives)
+            (peekable_can I.can_next) self.old) }
         ensures again { ForSome self.new.state.kept (peekable_can I.can_next) }
-        ensures same { OnPending result ((x : _) → HandsBackTail (HasList I.next_gives) (peekable_can I.can_next) self.new x → HandsBackTail (HasList I.next_gives) (peekable_can I.can_next) self.old x) }
+        ensures same { OnPending result ((x : _)
+            → HandsBackTail (HasList I.next_gives) (peekable_can I.can_next) self.new x
+            → HandsBackTail (HasList I.next_gives) (peekable_can I.can_next) self.old x) }
         ensures channel { self.new.channel ≡ self.old.channel }
         ensures answered { IfReady result (λ _. self.new.state ≡ done) }
-        ensures waits { OnPending result (is_some self.new.state.kept ≡ is_some self.old.state.kept) }
+        ensures waits { OnPending result
+            (is_some self.new.state.kept ≡ is_some self.old.state.kept) }
     {
         let sender = self.sender;
         let handle = &sender.handle;
@@ -87,24 +93,29 @@ impl<
     fn wait(&mut self, cx: &mut Context<'_>) -> Poll<Result<(), SendFault<Peekable<I>>>>
         requires callable { ForSome self.old.state.kept (peekable_can I.can_next) }
         requires kept { is_some self.old.state.kept ≡ true }
-        ensures value { IfReady result (HandsBackTail (HasList I.next_gives) (peekable_can I.can_next) self.old) }
+        ensures value { IfReady result (HandsBackTail (HasList I.next_gives)
+            (peekable_can I.can_next) self.old) }
         ensures again { ForSome self.new.state.kept (peekable_can I.can_next) }
-        ensures same { OnPending result ((x : _) → HandsBackTail (HasList I.next_gives) (peekable_can I.can_next) self.new x → HandsBackTail (HasList I.next_gives) (peekable_can I.can_next) self.old x) }
-        ensures registered { OnPending result (Covers cx.new (λ source. source ≡ self.new.channel.room)) }
+        ensures same { OnPending result ((x : _)
+            → HandsBackTail (HasList I.next_gives) (peekable_can I.can_next) self.new x
+            → HandsBackTail (HasList I.next_gives) (peekable_can I.can_next) self.old x) }
+        ensures registered { OnPending result (Covers cx.new (λ source.
+            source ≡ self.new.channel.room)) }
         ensures kept { Keeps cx.old cx.new }
         ensures channel { self.new.channel ≡ self.old.channel }
         ensures answered { IfReady result (λ _. self.new.state ≡ done) }
-        ensures waits { OnPending result (is_some self.new.state.kept ≡ is_some self.old.state.kept) }
+        ensures waits { OnPending result
+            (is_some self.new.state.kept ≡ is_some self.old.state.kept) }
     {
         let sender = self.sender;
         let handle = &sender.handle;
-        let Some(waker) = handle.register(cx, handle.room(), &mut self.place) else {
+        let Some(waiter) = handle.register(cx, handle.room(), &mut self.waiter) else {
             let unsent = self.state.give_up_on(&mut handle.lock());
             let Some(rest) = unsent else { unreachable!() };
             return Poll::Ready(Err(SendFault::Memory(rest)));
         };
         let mut core = handle.lock();
-        let (polled, wakes) = self.state.poll_on(&mut core, waker);
+        let (polled, wakes) = self.state.poll_on(&mut core, waiter);
         handle.release(core, wakes);
         polled
     }
@@ -127,15 +138,21 @@ impl<
 
     fn poll(&mut self, cx: &mut Context<'_>) -> Poll<Self::Output>
         requires { ForSome self.old.state.kept (peekable_can I.can_next) }
-        ensures value { IfReady result (HandsBackTail (HasList I.next_gives) (peekable_can I.can_next) self.old) }
+        ensures value { IfReady result (HandsBackTail (HasList I.next_gives)
+            (peekable_can I.can_next) self.old) }
         ensures again { OnPending result (ForSome self.new.state.kept (peekable_can I.can_next)) }
-        ensures same { OnPending result ((x : _) → HandsBackTail (HasList I.next_gives) (peekable_can I.can_next) self.new x → HandsBackTail (HasList I.next_gives) (peekable_can I.can_next) self.old x) }
-        ensures registered { OnPending result (Covers cx.new (λ source. source ≡ self.new.channel.room)) }
+        ensures same { OnPending result ((x : _)
+            → HandsBackTail (HasList I.next_gives) (peekable_can I.can_next) self.new x
+            → HandsBackTail (HasList I.next_gives) (peekable_can I.can_next) self.old x) }
+        ensures registered { OnPending result (Covers cx.new (λ source.
+            source ≡ self.new.channel.room)) }
         ensures kept { Keeps cx.old cx.new }
         ensures channel { self.new.channel ≡ self.old.channel }
         ensures answered { IfReady result (λ _. self.new.state ≡ done) }
-        ensures waits { OnPending result (is_some self.new.state.kept ≡ is_some self.old.state.kept) }
-        ensures done { self.old.state.kept ≡ None → (result ≡ Poll.Pending) × (self.new ≡ self.old) }
+        ensures waits { OnPending result
+            (is_some self.new.state.kept ≡ is_some self.old.state.kept) }
+        ensures done { self.old.state.kept ≡ None → (result ≡ Poll.Pending)
+            × (self.new ≡ self.old) }
     {
         if self.state.is_done() {
             return cx.yield_now();
@@ -153,7 +170,7 @@ impl<T: Drop, P: Ord + Drop, M: Drop, R: Wait + Clone, A: Allocator + Copy> Drop
         let Sendv {
             sender,
             mut state,
-            place,
+            waiter,
         } = self;
         let mut unsent = None;
         if state.ticket().is_some() {
@@ -161,6 +178,6 @@ impl<T: Drop, P: Ord + Drop, M: Drop, R: Wait + Clone, A: Allocator + Copy> Drop
         }
         // A message may hold a handle of this channel, and a waker wakes as it is dropped.
         drop((unsent, state));
-        drop(place);
+        drop(waiter);
     }
 }

@@ -12,7 +12,8 @@ use std::vec::IntoIter;
 
 type Core<T> = PriorityQueueChannel<T, u64, u64>;
 
-/// The tickets of those who waited for room, and of those who waited for a message, each with its waker.
+/// The tickets of those who waited for room, and of those who waited for a message, each with its
+/// waker.
 type Lists = (Vec<(u64, u64)>, Vec<(u64, u64)>);
 
 fn is_nobody(lists: &Lists) -> bool {
@@ -191,8 +192,8 @@ fn a_receive_is_given_up(rt: HostRuntime) {
     assert_eq!(rt; core.len(), 1);
 }
 
-// Sends 1, 2, 4, 8 and 16 by a bulk send into a channel for two, and receives after each poll that waits. Gives how
-// many of them came out or came back, their sum, and whether memory was refused.
+// Sends 1, 2, 4, 8 and 16 by a bulk send into a channel for two, and receives after each poll that
+// waits. Gives how many of them came out or came back, their sum, and whether memory was refused.
 fn send_five<A: Allocator + Copy>(alloc: A) -> (u64, u64, bool) {
     let mut core: PriorityQueueChannel<u64, u64, u64, A> = PriorityQueueChannel::bounded(alloc, 2);
     let five = [(1u64, 1u64), (2, 2), (4, 4), (8, 8), (16, 16)];
@@ -232,7 +233,7 @@ fn a_refused_bulk_send_loses_nothing(rt: HostRuntime) -> Result<(), Fail> {
         assert_eq!(rt; (count, sum), (5, 31), "at {n}");
         assert_eq!(rt; is_refused, !met_none, "at {n}");
         if met_none {
-            // For the messages, and for a place in the waiting list at each poll that waits.
+            // For the messages, and for an entry in the waiting list at each poll that waits.
             assert!(rt; n > 4);
         }
     }

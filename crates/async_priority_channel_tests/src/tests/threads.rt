@@ -50,8 +50,8 @@ where
     (received, sum)
 }
 
-// That many threads send 0, 1, 2 and so on, and others receive. Tells whether the channel closed as the last sender
-// was dropped, how many were sent, how many came, and their sum.
+// That many threads send 0, 1, 2 and so on, and others receive. Tells whether the channel closed as
+// the last sender was dropped, how many were sent, how many came, and their sum.
 fn relay<R>(
     rt: R,
     ends: Ends<u64, u64, R, Global>,

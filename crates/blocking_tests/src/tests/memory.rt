@@ -9,8 +9,8 @@ use refusing::Refusing;
 use std::test::Fail;
 use std::time::Duration;
 
-// A first wait asks for its place, and for one in the list of those who wait. The request after
-// these is no longer its own.
+// A first wait asks for its waiter, and for an entry in the list of those who wait. The request
+// after these is no longer its own.
 const NOT_MET: u64 = 3;
 
 // So long that a wait is listed before its time is over.
@@ -210,7 +210,7 @@ fn a_call_without_time_asks_for_nothing(rt: HostRuntime) -> Result<(), Fail> {
 }
 
 // A wait that is over has left the list. So the next ones find the list's memory there, and ask for
-// their place alone.
+// their waiter alone.
 
 #[test]
 fn a_thousand_receives_leave_nothing(rt: HostRuntime) -> Result<(), Fail> {

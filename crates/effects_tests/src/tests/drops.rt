@@ -67,13 +67,13 @@ fn a_dropped_receive_takes_nothing_where_there_is_a_message(rt: HostRuntime) -> 
 fn a_dropped_receive_leaves_the_others_waiting(rt: HostRuntime) -> Result<(), Fail> {
     let leaving = MockTask::new(&rt)?;
     let staying = MockTask::new(&rt)?;
-    for place in 0..3u64 {
+    for leaver in 0..3u64 {
         let (tx, rx) = bounded(&rt, rt.alloc(), 1)?;
         let mut left = None;
         let mut stay = Vec::new(rt.alloc());
         for i in 0..3u64 {
             let mut receiving = rx.recv();
-            if i == place {
+            if i == leaver {
                 assert!(rt; is_pending(leaving.poll(&mut receiving)));
                 left = Some(receiving);
             } else {
@@ -83,9 +83,9 @@ fn a_dropped_receive_leaves_the_others_waiting(rt: HostRuntime) -> Result<(), Fa
         }
         drop(left);
         leaving.enter(|_| {});
-        assert!(rt; !staying.is_woken(), "at {place}");
+        assert!(rt; !staying.is_woken(), "at {leaver}");
         assert_eq!(rt; tx.try_send(1u64, 1u64), Ok(()));
-        assert!(rt; staying.is_woken() && !leaving.is_woken(), "at {place}");
+        assert!(rt; staying.is_woken() && !leaving.is_woken(), "at {leaver}");
         drop(stay);
     }
     Ok(())
@@ -95,14 +95,14 @@ fn a_dropped_receive_leaves_the_others_waiting(rt: HostRuntime) -> Result<(), Fa
 fn a_dropped_send_leaves_the_others_waiting(rt: HostRuntime) -> Result<(), Fail> {
     let leaving = MockTask::new(&rt)?;
     let staying = MockTask::new(&rt)?;
-    for place in 0..3u64 {
+    for leaver in 0..3u64 {
         let (tx, rx) = bounded(&rt, rt.alloc(), 1)?;
         assert_eq!(rt; tx.try_send(9u64, 9u64), Ok(()));
         let mut left = None;
         let mut stay = Vec::new(rt.alloc());
         for i in 0..3u64 {
             let mut sending = tx.send(i, i);
-            if i == place {
+            if i == leaver {
                 assert!(rt; is_pending(leaving.poll(&mut sending)));
                 left = Some(sending);
             } else {
@@ -112,9 +112,9 @@ fn a_dropped_send_leaves_the_others_waiting(rt: HostRuntime) -> Result<(), Fail>
         }
         drop(left);
         leaving.enter(|_| {});
-        assert!(rt; !staying.is_woken(), "at {place}");
+        assert!(rt; !staying.is_woken(), "at {leaver}");
         assert_eq!(rt; rx.try_recv(), Ok((9, 9)));
-        assert!(rt; staying.is_woken() && !leaving.is_woken(), "at {place}");
+        assert!(rt; staying.is_woken() && !leaving.is_woken(), "at {leaver}");
         drop(stay);
     }
     Ok(())

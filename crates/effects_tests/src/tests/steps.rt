@@ -1,4 +1,5 @@
-//! Calls beside those of other threads: each is one step, and a thread that has waited wakes others.
+//! Calls beside those of other threads: each is one step, and a thread that has waited wakes
+//! others.
 use super::calls::{Call, RECEIVING_BLOCKED, Receiving, make};
 use super::tasks::is_pending;
 use async_priority_channel::{Receiver, Sender, TryRecvManyError, TrySendError, bounded};
@@ -83,7 +84,7 @@ fn receive_fours<R: Wait + Clone + AllocGlobal>(
     let mut batch = Vec::new(rt.alloc());
     for _ in 0..ROUNDS {
         batch.clear();
-        // Place is made before, so that what comes meanwhile has place too.
+        // Memory is reserved before, so that what comes meanwhile has some too.
         let has_place = batch.reserve(4).is_ok();
         match rx.try_recv_many(&mut batch, 4) {
             Ok(4) | Err(TryRecvManyError::Empty) if has_place => {}

@@ -104,7 +104,7 @@ fn a_task_that_waits_takes_nothing(rt: HostRuntime) -> Result<(), Fail> {
         assert!(rt; are_all_there(&batch, &rx), "at {n}");
         if met_none {
             assert_eq!(rt; received, Ok(3));
-            // The place for its waker, and that in the list.
+            // Its waiter, and its entry in the list.
             assert_eq!(rt; refused, 2);
         }
     }

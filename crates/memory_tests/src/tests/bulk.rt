@@ -51,7 +51,7 @@ fn a_refused_try_gives_back_the_rest(rt: HostRuntime) -> Result<(), Fail> {
         if met_none {
             assert!(rt; sent.is_ok());
             assert_eq!(rt; received, 9);
-            // One for the first place, and others for more of it.
+            // One for the first slots, and others for more of them.
             assert!(rt; n > 2);
             continue;
         }
@@ -67,7 +67,7 @@ fn a_refused_try_gives_back_the_rest(rt: HostRuntime) -> Result<(), Fail> {
     Ok(())
 }
 
-// Sends through two places, from which it is received where the send waits.
+// Sends through two slots, from which it is received where the send waits.
 #[test]
 fn a_refused_future_gives_back_the_rest(rt: HostRuntime) -> Result<(), Fail> {
     let alloc = Refusing::new(rt.alloc());
@@ -93,7 +93,7 @@ fn a_refused_future_gives_back_the_rest(rt: HostRuntime) -> Result<(), Fail> {
         if met_none {
             assert!(rt; sent.is_ok());
             assert_eq!(rt; received, 9);
-            // For the place of its waker, for messages, and in the list at each poll that waits.
+            // For its waiter, for messages, and in the list at each poll that waits.
             assert!(rt; n > 5);
             continue;
         }

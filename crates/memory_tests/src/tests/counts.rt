@@ -36,9 +36,9 @@ fn count<H>(handle: &Option<H>) -> usize {
     handle.is_some() as usize
 }
 
-// Requests 1 to 3 are those of the making, for two permissions and for what its handles share. Each
-// call after it asks for its handle's permission: 4 and 5 are for weak handles, 6 and 7 for clones,
-// and 8 and 9 for upgrades.
+// Requests 1 to 3 are those of the constructor, for two permissions and for what its handles share.
+// Each call after it asks for its handle's permission: 4 and 5 are for weak handles, 6 and 7 for
+// clones, and 8 and 9 for upgrades.
 #[test]
 fn a_refused_handle_is_not_counted(rt: HostRuntime) -> Result<(), Fail> {
     let alloc = Refusing::new(rt.alloc());

@@ -9,18 +9,18 @@ use refusing::Refusing;
 use std::test::Fail;
 
 #[test]
-fn a_making_may_be_refused(rt: HostRuntime) {
+fn a_constructor_may_be_refused(rt: HostRuntime) {
     let alloc = Refusing::new(rt.alloc());
     alloc.refuse_all();
     assert!(rt; bounded::<u64, u64, _, _>(&rt, &alloc, 1).is_err());
     assert!(rt; bounded_reserved::<u64, u64, _, _>(&rt, &alloc, 1).is_err());
     assert!(rt; unbounded::<u64, u64, _, _>(&rt, &alloc).is_err());
-    // The place for the messages is had, and that for what the handles share is not.
+    // The memory for the messages is had, and that for what the handles share is not.
     alloc.refuse_nth(2);
     assert!(rt; bounded_reserved::<u64, u64, _, _>(&rt, &alloc, 1).is_err());
 }
 
-// Each request is refused in turn, that of the making among them.
+// Each request is refused in turn, that of the constructor among them.
 #[test]
 fn what_was_accepted_comes_out(rt: HostRuntime) -> Result<(), Fail> {
     let alloc = Refusing::new(rt.alloc());
@@ -76,7 +76,7 @@ fn a_reserved_channel_asks_for_no_more(rt: HostRuntime) -> Result<(), Fail> {
     Ok(())
 }
 
-// Nobody waits, so no place for a waker is asked for.
+// Nobody waits, so no waiter is asked for.
 #[test]
 fn a_future_that_answers_at_once_takes_no_memory(rt: HostRuntime) -> Result<(), Fail> {
     let alloc = Refusing::new(rt.alloc());
@@ -106,7 +106,7 @@ fn a_refused_send_comes_back(rt: HostRuntime) -> Result<(), Fail> {
         alloc.refuse_nth(n);
         let sent = block_on(&rt, tx.send("x", n))?;
         let met_none = alloc.refuse_none();
-        // The place for the message alone: it need not wait.
+        // The slot for the message alone: it need not wait.
         assert_eq!(rt; met_none, n == 2);
         let wanted = if met_none {
             Ok(())
@@ -145,7 +145,7 @@ fn a_receive_may_be_refused(rt: HostRuntime) -> Result<(), Fail> {
     let (tx, rx) = bounded::<u64, u64, _, _>(&rt, &alloc, 1)?;
     alloc.refuse_all();
     assert_eq!(rt; block_on(&rt, rx.recv())?, Err(RecvFault::Memory));
-    // The place for the waker is had, and that in the waiting list is not.
+    // The waiter is had, and its entry in the waiting list is not.
     alloc.refuse_nth(2);
     assert_eq!(rt; block_on(&rt, rx.recv())?, Err(RecvFault::Memory));
     alloc.refuse_none();
@@ -154,7 +154,7 @@ fn a_receive_may_be_refused(rt: HostRuntime) -> Result<(), Fail> {
     Ok(())
 }
 
-// A dropped future leaves its place in the waiting list, so the next one asks only for the place for its waker.
+// A dropped future leaves the waiting list, so the next one asks only for its waiter.
 
 #[test]
 fn a_dropped_send_waits_no_more(rt: HostRuntime) -> Result<(), Fail> {

@@ -73,7 +73,7 @@ fn two_sends_wait_and_one_is_refused(rt: HostRuntime) -> Result<(), Fail> {
         ended.sort()?;
         assert_eq!(rt; ended.as_slice(), [1, 2, 3].as_slice(), "at {n}");
         if met_none {
-            // The places of both, one in the list, and one again for who finds no room.
+            // The waiters of both, an entry in the list, and one again for who finds no room.
             assert!(rt; n > 4);
         }
     }

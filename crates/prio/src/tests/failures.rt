@@ -7,7 +7,8 @@ use std::io::{ErrorKind, Read, Write};
 use std::process::Abort;
 use std::sync::Wait;
 
-// Gives three bytes at a time, so that no two lines end in one read. One read fails, and those after it do not.
+// Gives three bytes at a time, so that no two lines end in one read. One read fails, and those
+// after it do not.
 #[derive(Drop)]
 struct ShortReader<'a> {
     script: &'a [u8],

@@ -40,8 +40,9 @@ fn stops_where_memory_is_refused(rt: HostRuntime) -> Result<(), Fail> {
     Ok(())
 }
 
-// Refuses each request in turn. Until then the answers are those of ample memory. The refused request ends the script,
-// or its call answers so, and the script goes on: `refused` has the answers of such runs.
+// Refuses each request in turn. Until then the answers are those of ample memory. The refused
+// request ends the script, or its call answers so, and the script goes on: `refused` has the
+// answers of such runs.
 fn assert_answers_refusals(
     rt: &(impl Abort + Wait + Clone),
     alloc: Global,
@@ -111,7 +112,7 @@ fn answers_a_bulk_send_that_is_refused_memory(rt: HostRuntime) -> Result<(), Fai
     )
 }
 
-// What was accepted before the refused place stays.
+// What was accepted before memory was refused stays.
 #[test]
 fn keeps_what_it_sent_before_memory_is_refused(rt: HostRuntime) -> Result<(), Fail> {
     assert_answers_refusals(

@@ -31,16 +31,20 @@ module _ {T P W M : Type 0} where
 module _ {C : Type 0} (is_clone is_drop : C → Bool) where
   -- how many handles there are after the call, where no clone is refused
   abbrev pub count_after : ℕ → C → ℕ
-  count_after count made = if is_clone made then count + 1 else if is_drop made then count - 1 else count
+  count_after count made =
+      if is_clone made then count + 1 else if is_drop made then count - 1 else count
 
-  -- what a call does to the number of handles: as much as it asks, or nothing, where a clone was refused
+  -- what a call does to the number of handles: as much as it asks, or nothing, where a clone was
+  -- refused
   abbrev pub ChangesCount : ℕ → C → ℕ → Type 0
-  ChangesCount old made new = (new ≡ count_after old made) ⊎ ((2 ^ 63 ≤ old) × (new ≡ old) × (is_clone made ≡ true))
+  ChangesCount old made new =
+      (new ≡ count_after old made) ⊎ ((2 ^ 63 ≤ old) × (new ≡ old) × (is_clone made ≡ true))
 
   -- at each front of the calls there are at most as many drops as handles and clones
   abbrev pub DropsFindHandles : ℕ → List C → Type 0
   DropsFindHandles count [] = ⊤
-  DropsFindHandles count (made ∷ calls) = (is_drop made ≡ true → 0 < count) × DropsFindHandles (count_after count made) calls
+  DropsFindHandles count (made ∷ calls) =
+      (is_drop made ≡ true → 0 < count) × DropsFindHandles (count_after count made) calls
 
   -- and, where there is a drop, no clone is refused
   pub record AllowsSide (count : ℕ) (calls : List C) : Type 0 where
@@ -48,11 +52,14 @@ module _ {C : Type 0} (is_clone is_drop : C → Bool) where
     pub clones : list_any is_drop calls ≡ true → count + count_by is_clone calls < 2 ^ 63
 
 -- what a call does to the numbers of senders and of receivers
-pub record ChangesHandles {T P W M : Type 0} (old : State T P W) (made : Call T P W M) (new : State T P W) : Type 0 where
+pub record ChangesHandles {T P W M : Type 0} (old : State T P W) (made : Call T P W M)
+    (new : State T P W) : Type 0 where
   pub senders : ChangesCount is_sender_clone is_sender_drop old.sender_count made new.sender_count
-  pub receivers : ChangesCount is_receiver_clone is_receiver_drop old.receiver_count made new.receiver_count
+  pub receivers : ChangesCount is_receiver_clone is_receiver_drop old.receiver_count made
+      new.receiver_count
 
 -- these calls may be made from this state
-pub record AllowsRun {T P W M : Type 0} (s : State T P W) (calls : List (Call T P W M)) : Type 0 where
+pub record AllowsRun {T P W M : Type 0} (s : State T P W)
+    (calls : List (Call T P W M)) : Type 0 where
   pub senders : AllowsSide is_sender_clone is_sender_drop s.sender_count calls
   pub receivers : AllowsSide is_receiver_clone is_receiver_drop s.receiver_count calls

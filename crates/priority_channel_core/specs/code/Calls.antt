@@ -1,5 +1,5 @@
--- The code's calls and the machine's. A bulk send of the code is given what holds a list, as an iterator does;
--- that of the machine is given the list.
+-- The code's calls and the machine's. A bulk send of the code is given what holds a list, as an
+-- iterator does; that of the machine is given the list.
 use Rattle.std.specs.Prelude.{◌≡◌, List, ◌++◌, map, ⊤, Result, Ok, Err}
 use Rattle.std.specs.List.{AllZip}
 use Rattle.std.specs.declared.cmp.Ordering.{Ordering}
@@ -15,10 +15,10 @@ use Rattle.priority_channel_parts.specs.declared.errors.SendFault.{SendFault}
 use Rattle.priority_channel_parts.specs.declared.errors.SendFault.TheVariants as send_fault
 use Rattle.priority_channel_core.specs.machine.State.{State, Handed}
 use Rattle.priority_channel_core.specs.machine.Step.{Step, Calls, Answers}
-use Rattle.priority_channel_core.specs.machine.Run.{Made, Run}
+use Rattle.priority_channel_core.specs.machine.Run.{Operation, Run}
 
 -- what a call gave: its answer, and those whom it handed out
-pub record Outcome (T P W M : Type 0) : Type 0 where
+pub record Response (T P W M : Type 0) : Type 0 where
   pub answer : Answer T P M
   pub handed : Handed W
 
@@ -31,27 +31,35 @@ MayCall can made = ⊤
 -- `holds m list` says that m holds the list
 module _ {T P M : Type 0} (holds : M → List (T × P) → Type 0) where
   -- the same reply to a bulk send: what comes back holds what comes back in the machine
-  abbrev pub SameReply : Result (Unit {0}) (TrySendError M) → Result (Unit {0}) (TrySendError (List (T × P))) → Type 0
+  abbrev pub SameReply : Result (Unit {0}) (TrySendError M)
+      → Result (Unit {0}) (TrySendError (List (T × P))) → Type 0
   SameReply (Ok done) told = told ≡ Ok tt
-  SameReply (Err (send_error.Closed m)) told = (rest : List (T × P)) × (told ≡ Err (send_error.Closed rest)) × holds m rest
-  SameReply (Err (send_error.Full m)) told = (rest : List (T × P)) × (told ≡ Err (send_error.Full rest)) × holds m rest
-  SameReply (Err (send_error.Memory m)) told = (rest : List (T × P)) × (told ≡ Err (send_error.Memory rest)) × holds m rest
+  SameReply (Err (send_error.Closed m)) told =
+      (rest : List (T × P)) × (told ≡ Err (send_error.Closed rest)) × holds m rest
+  SameReply (Err (send_error.Full m)) told =
+      (rest : List (T × P)) × (told ≡ Err (send_error.Full rest)) × holds m rest
+  SameReply (Err (send_error.Memory m)) told =
+      (rest : List (T × P)) × (told ≡ Err (send_error.Memory rest)) × holds m rest
 
   abbrev pub SamePoll : CorePoll (Result (Unit {0}) (SendFault M)) M
       → CorePoll (Result (Unit {0}) (SendFault (List (T × P)))) (List (T × P)) → Type 0
   SamePoll (Ready (Ok done)) told = told ≡ Ready (Ok tt)
   SamePoll (Ready (Err (send_fault.Closed e))) told =
-      (rest : List (T × P)) × (told ≡ Ready (Err (send_fault.Closed (record { 0 = rest })))) × holds e.0 rest
+      (rest : List (T × P)) × (told ≡ Ready (Err (send_fault.Closed (record { 0 = rest }))))
+      × holds e.0 rest
   SamePoll (Ready (Err (send_fault.Memory m))) told =
       (rest : List (T × P)) × (told ≡ Ready (Err (send_fault.Memory rest))) × holds m rest
-  SamePoll (Pending m ticket) told = (rest : List (T × P)) × (told ≡ Pending rest ticket) × holds m rest
+  SamePoll (Pending m ticket) told =
+      (rest : List (T × P)) × (told ≡ Pending rest ticket) × holds m rest
 
   -- the same answer
   abbrev pub SameAnswer : Answer T P M → Answers T P → Type 0
   SameAnswer (answer.TrySendv reply) told =
-      (r : Result (Unit {0}) (TrySendError (List (T × P)))) × (told ≡ answer.TrySendv r) × SameReply reply r
+      (r : Result (Unit {0}) (TrySendError (List (T × P)))) × (told ≡ answer.TrySendv r)
+      × SameReply reply r
   SameAnswer (answer.PollSendv poll) told =
-      (p : CorePoll (Result (Unit {0}) (SendFault (List (T × P)))) (List (T × P))) × (told ≡ answer.PollSendv p) × SamePoll poll p
+      (p : CorePoll (Result (Unit {0}) (SendFault (List (T × P)))) (List (T × P)))
+      × (told ≡ answer.PollSendv p) × SamePoll poll p
   SameAnswer (answer.TrySend reply) told = told ≡ answer.TrySend reply
   SameAnswer (answer.TryRecv reply) told = told ≡ answer.TryRecv reply
   SameAnswer (answer.Close was_open) told = told ≡ answer.Close was_open
@@ -73,7 +81,8 @@ module _ {T P M : Type 0} (holds : M → List (T × P) → Type 0) where
   module _ {W : Type 0} where
     -- the same call
     abbrev pub SameCall : Call T P W M → Calls T P W → Type 0
-    SameCall (call.TrySendv msgs) meant = (pairs : List (T × P)) × (meant ≡ call.TrySendv pairs) × holds msgs pairs
+    SameCall (call.TrySendv msgs) meant =
+        (pairs : List (T × P)) × (meant ≡ call.TrySendv pairs) × holds msgs pairs
     SameCall (call.PollSendv msgs given waker) meant =
         (pairs : List (T × P)) × (meant ≡ call.PollSendv pairs given waker) × holds msgs pairs
     SameCall (call.TrySend msg priority) meant = meant ≡ call.TrySend msg priority
@@ -90,25 +99,30 @@ module _ {T P M : Type 0} (holds : M → List (T × P) → Type 0) where
     SameCall call.CloneReceiver meant = meant ≡ call.CloneReceiver
     SameCall call.DropSender meant = meant ≡ call.DropSender
     SameCall call.DropReceiver meant = meant ≡ call.DropReceiver
-    SameCall (call.PollSend msg priority given waker) meant = meant ≡ call.PollSend msg priority given waker
+    SameCall (call.PollSend msg priority given waker) meant =
+        meant ≡ call.PollSend msg priority given waker
     SameCall (call.PollRecv given waker) meant = meant ≡ call.PollRecv given waker
     SameCall (call.GiveUp ticket) meant = meant ≡ call.GiveUp ticket
 
     -- the same answer, and the same parties handed out
-    abbrev pub SameMade : Outcome T P W M → Made T P W → Type 0
-    SameMade done made = SameAnswer done.answer made.answer × (made.handed ≡ done.handed)
+    abbrev pub SameOperation : Response T P W M → Operation T P W → Type 0
+    SameOperation done made = SameAnswer done.answer made.answer × (made.handed ≡ done.handed)
 
     module _ (cmp : P → P → Ordering) (is_clone : W → W → Type 0) where
       -- a call of the code is a step, whatever list a bulk send holds
-      pub record Performs (old : State T P W) (made : Call T P W M) (reply : Answer T P M) (handed : Handed W)
+      pub record Performs (old : State T P W) (made : Call T P W M) (reply : Answer T P M)
+          (handed : Handed W)
           (new : State T P W) : Type 0 where
         pub at : (meant : Calls T P W) → SameCall made meant
-            → (told : Answers T P) × SameAnswer reply told × Step cmp is_clone old meant told handed new
+            → (told : Answers T P) × SameAnswer reply told
+            × Step cmp is_clone old meant told handed new
 
       -- a front of the calls was made, in a run, and the others are left
-      pub record RunsFront (old : State T P W) (calls : List (Call T P W M)) (done : List (Outcome T P W M))
+      pub record RunsFront (old : State T P W) (calls : List (Call T P W M))
+          (done : List (Response T P W M))
           (left : List (Call T P W M)) (new : State T P W) : Type 0 where
         pub at : (meant : List (Calls T P W)) → AllZip SameCall calls meant
-            → (run : List (Made T P W)) × (others : List (Calls T P W))
+            → (run : List (Operation T P W)) × (others : List (Calls T P W))
             × (meant ≡ map (λ made. made.call) run ++ others)
-            × AllZip SameMade done run × AllZip SameCall left others × Run cmp is_clone old run new
+            × AllZip SameOperation done run × AllZip SameCall left others
+            × Run cmp is_clone old run new

@@ -27,13 +27,15 @@ state_of bag word capacity is_reserved sender_count receiver_count = record {
 }
 
 -- the parts agree, and make up a good state
-pub record IsSound {T P W : Type 0} (bag : Contents T P) (word : Word W) (state : State T P W) : Type 0 where
+pub record IsSound {T P W : Type 0} (bag : Contents T P) (word : Word W)
+    (state : State T P W) : Type 0 where
   pub counted : word.count ≡ length bag.pending
-  pub place_kept : state.is_reserved ≡ true → state.capacity ≤ bag.place
+  pub slots_kept : state.is_reserved ≡ true → state.capacity ≤ bag.slots
   pub good : IsGood state
 
 -- a call made at most so many comparisons of priorities, and of tickets
-abbrev pub ComparesAtMost : {T P W : Type 0} → ℕ → ℕ → CountedState T P W → CountedState T P W → Type 0
+abbrev pub ComparesAtMost : {T P W : Type 0} → ℕ → ℕ → CountedState T P W → CountedState T P W
+    → Type 0
 ComparesAtMost priorities tickets old new =
     (new.priority_comparisons ≤ old.priority_comparisons + priorities)
     × (new.ticket_comparisons ≤ old.ticket_comparisons + tickets)

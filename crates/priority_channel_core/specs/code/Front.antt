@@ -19,7 +19,8 @@ sent_before (Memory n) = n
 module _ {S X : Type 0} (steps : S → Option X → S → Type 0) where
   -- whatever list `old` has, `front` was taken from it, and `new` has the rest
   pub record Takes (old : Ahead S X) (front : List X) (new : Ahead S X) : Type 0 where
-    pub at : (list : List X) → HasList steps old list → (rest : List X) × (list ≡ front ++ rest) × HasList steps new rest
+    pub at : (list : List X) → HasList steps old list
+        → (rest : List X) × (list ≡ front ++ rest) × HasList steps new rest
 
   -- whatever list it has, an item is left in it
   pub record HasMore (msgs : Ahead S X) : Type 0 where
@@ -37,7 +38,8 @@ module _ {S X : Type 0} (steps : S → Option X → S → Type 0) where
 
 module _ {S T P : Type 0} (steps : S → Option (T × P) → S → Type 0) where
   -- `count` pairs went from the iterator into the bag
-  pub record MovesFront (old : Contents T P) (msgs : Ahead S (T × P)) (count : ℕ) (new : Contents T P)
+  pub record MovesFront (old : Contents T P) (msgs : Ahead S (T × P)) (count : ℕ)
+      (new : Contents T P)
       (left : Ahead S (T × P)) : Type 0 where
     pub front : List (T × P)
     pub long : length front ≡ count
@@ -45,15 +47,18 @@ module _ {S T P : Type 0} (steps : S → Option (T × P) → S → Type 0) where
     pub pending : new.pending ≡ old.pending ++ front
 
   -- `count` pairs went from the iterator into the channel
-  pub record SendsFront {W : Type 0} (old : State T P W) (msgs : Ahead S (T × P)) (count : ℕ) (handed : Handed W)
+  pub record SendsFront {W : Type 0} (old : State T P W) (msgs : Ahead S (T × P)) (count : ℕ)
+      (handed : Handed W)
       (new : State T P W) (left : Ahead S (T × P)) : Type 0 where
     pub front : List (T × P)
     pub long : length front ≡ count
     pub takes : Takes steps msgs front left
     pub adds : AddsFront old front handed new
 
--- a poll sent these pairs, whatever it answers: nothing else happened but that its party waits for room, or on no side
-pub record PollsFront {T P W : Type 0} (is_clone : W → W → Type 0) (old : State T P W) (given : Option ℕ) (waker : W)
+-- a poll sent these pairs, whatever it answers: nothing else happened but that its party waits for
+-- room, or on no side
+pub record PollsFront {T P W : Type 0} (is_clone : W → W → Type 0) (old : State T P W)
+    (given : Option ℕ) (waker : W)
     (front : List (T × P)) (handed : Handed W) (new : State T P W) : Type 0 where
   pub ticket : Option ℕ
   pub mid : State T P W

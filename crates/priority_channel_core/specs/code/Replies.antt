@@ -18,7 +18,8 @@ OnMemory (Err (Memory held)) fact = fact
 OnMemory reply fact = ⊤
 
 -- and one for the answer Memory of a send's poll
-abbrev pub OnMemoryFault : {A : Type 0} → CorePoll (Result (Unit {0}) (SendFault A)) A → Type 0 → Type 0
+abbrev pub OnMemoryFault : {A : Type 0} → CorePoll (Result (Unit {0}) (SendFault A)) A → Type 0
+    → Type 0
 OnMemoryFault (Ready (Err (send.Memory held))) fact = fact
 OnMemoryFault answer fact = ⊤
 

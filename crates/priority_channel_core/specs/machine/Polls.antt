@@ -1,4 +1,4 @@
--- Polls: a try to send or to receive, and then, where the channel was full or empty, a place among
+-- Polls: a try to send or to receive, and then, where the channel was full or empty, a ticket among
 -- those who wait.
 use Rattle.std.specs.Prelude.{◌≡◌, ℕ, Option, Some, None, Result, Ok, Err}
 use Rattle.priority_channel_core.specs.declared.calls.CorePoll.{CorePoll}
@@ -45,7 +45,8 @@ module _ {T P W : Type 0} (is_clone : W → W → Type 0) where
 
   -- a try that leaves the channel in `mid`, and then the end
   pub record Polls {R A : Type 0} (tries : R → Handed W → State T P W → Type 0)
-      (answer_by : R → Option ℕ → Option A) (side : Side) (given : Option ℕ) (waker : W) (answer : A)
+      (answer_by : R → Option ℕ → Option A) (side : Side) (given : Option ℕ) (waker : W)
+      (answer : A)
       (handed : Handed W) (new : State T P W) : Type 0 where
     pub reply : R
     pub ticket : Option ℕ

@@ -17,11 +17,12 @@ module _ {T P W : Type 0} (old : State T P W) where
   abbrev pub Refuses : Handed W → State T P W → Type 0
   Refuses handed new = (handed ≡ nobody) × (new ≡ old)
 
-  -- nothing happened but that these pairs were added; where there are any, all who wait for a message
-  -- are handed out
+  -- nothing happened but that these pairs were added; where there are any, all who wait for a
+  -- message are handed out
   pub record AddsFront (front : List (T × P)) (handed : Handed W) (new : State T P W) : Type 0 where
     pub handed_is : handed
-        ≡ (if length front == 0 then nobody else record { room = []; message = old.waiters.message })
+        ≡ (if length front == 0 then nobody
+        else record { room = []; message = old.waiters.message })
     pub new_is : new ≡ record old {
       pending = old.pending ++ front;
       accepted = old.accepted + length front;

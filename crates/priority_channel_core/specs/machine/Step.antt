@@ -45,7 +45,8 @@ module _ {T P W : Type 0} (cmp : P → P → Ordering) (is_clone : W → W → T
   Moves old call.DropReceiver answer.DropReceiver =
       Drops old.receiver_count (record old { receiver_count = old.receiver_count - 1 })
   Moves old (call.PollSend msg priority given waker) (answer.PollSend answer) =
-      Polls is_clone (λ reply. Sends old ((msg, priority) ∷ []) (as_list reply)) send_answer Room given
+      Polls is_clone (λ reply. Sends old ((msg, priority) ∷ []) (as_list reply))
+      send_answer Room given
       waker answer
   Moves old (call.PollSendv pairs given waker) (answer.PollSendv answer) =
       Polls is_clone (Sends old pairs) send_answer Room given waker answer

@@ -20,7 +20,7 @@ pub enum Stop {
     Ended(u64),
     /// There was no more room.
     Filled(u64),
-    /// Place or a number was refused to a pair that was there.
+    /// Memory or a number was refused to a pair that was there.
     Memory(u64),
 }
 
@@ -35,21 +35,24 @@ impl Stop {
 }
 
 /// Whether there is another item, which is then peeked.
-#[tactic(auto, using(crate::proofs::ListLemmas::list_after_peek))]
+#[tactic(auto, using(crate::proofs::Lists::list_after_peek))]
 pub(crate) fn has_next<I: Iterator>(msgs: &mut Peekable<I>) -> bool
 where
     I::Item: Drop,
     requires { peekable_can I.can_next msgs.old }
     ensures callable { peekable_can I.can_next msgs.new }
-    ensures peeked { (next : Option I.Item) × (peekable_peeked msgs.new ≡ Some next) × (result ≡ is_some next) }
-    ensures same_list { (list : List I.Item) → HasList I.next_gives msgs.old list → HasList I.next_gives msgs.new list }
-    ensures more { (list : List I.Item) → HasList I.next_gives msgs.new list → (IsTrue result ↔ (0 < length list)) }
+    ensures peeked { (next : Option I.Item) × (peekable_peeked msgs.new ≡ Some next)
+        × (result ≡ is_some next) }
+    ensures same_list { (list : List I.Item) → HasList I.next_gives msgs.old list
+        → HasList I.next_gives msgs.new list }
+    ensures more { (list : List I.Item) → HasList I.next_gives msgs.new list
+        → (IsTrue result ↔ (0 < length list)) }
 {
     msgs.peek().is_some()
 }
 
-// Moves pairs into the bag, until `room` of them are there or something stops it. The place for a pair is made
-// before the pair is taken, so none is lost.
+// Moves pairs into the bag, until `room` of them are there or something stops it. The memory for a
+// pair is had before the pair is taken, so none is lost.
 fn send_front<T: Drop, P: Ord + Drop, A: Allocator, I: Iterator<Item = (T, P)>>(
     bag: &mut Bag<T, P, A>,
     room: u64,
@@ -60,10 +63,13 @@ fn send_front<T: Drop, P: Ord + Drop, A: Allocator, I: Iterator<Item = (T, P)>>(
     ensures moved { MovesFront I.next_gives bag.old msgs.old (sent_before result) bag.new msgs.new }
     ensures accepted { bag.new.accepted ≡ bag.old.accepted + sent_before result }
     ensures numbered { bag.old.accepted < 2 ^ 64 → bag.new.accepted < 2 ^ 64 }
-    ensures place { bag.old.place ≤ bag.new.place }
+    ensures slots { bag.old.slots ≤ bag.new.slots }
     ensures limit { length bag.old.pending < 2 ^ 63 → length bag.new.pending < 2 ^ 63 }
-    ensures stops { StopsFor I.next_gives (λ n. bag.new.accepted + 1 < 2 ^ 64 → bag.new.place ≤ length bag.new.pending) room result msgs.new }
-    ensures cost { bag.new.comparisons ≤ bag.old.comparisons + sent_before result * digits (length bag.new.pending) }
+    ensures stops { StopsFor I.next_gives
+        (λ n. bag.new.accepted + 1 < 2 ^ 64 → bag.new.slots ≤ length bag.new.pending)
+        room result msgs.new }
+    ensures cost { bag.new.comparisons
+        ≤ bag.old.comparisons + sent_before result * digits (length bag.new.pending) }
 {
     for sent in 0..room {
         if !has_next(msgs) {
@@ -83,13 +89,14 @@ fn send_front<T: Drop, P: Ord + Drop, A: Allocator, I: Iterator<Item = (T, P)>>(
 impl<T: Drop, P: Ord + Drop, W: Clone, A: Allocator + Copy> PriorityQueueChannel<T, P, W, A> {
     ghost use Rattle.priority_channel_core.specs.machine.State.{room as room_of};
     ghost use Rattle.priority_channel_core.specs.machine.Good.{IsGood};
-    ghost use Rattle.priority_channel_parts.specs.Errors.{refused};
+    ghost use Rattle.priority_channel_parts.specs.Errors.{rest_of};
     ghost use Rattle.priority_channel_core.specs.machine.Sends.{AddsFront};
     ghost use Rattle.priority_channel_core.specs.code.Replies.{OnFull, OnMemory};
     ghost use Rattle.priority_channel_core.specs.code.Calls.{Performs};
     ghost use Rattle.priority_channel_core.specs.code.Channel.{ComparesAtMost};
 
-    // Sends a front of the list, of at least one pair if there is one, and hands out those who wait for a message.
+    // Sends a front of the list, of at least one pair if there is one, and hands out those who wait
+    // for a message.
     fn send_while_room<I: Iterator<Item = (T, P)>>(
         &mut self,
         room: u64,
@@ -99,38 +106,54 @@ impl<T: Drop, P: Ord + Drop, W: Clone, A: Allocator + Copy> PriorityQueueChannel
         requires room { room ≡ room_of self.old.state }
         requires callable { peekable_can I.can_next msgs.old }
         ensures callable { peekable_can I.can_next msgs.new }
-        ensures sent { SendsFront I.next_gives self.old.state msgs.old (sent_before result.0) result.1 self.new.state msgs.new }
-        ensures stops { StopsFor I.next_gives (λ n. (self.old.state.is_reserved ≡ false) ⊎ (self.old.state.accepted + n ≡ 2 ^ 64 - 1)) room result.0 msgs.new }
+        ensures sent { SendsFront I.next_gives self.old.state msgs.old (sent_before result.0)
+            result.1 self.new.state msgs.new }
+        ensures stops { StopsFor I.next_gives
+            (λ n. (self.old.state.is_reserved ≡ false)
+            ⊎ (self.old.state.accepted + n ≡ 2 ^ 64 - 1))
+            room result.0 msgs.new }
         ensures good { IsGood self.new.state }
-        ensures cost { ComparesAtMost (sent_before result.0 * digits (length self.new.state.pending)) 0 self.old self.new }
+        ensures cost { ComparesAtMost
+            (sent_before result.0 * digits (length self.new.state.pending)) 0
+            self.old self.new }
     {
         let stop = send_front(&mut self.bag, room, msgs);
         let (_, wakes) = self.word.incr(stop.sent());
         (stop, wakes)
     }
 
-    /// Sends the pairs of an iterator, up to its first `None`, as far as there is room, in one step.
+    /// Sends the pairs of an iterator, up to its first `None`, as far as there is room, in one
+    /// step.
     ///
-    /// What was accepted stays. What was not comes back in order, and can be sent again: with `Closed` or with `Full`
-    /// from the start all of it, and the iterator was not called; with `Full` later what there was no room for; with
-    /// `Memory` the rest from the pair for which place was refused. An empty list is refused by a closed channel and
-    /// by a full one, and asks for no memory.
+    /// What was accepted stays. What was not comes back in order, and can be sent again: with
+    /// `Closed` or with `Full` from the start all of it, and the iterator was not called; with
+    /// `Full` later what there was no room for; with `Memory` the rest from the pair for which
+    /// memory was refused. An empty list is refused by a closed channel and by a full one, and asks
+    /// for no memory.
     ///
-    /// Each turn peeks, makes the place, and only then takes the pair.
+    /// Each turn peeks, makes a slot, and only then takes the pair.
     pub fn try_sendv<I: Iterator<Item = (T, P)>>(
         &mut self,
         mut msgs: Peekable<I>,
     ) -> (Result<(), TrySendError<Peekable<I>>>, Wakes<W, A>)
         requires { peekable_can I.can_next msgs }
-        ensures step { Performs (HasList I.next_gives) P.cmp W.is_clone self.old.state (Call.TrySendv msgs) (Answer.TrySendv result.0) result.1 self.new.state }
-        ensures closed { self.old.state.is_closed ≡ true → (result.0 ≡ Err (TrySendError.Closed msgs)) × (self.new.state ≡ self.old.state) }
-        ensures no_room { self.old.state.is_closed ≡ false → room_of self.old.state ≡ 0 → (result.0 ≡ Err (TrySendError.Full msgs)) × (self.new.state ≡ self.old.state) }
-        ensures callable { IfErr result.0 (λ error. peekable_can I.can_next (refused error)) }
+        ensures step { Performs (HasList I.next_gives) P.cmp W.is_clone self.old.state
+            (Call.TrySendv msgs) (Answer.TrySendv result.0) result.1 self.new.state }
+        ensures closed { self.old.state.is_closed ≡ true
+            → (result.0 ≡ Err (TrySendError.Closed msgs)) × (self.new.state ≡ self.old.state) }
+        ensures no_room { self.old.state.is_closed ≡ false → room_of self.old.state ≡ 0
+            → (result.0 ≡ Err (TrySendError.Full msgs)) × (self.new.state ≡ self.old.state) }
+        ensures callable { IfErr result.0 (λ error. peekable_can I.can_next (rest_of error)) }
 
         // Whether or not the iterator has one list.
-        ensures full { OnFull result.0 ((self.new.state.is_closed ≡ false) × (room_of self.new.state ≡ 0)) }
-        ensures memory { OnMemory result.0 ((self.old.state.is_reserved ≡ false) ⊎ (self.new.state.accepted ≡ 2 ^ 64 - 1)) }
-        ensures front { (front : List (T × P)) × AddsFront self.old.state front result.1 self.new.state × ComparesAtMost (length front * digits (length self.new.state.pending)) 0 self.old self.new }
+        ensures full { OnFull result.0 ((self.new.state.is_closed ≡ false)
+            × (room_of self.new.state ≡ 0)) }
+        ensures memory { OnMemory result.0 ((self.old.state.is_reserved ≡ false)
+            ⊎ (self.new.state.accepted ≡ 2 ^ 64 - 1)) }
+        ensures front { (front : List (T × P))
+            × AddsFront self.old.state front result.1 self.new.state
+            × ComparesAtMost (length front * digits (length self.new.state.pending)) 0
+            self.old self.new }
         ensures good { IsGood self.new.state }
     {
         let (is_closed, count) = self.word.load();

@@ -15,25 +15,31 @@ impl<T, P: Ord, W: Clone, A: Allocator + Copy> PriorityQueueChannel<T, P, W, A> 
     ghost use Rattle.priority_channel_core.specs.machine.Step.{Step};
     ghost use Rattle.priority_channel_core.specs.code.Channel.{ComparesAtMost};
 
-    /// Receives up to `limit` pairs, the greatest first, as so many receives in a row, and answers how many came. The
-    /// error is that of one receive, and comes where nothing is pending, also with a `limit` of 0.
+    /// Receives up to `limit` pairs, the greatest first, as so many receives in a row, and answers
+    /// how many came. The error is that of one receive, and comes where nothing is pending, also
+    /// with a `limit` of 0.
     ///
-    /// It takes no memory: the place in `batch` is the caller's to make.
+    /// It takes no memory: that of `batch` is the caller's to reserve.
     pub fn try_recv_many<B: Allocator>(
         &mut self,
         batch: &mut Vec<(T, P), B>,
         limit: usize,
     ) -> (Result<usize, TryRecvError>, Wakes<W, A>)
-        requires place { length batch.old.items + limit ≤ vec_capacity batch.old }
-        ensures received { IfOk result.0 (λ n. (pairs : List (T × P)) × (length pairs ≡ n) × (batch.new.items ≡ batch.old.items ++ pairs)
+        requires fits { length batch.old.items + limit ≤ vec_capacity batch.old }
+        ensures received { IfOk result.0 (λ n. (pairs : List (T × P)) × (length pairs ≡ n)
+            × (batch.new.items ≡ batch.old.items ++ pairs)
             × ReceivesInTurn P.cmp W.is_clone self.old.state pairs result.1 self.new.state) }
         ensures count { IfOk result.0 (λ n. n ≡ min limit (length self.old.state.pending)) }
-        ensures refused { IfErr result.0 (λ error. Step P.cmp W.is_clone self.old.state Call.TryRecv (Answer.TryRecv (Err error)) result.1 self.new.state) }
-        ensures unchanged { OnErr result.0 ((self.new.state ≡ self.old.state) × (batch.new.items ≡ batch.old.items)) }
+        ensures refused { IfErr result.0 (λ error.
+            Step P.cmp W.is_clone self.old.state
+            Call.TryRecv (Answer.TryRecv (Err error)) result.1 self.new.state) }
+        ensures unchanged { OnErr result.0 ((self.new.state ≡ self.old.state)
+            × (batch.new.items ≡ batch.old.items)) }
         ensures pending { IsOk result.0 ↔ (0 < length self.old.state.pending) }
         ensures good { IsGood self.new.state }
         ensures kept { vec_capacity batch.new ≡ vec_capacity batch.old }
-        ensures cost { ComparesAtMost (min limit (length self.old.state.pending) * (2 * digits (length self.old.state.pending))) 0 self.old self.new }
+        ensures cost { ComparesAtMost (min limit (length self.old.state.pending)
+            * (2 * digits (length self.old.state.pending))) 0 self.old self.new }
     {
         if limit == 0 && !self.is_empty() {
             return (Ok(0), Wakes::nobody(self.alloc));
@@ -52,13 +58,15 @@ impl<T, P: Ord, W: Clone, A: Allocator + Copy> PriorityQueueChannel<T, P, W, A> 
     // Where nobody waits for room.
     fn receive_more<B: Allocator>(&mut self, batch: &mut Vec<(T, P), B>, limit: usize) -> usize
         requires nobody_waits { self.old.state.waiters.room ≡ [] }
-        requires place { length batch.old.items + limit ≤ vec_capacity batch.old }
-        ensures received { (pairs : List (T × P)) × (length pairs ≡ result) × (batch.new.items ≡ batch.old.items ++ pairs)
+        requires fits { length batch.old.items + limit ≤ vec_capacity batch.old }
+        ensures received { (pairs : List (T × P)) × (length pairs ≡ result)
+            × (batch.new.items ≡ batch.old.items ++ pairs)
             × ReceivesInTurn P.cmp W.is_clone self.old.state pairs nobody self.new.state }
         ensures count { result ≡ min limit (length self.old.state.pending) }
         ensures good { IsGood self.new.state }
         ensures kept { vec_capacity batch.new ≡ vec_capacity batch.old }
-        ensures cost { ComparesAtMost (result * (2 * digits (length self.old.state.pending))) 0 self.old self.new }
+        ensures cost { ComparesAtMost (result * (2 * digits (length self.old.state.pending))) 0
+            self.old self.new }
     {
         // For the proof, which needs what holds of the parts.
         let _ = &self.word;

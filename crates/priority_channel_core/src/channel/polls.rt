@@ -1,5 +1,5 @@
-//! The calls that wait: a try to send or to receive, and then, where the channel was full or empty, a place among those
-//! who wait.
+//! The calls that wait: a try to send or to receive, and then, where the channel was full or empty,
+//! a ticket among those who wait.
 ghost use Rattle.std.specs.Prelude.{◌≡◌, ◌≢◌, ◌⊎◌, ◌+◌, ◌-◌, ◌*◌, ◌^◌, ℕ, List, [], length, false, true, Option, Some, IfSome, IsSome, Result, Err};
 ghost use Rattle.std.specs.Iterator.Adapters.{peekable_can};
 ghost use Rattle.std.specs.declared.iter.Ahead.{Ahead};
@@ -26,16 +26,19 @@ impl<T, P: Ord, W: Clone, A: Allocator + Copy> PriorityQueueChannel<T, P, W, A> 
     ghost use Rattle.priority_channel_core.specs.machine.Step.{Step};
     ghost use Rattle.priority_channel_core.specs.code.Channel.{ComparesAtMost};
 
-    /// The party of this ticket waits no more. A ticket that is not listed changes nothing. It takes no memory.
+    /// The party of this ticket waits no more. A ticket that is not listed changes nothing. It
+    /// takes no memory.
     pub fn give_up(&mut self, ticket: u64)
-        ensures step { Step P.cmp W.is_clone self.old.state (Call.GiveUp ticket) Answer.GiveUp nobody self.new.state }
+        ensures step { Step P.cmp W.is_clone self.old.state (Call.GiveUp ticket) Answer.GiveUp
+            nobody self.new.state }
         ensures cost { ComparesAtMost 0 (search_bound self.old.state.waiters) self.old self.new }
     {
         self.word.unlisten(ticket);
     }
 
     fn give_up_given(&mut self, ticket: Option<u64>)
-        ensures after { self.new.state ≡ record self.old.state { waiters = unlist ticket self.old.state.waiters } }
+        ensures after { self.new.state
+            ≡ record self.old.state { waiters = unlist ticket self.old.state.waiters } }
         ensures good { IsGood self.new.state }
         ensures cost { ComparesAtMost 0 (search_bound self.old.state.waiters) self.old self.new }
     {
@@ -46,26 +49,36 @@ impl<T, P: Ord, W: Clone, A: Allocator + Copy> PriorityQueueChannel<T, P, W, A> 
         }
     }
 
-    /// Lists a party that has to wait: the poll of a send of any pair into a full channel, or of a receive from an empty
-    /// one. The answer is its ticket, under which a later poll finds it; None where that poll would answer `Memory`.
+    /// Lists a party that has to wait: the poll of a send of any pair into a full channel, or of a
+    /// receive from an empty one. The answer is its ticket, under which a later poll finds it; None
+    /// where that poll would answer `Memory`.
     ///
-    /// It is for a caller that has the party's waker and not its turn, such as one that lets go of a place in a line.
+    /// It is for a caller that has the party's waker and not its turn, such as one that makes
+    /// the next of a line its first.
     pub fn list(&mut self, side: Side, ticket: Option<u64>, waker: &W) -> Option<u64>
         requires { IsBlocked side self.old.state }
         ensures ends { Ends W.is_clone side ticket waker.now result self.old.state self.new.state }
-        ensures sends { side ≡ Side.Room → (pair : T × P) (answer : CorePoll (Result (Unit {0}) (SendFault (T × P))) (T × P)) → send_answer (Err (TrySendError.Full pair)) result ≡ Some answer
-            → Step P.cmp W.is_clone self.old.state (Call.PollSend pair.0 pair.1 ticket waker.now) (Answer.PollSend answer) nobody self.new.state }
-        ensures receives { side ≡ Side.Message → (answer : CorePoll (Result (T × P) RecvFault) (Unit {0})) → recv_answer (Err TryRecvError.Empty) result ≡ Some answer
-            → Step P.cmp W.is_clone self.old.state (Call.PollRecv ticket waker.now) (Answer.PollRecv answer) nobody self.new.state }
-        ensures renewed { is_given_listed ticket (on_side side self.old.state.waiters) ≡ true → W.is_infallible waker.now → IsSome result }
+        ensures sends { side ≡ Side.Room → (pair : T × P)
+            (answer : CorePoll (Result (Unit {0}) (SendFault (T × P))) (T × P))
+            → send_answer (Err (TrySendError.Full pair)) result ≡ Some answer
+            → Step P.cmp W.is_clone self.old.state (Call.PollSend pair.0 pair.1 ticket waker.now)
+            (Answer.PollSend answer) nobody self.new.state }
+        ensures receives { side ≡ Side.Message
+            → (answer : CorePoll (Result (T × P) RecvFault) (Unit {0}))
+            → recv_answer (Err TryRecvError.Empty) result ≡ Some answer
+            → Step P.cmp W.is_clone self.old.state (Call.PollRecv ticket waker.now)
+            (Answer.PollRecv answer) nobody self.new.state }
+        ensures renewed { is_given_listed ticket (on_side side self.old.state.waiters) ≡ true
+            → W.is_infallible waker.now → IsSome result }
         ensures good { IsGood self.new.state }
         ensures cost { ComparesAtMost 0 (search_bound self.old.state.waiters) self.old self.new }
     {
         self.word.listen(side, ticket, waker)
     }
 
-    /// Receives, or waits for a message under the answered ticket. The first poll gives no ticket, and each further one
-    /// that of the poll before, which keeps its place with a clone of the newest waker.
+    /// Receives, or waits for a message under the answered ticket. The first poll gives no ticket,
+    /// and each further one that of the poll before, which stays listed with a clone of the newest
+    /// waker.
     ///
     /// ```
     /// let (received, wakes) = channel.poll_recv(ticket, &waker);
@@ -77,16 +90,20 @@ impl<T, P: Ord, W: Clone, A: Allocator + Copy> PriorityQueueChannel<T, P, W, A> 
     /// }
     /// ```
     ///
-    /// A ready answer leaves the given ticket in neither waiting list. `Memory` is answered where the channel is open
-    /// and empty and the clone of the waker, its place or the ticket's number was refused.
+    /// A ready answer leaves the given ticket in neither waiting list. `Memory` is answered where
+    /// the channel is open and empty and the clone of the waker, memory for its entry or the
+    /// ticket's number was refused.
     pub fn poll_recv(
         &mut self,
         ticket: Option<u64>,
         waker: &W,
     ) -> (CorePoll<Result<(T, P), RecvFault>, ()>, Wakes<W, A>)
-        ensures step { Step P.cmp W.is_clone self.old.state (Call.PollRecv ticket waker.now) (Answer.PollRecv result.0) result.1 self.new.state }
-        ensures renewed { is_given_listed ticket self.old.state.waiters.message ≡ true → W.is_infallible waker.now → result.0 ≢ CorePoll.Ready (Err RecvFault.Memory) }
-        ensures cost { ComparesAtMost (2 * digits (length self.old.state.pending)) (search_bound self.old.state.waiters) self.old self.new }
+        ensures step { Step P.cmp W.is_clone self.old.state (Call.PollRecv ticket waker.now)
+            (Answer.PollRecv result.0) result.1 self.new.state }
+        ensures renewed { is_given_listed ticket self.old.state.waiters.message ≡ true
+            → W.is_infallible waker.now → result.0 ≢ CorePoll.Ready (Err RecvFault.Memory) }
+        ensures cost { ComparesAtMost (2 * digits (length self.old.state.pending))
+            (search_bound self.old.state.waiters) self.old self.new }
     {
         let (reply, wakes) = self.try_recv();
         let answer = match reply {
@@ -111,8 +128,11 @@ impl<T, P: Ord, W: Clone, A: Allocator + Copy> PriorityQueueChannel<T, P, W, A> 
         waker: &W,
     ) -> CorePoll<Result<(), SendFault<K>>, K>
         requires full { OnFull reply (IsBlocked Side.Room self.old.state) }
-        ensures ends { (listed : Option ℕ) × (send_answer reply listed ≡ Some result) × Ends W.is_clone Side.Room ticket waker.now listed self.old.state self.new.state }
-        ensures renewed { OnFull reply (is_given_listed ticket self.old.state.waiters.room ≡ true → W.is_infallible waker.now → (rest : K) → result ≢ CorePoll.Ready (Err (SendFault.Memory rest))) }
+        ensures ends { (listed : Option ℕ) × (send_answer reply listed ≡ Some result)
+            × Ends W.is_clone Side.Room ticket waker.now listed self.old.state self.new.state }
+        ensures renewed { OnFull reply (is_given_listed ticket self.old.state.waiters.room ≡ true
+            → W.is_infallible waker.now → (rest : K)
+            → result ≢ CorePoll.Ready (Err (SendFault.Memory rest))) }
         ensures good { IsGood self.new.state }
         ensures cost { ComparesAtMost 0 (search_bound self.old.state.waiters) self.old self.new }
     {
@@ -131,8 +151,8 @@ impl<T, P: Ord, W: Clone, A: Allocator + Copy> PriorityQueueChannel<T, P, W, A> 
         CorePoll::Ready(answer)
     }
 
-    /// Sends a pair, or waits for room under the answered ticket and hands the pair back for the next poll. Tickets
-    /// and wakers are treated as by `poll_recv`.
+    /// Sends a pair, or waits for room under the answered ticket and hands the pair back for the
+    /// next poll. Tickets and wakers are treated as by `poll_recv`.
     pub fn poll_send(
         &mut self,
         msg: T,
@@ -140,9 +160,14 @@ impl<T, P: Ord, W: Clone, A: Allocator + Copy> PriorityQueueChannel<T, P, W, A> 
         ticket: Option<u64>,
         waker: &W,
     ) -> (CorePoll<Result<(), SendFault<(T, P)>>, (T, P)>, Wakes<W, A>)
-        ensures step { Step P.cmp W.is_clone self.old.state (Call.PollSend msg priority ticket waker.now) (Answer.PollSend result.0) result.1 self.new.state }
-        ensures renewed { is_given_listed ticket self.old.state.waiters.room ≡ true → W.is_infallible waker.now → (pair : T × P) → result.0 ≢ CorePoll.Ready (Err (SendFault.Memory pair)) }
-        ensures cost { ComparesAtMost (digits (length self.new.state.pending)) (search_bound self.old.state.waiters) self.old self.new }
+        ensures step { Step P.cmp W.is_clone self.old.state
+            (Call.PollSend msg priority ticket waker.now) (Answer.PollSend result.0) result.1
+            self.new.state }
+        ensures renewed { is_given_listed ticket self.old.state.waiters.room ≡ true
+            → W.is_infallible waker.now → (pair : T × P)
+            → result.0 ≢ CorePoll.Ready (Err (SendFault.Memory pair)) }
+        ensures cost { ComparesAtMost (digits (length self.new.state.pending))
+            (search_bound self.old.state.waiters) self.old self.new }
     {
         let (reply, wakes) = self.try_send(msg, priority);
         (self.end_send(reply, ticket, waker), wakes)
@@ -155,8 +180,9 @@ impl<T: Drop, P: Ord + Drop, W: Clone, A: Allocator + Copy> PriorityQueueChannel
     ghost use Rattle.priority_channel_core.specs.code.Calls.{Performs};
     ghost use Rattle.priority_channel_core.specs.code.Channel.{ComparesAtMost};
 
-    /// Sends what there is room for, and waits for room with the rest, which is handed back for the next poll. What
-    /// was sent stays sent, also where the answer is `Memory`. Tickets and wakers are treated as by `poll_recv`.
+    /// Sends what there is room for, and waits for room with the rest, which is handed back for the
+    /// next poll. What was sent stays sent, also where the answer is `Memory`. Tickets and wakers
+    /// are treated as by `poll_recv`.
     pub fn poll_sendv<I: Iterator<Item = (T, P)>>(
         &mut self,
         msgs: Peekable<I>,
@@ -167,15 +193,23 @@ impl<T: Drop, P: Ord + Drop, W: Clone, A: Allocator + Copy> PriorityQueueChannel
         Wakes<W, A>,
     )
         requires { peekable_can I.can_next msgs }
-        ensures step { Performs (HasList I.next_gives) P.cmp W.is_clone self.old.state (Call.PollSendv msgs ticket waker.now) (Answer.PollSendv result.0) result.1 self.new.state }
+        ensures step { Performs (HasList I.next_gives) P.cmp W.is_clone self.old.state
+            (Call.PollSendv msgs ticket waker.now) (Answer.PollSendv result.0) result.1
+            self.new.state }
         ensures callable { IfSome (kept_by result.0) (peekable_can I.can_next) }
-        ensures closed { self.old.state.is_closed ≡ true → result.0 ≡ CorePoll.Ready (Err (SendFault.Closed (record { 0 = msgs }))) }
-        ensures renewed { is_given_listed ticket self.old.state.waiters.room ≡ true → W.is_infallible waker.now → (rest : Ahead I (T × P)) → result.0 ≢ CorePoll.Ready (Err (SendFault.Memory rest)) }
+        ensures closed { self.old.state.is_closed ≡ true
+            → result.0 ≡ CorePoll.Ready (Err (SendFault.Closed (record { 0 = msgs }))) }
+        ensures renewed { is_given_listed ticket self.old.state.waiters.room ≡ true
+            → W.is_infallible waker.now → (rest : Ahead I (T × P))
+            → result.0 ≢ CorePoll.Ready (Err (SendFault.Memory rest)) }
 
         // Whether or not the iterator has one list.
-        ensures front { (front : List (T × P)) × PollsFront W.is_clone self.old.state ticket waker.now front result.1 self.new.state
-            × ComparesAtMost (length front * digits (length self.new.state.pending)) (search_bound self.old.state.waiters) self.old self.new }
-        ensures memory { OnMemoryFault result.0 ((self.old.state.is_reserved ≡ false) ⊎ (self.new.state.accepted ≡ 2 ^ 64 - 1) ⊎ (room self.new.state ≡ 0)) }
+        ensures front { (front : List (T × P))
+            × PollsFront W.is_clone self.old.state ticket waker.now front result.1 self.new.state
+            × ComparesAtMost (length front * digits (length self.new.state.pending))
+            (search_bound self.old.state.waiters) self.old self.new }
+        ensures memory { OnMemoryFault result.0 ((self.old.state.is_reserved ≡ false)
+            ⊎ (self.new.state.accepted ≡ 2 ^ 64 - 1) ⊎ (room self.new.state ≡ 0)) }
         ensures good { IsGood self.new.state }
     {
         // For the proof, which needs what holds of the parts.

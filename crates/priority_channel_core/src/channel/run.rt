@@ -15,27 +15,30 @@ use std::marker::Model;
 
 /// What a call of a run gave: its answer, and those whom it handed out, each under its ticket.
 #[derive(Drop)]
-pub struct Done<T, P, W, M, A: Allocator = Global> {
+pub struct Response<T, P, W, M, A: Allocator = Global> {
     pub answer: Answer<T, P, M>,
     pub room_waiters: Vec<(u64, W), A>,
     pub message_waiters: Vec<(u64, W), A>,
 }
 
-impl<T, P, W, M, A: Allocator> Model for Done<T, P, W, M, A> {
-    ghost use Rattle.priority_channel_core.specs.code.Calls.{Outcome};
+impl<T, P, W, M, A: Allocator> Model for Response<T, P, W, M, A> {
+    ghost use Rattle.priority_channel_core.specs.code.Calls.{Response};
 
-    ghost Value = { Outcome T P W M };
+    ghost Value = { Response T P W M };
 
-    ghost view = { λ d. record { answer = d.answer; handed = record { room = d.room_waiters.items; message = d.message_waiters.items } } };
+    ghost view = { λ d. record {
+      answer = d.answer;
+      handed = record { room = d.room_waiters.items; message = d.message_waiters.items };
+    } };
 }
 
-impl<T, P, W, M, A: Allocator> Done<T, P, W, M, A> {
+impl<T, P, W, M, A: Allocator> Response<T, P, W, M, A> {
     fn new(answer: Answer<T, P, M>, wakes: Wakes<W, A>) -> Self
         ensures answer { result.answer ≡ answer }
         ensures handed { result.handed ≡ wakes }
     {
         let (room_waiters, message_waiters) = wakes.into_lists();
-        Done {
+        Response {
             answer,
             room_waiters,
             message_waiters,
@@ -45,14 +48,15 @@ impl<T, P, W, M, A: Allocator> Done<T, P, W, M, A> {
 
 /// What a run gave for the calls that it made, and the calls that it did not make, both in order.
 #[derive(Drop)]
-pub struct Ran<T, P, W, M, A: Allocator = Global> {
-    pub done: Vec<Done<T, P, W, M, A>, A>,
+pub struct Progress<T, P, W, M, A: Allocator = Global> {
+    pub done: Vec<Response<T, P, W, M, A>, A>,
     pub left: Vec<Call<T, P, W, M>, A>,
 }
 
 impl<T: Drop, P: Ord + Drop, W: Clone, A: Allocator + Copy> PriorityQueueChannel<T, P, W, A> {
-    /// Makes the calls in order. Where there is no memory to keep a further answer it stops before that call: the
-    /// channel is then as after the last call that was made, and the other calls come back, to be run again.
+    /// Makes the calls in order. Where there is no memory to keep a further answer it stops before
+    /// that call: the channel is then as after the last call that was made, and the other calls
+    /// come back, to be run again.
     ///
     /// ```
     /// type Pairs = array::IntoIter<(&str, i64), 2>;
@@ -61,12 +65,14 @@ impl<T: Drop, P: Ord + Drop, W: Clone, A: Allocator + Copy> PriorityQueueChannel
     pub fn run<I: Iterator<Item = (T, P)>>(
         &mut self,
         mut calls: Vec<Call<T, P, W, Peekable<I>>, A>,
-    ) -> Ran<T, P, W, Peekable<I>, A>
+    ) -> Progress<T, P, W, Peekable<I>, A>
         requires allowed { AllowsRun self.old.state calls.items }
         requires callable { All (MayCall (peekable_can I.can_next)) calls.items }
-        ensures run { RunsFront (HasList I.next_gives) P.cmp W.is_clone self.old.state calls.items result.done.items result.left.items self.new.state }
+        ensures run { RunsFront (HasList I.next_gives) P.cmp W.is_clone self.old.state calls.items
+            result.done.items result.left.items self.new.state }
 
-        // Whether or not each iterator has one list: the calls that were not made are left, and can be run from here.
+        // Whether or not each iterator has one list: the calls that were not made are left, and can
+        // be run from here.
         ensures left { result.left.items ≡ drop (length result.done.items) calls.items }
         ensures good { IsGood self.new.state }
         ensures allowed { AllowsRun self.new.state result.left.items }
@@ -83,79 +89,86 @@ impl<T: Drop, P: Ord + Drop, W: Clone, A: Allocator + Copy> PriorityQueueChannel
         calls.reverse();
         // For the proof, which needs what holds of the parts.
         let _ = &self.word;
-        Ran { done, left: calls }
+        Progress { done, left: calls }
     }
 
     fn make<I: Iterator<Item = (T, P)>>(
         &mut self,
         call: Call<T, P, W, Peekable<I>>,
-    ) -> Done<T, P, W, Peekable<I>, A>
+    ) -> Response<T, P, W, Peekable<I>, A>
         requires allowed { IsAllowed self.old.state call }
         requires callable { MayCall (peekable_can I.can_next) call }
-        ensures step { Performs (HasList I.next_gives) P.cmp W.is_clone self.old.state call result.answer result.handed self.new.state }
+        ensures step { Performs (HasList I.next_gives) P.cmp W.is_clone self.old.state call
+            result.answer result.handed self.new.state }
         ensures handles { ChangesHandles self.old.state call self.new.state }
     {
         match call {
             Call::TrySend(msg, priority) => {
                 let (reply, wakes) = self.try_send(msg, priority);
-                Done::new(Answer::TrySend(reply), wakes)
+                Response::new(Answer::TrySend(reply), wakes)
             }
             Call::TrySendv(msgs) => {
                 let (reply, wakes) = self.try_sendv(msgs);
-                Done::new(Answer::TrySendv(reply), wakes)
+                Response::new(Answer::TrySendv(reply), wakes)
             }
             Call::TryRecv => {
                 let (reply, wakes) = self.try_recv();
-                Done::new(Answer::TryRecv(reply), wakes)
+                Response::new(Answer::TryRecv(reply), wakes)
             }
             Call::Close => {
                 let (was_open, wakes) = self.close();
-                Done::new(Answer::Close(was_open), wakes)
+                Response::new(Answer::Close(was_open), wakes)
             }
-            Call::IsClosed => Done::new(
+            Call::IsClosed => Response::new(
                 Answer::IsClosed(self.is_closed()),
                 Wakes::nobody(self.alloc),
             ),
-            Call::IsEmpty => Done::new(Answer::IsEmpty(self.is_empty()), Wakes::nobody(self.alloc)),
-            Call::IsFull => Done::new(Answer::IsFull(self.is_full()), Wakes::nobody(self.alloc)),
-            Call::Len => Done::new(Answer::Len(self.len()), Wakes::nobody(self.alloc)),
-            Call::Capacity => Done::new(
+            Call::IsEmpty => Response::new(
+                Answer::IsEmpty(self.is_empty()),
+                Wakes::nobody(self.alloc),
+            ),
+            Call::IsFull => Response::new(
+                Answer::IsFull(self.is_full()),
+                Wakes::nobody(self.alloc),
+            ),
+            Call::Len => Response::new(Answer::Len(self.len()), Wakes::nobody(self.alloc)),
+            Call::Capacity => Response::new(
                 Answer::Capacity(self.capacity()),
                 Wakes::nobody(self.alloc),
             ),
-            Call::SenderCount => Done::new(
+            Call::SenderCount => Response::new(
                 Answer::SenderCount(self.sender_count()),
                 Wakes::nobody(self.alloc),
             ),
-            Call::ReceiverCount => Done::new(
+            Call::ReceiverCount => Response::new(
                 Answer::ReceiverCount(self.receiver_count()),
                 Wakes::nobody(self.alloc),
             ),
-            Call::CloneSender => Done::new(
+            Call::CloneSender => Response::new(
                 Answer::CloneSender(self.clone_sender()),
                 Wakes::nobody(self.alloc),
             ),
-            Call::CloneReceiver => Done::new(
+            Call::CloneReceiver => Response::new(
                 Answer::CloneReceiver(self.clone_receiver()),
                 Wakes::nobody(self.alloc),
             ),
-            Call::DropSender => Done::new(Answer::DropSender, self.drop_sender()),
-            Call::DropReceiver => Done::new(Answer::DropReceiver, self.drop_receiver()),
+            Call::DropSender => Response::new(Answer::DropSender, self.drop_sender()),
+            Call::DropReceiver => Response::new(Answer::DropReceiver, self.drop_receiver()),
             Call::PollSend(msg, priority, ticket, waker) => {
                 let (poll, wakes) = self.poll_send(msg, priority, ticket, &waker);
-                Done::new(Answer::PollSend(poll), wakes)
+                Response::new(Answer::PollSend(poll), wakes)
             }
             Call::PollSendv(msgs, ticket, waker) => {
                 let (poll, wakes) = self.poll_sendv(msgs, ticket, &waker);
-                Done::new(Answer::PollSendv(poll), wakes)
+                Response::new(Answer::PollSendv(poll), wakes)
             }
             Call::PollRecv(ticket, waker) => {
                 let (poll, wakes) = self.poll_recv(ticket, &waker);
-                Done::new(Answer::PollRecv(poll), wakes)
+                Response::new(Answer::PollRecv(poll), wakes)
             }
             Call::GiveUp(ticket) => {
                 self.give_up(ticket);
-                Done::new(Answer::GiveUp, Wakes::nobody(self.alloc))
+                Response::new(Answer::GiveUp, Wakes::nobody(self.alloc))
             }
         }
     }

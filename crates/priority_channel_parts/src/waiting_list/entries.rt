@@ -1,4 +1,5 @@
-//! The entries of a waiting list. Their tickets are seen in this file alone, so who looks for one has to count.
+//! The entries of a waiting list. Their tickets are seen in this file alone, so who looks for one
+//! has to count.
 ghost use Rattle.std.specs.Prelude.{◌≡◌, ◌+◌, ◌<◌, OnErr, OnOk, IfNone, [], ◌∷◌, ◌++◌, length, set, option_to_list};
 ghost use Rattle.std.specs.List.{HoldsAt, remove};
 ghost use Rattle.std.specs.Ordering.{nat_cmp};
@@ -38,13 +39,13 @@ impl<W, A: Allocator> Entries<W, A> {
         self.listed.len()
     }
 
-    /// Compares the ticket that is listed at a place with the given one, and counts that.
-    pub fn compare(&self, place: usize, ticket: u64, comparisons: &mut Comparisons) -> Ordering
-        requires { place < length self.now }
-        ensures order { HoldsAt (λ a. result ≡ nat_cmp a.0 ticket) self.now place }
+    /// Compares the ticket that is listed at a position with the given one, and counts that.
+    pub fn compare(&self, position: usize, ticket: u64, comparisons: &mut Comparisons) -> Ordering
+        requires { position < length self.now }
+        ensures order { HoldsAt (λ a. result ≡ nat_cmp a.0 ticket) self.now position }
         ensures count { comparisons.new.count ≡ comparisons.old.count + 1 }
     {
-        comparisons.compare(&self.listed[place].0, &ticket)
+        comparisons.compare(&self.listed[position].0, &ticket)
     }
 
     /// Lists a ticket behind the others.
@@ -59,23 +60,23 @@ impl<W, A: Allocator> Entries<W, A> {
     }
 
     /// Lists this ticket and this waker in place of those at a place.
-    pub fn set(&mut self, place: usize, ticket: u64, waker: W)
+    pub fn set(&mut self, position: usize, ticket: u64, waker: W)
     where
         W: Drop,
-        requires { place < length self.old }
-        ensures { self.new ≡ set self.old place (ticket, waker) }
+        requires { position < length self.old }
+        ensures { self.new ≡ set self.old position (ticket, waker) }
     {
-        self.listed[place] = (ticket, waker);
+        self.listed[position] = (ticket, waker);
     }
 
-    /// Takes off what is listed at a place.
-    pub fn remove(&mut self, place: usize)
+    /// Takes off what is listed at a position.
+    pub fn remove(&mut self, position: usize)
     where
         W: Drop,
-        requires { place < length self.old }
-        ensures { self.new ≡ remove self.old place }
+        requires { position < length self.old }
+        ensures { self.new ≡ remove self.old position }
     {
-        let _entry = self.listed.remove(place);
+        let _entry = self.listed.remove(position);
     }
 
     /// Takes off what is listed first.

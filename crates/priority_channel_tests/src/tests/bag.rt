@@ -44,7 +44,8 @@ impl<'a> PartialOrd for Counted<'a> {
 
     ghost partial_cmp = { as_partial_cmp (on (λ c. c.value) nat_cmp) };
 
-    ghost laws = { partial_order_from_own_ties (Prim.search (comparing, rules)) (Prim.search (comparing, rules)) };
+    ghost laws = { partial_order_from_own_ties (Prim.search (comparing, rules))
+        (Prim.search (comparing, rules)) };
 
     fn partial_cmp(&self, other: &Counted<'a>) -> Option<Ordering> {
         Some(self.cmp(other))
@@ -82,7 +83,7 @@ fn compares_seldom_at_each_length(rt: HostRuntime) -> Result<(), AllocError> {
     let mut value: u64 = 1;
     for i in 0..1024u64 {
         value = value.wrapping_mul(1103515245).wrapping_add(12345) % 0x8000_0000;
-        bag.make_place()?;
+        bag.make_slot()?;
         assert!(rt; bag.can_push());
         count.set(0);
         bag.push(
@@ -117,7 +118,7 @@ fn fill_and_drain<A: Allocator>(alloc: A) -> (u64, bool) {
     let mut bag: Bag<u64, u64, A> = Bag::new(alloc);
     let mut pushed = 0;
     for i in 0..20u64 {
-        if !bag.can_push() || bag.make_place().is_err() {
+        if !bag.can_push() || bag.make_slot().is_err() {
             break;
         }
         bag.push(i, i % 7);
@@ -157,9 +158,9 @@ fn a_reserved_bag_asks_for_memory_once(rt: HostRuntime) -> Result<(), AllocError
     alloc.refuse_all();
     bag.push(1, 1);
     bag.push(2, 2);
-    assert!(rt; bag.make_place().is_err());
+    assert!(rt; bag.make_slot().is_err());
     assert_eq!(rt; bag.pop(), Some((2, 2)));
-    assert!(rt; bag.make_place().is_ok());
+    assert!(rt; bag.make_slot().is_ok());
     assert_eq!(rt; bag.pop(), Some((1, 1)));
     assert_eq!(rt; bag.pop(), None);
     Ok(())

@@ -7,12 +7,13 @@ use priority_channel_core::laws::list_law;
 use std::alloc::AllocError;
 use std::vec::IntoIter;
 
-// Into reserved place, so that no memory is refused. What there is no room for is let go.
+// Into a reserved channel, so that no memory is refused. What there is no room for is let go.
 fn send_vec(core: &mut Core<&'static str>, pairs: Vec<(&'static str, u64)>)
     requires opened { core.old.state.is_closed ≡ false }
     requires reserved { core.old.state.is_reserved ≡ true }
     requires numbers { core.old.state.accepted + vec_len pairs < 2 ^ 64 }
-    ensures { core.new.state.pending ≡ core.old.state.pending ++ take (room core.old.state) pairs.entry.items }
+    ensures { core.new.state.pending ≡ core.old.state.pending ++ take (room core.old.state)
+        pairs.entry.items }
 {
     list_law::<IntoIter<(&'static str, u64)>>();
     let (_, wakes) = core.try_sendv(pairs.into_iter().peekable());

@@ -76,7 +76,8 @@ fn a_refused_growth_hands_the_list_back(rt: HostRuntime) -> Result<(), Fail> {
     Ok(())
 }
 
-// Each growth is refused in turn. A refused send hands its pair back, and what was accepted comes out, the greatest first.
+// Each growth is refused in turn. A refused send hands its pair back, and what was accepted comes
+// out, the greatest first.
 #[test]
 fn each_send_may_be_refused(rt: HostRuntime) -> Result<(), Fail> {
     let alloc = Refusing::new(rt.alloc());

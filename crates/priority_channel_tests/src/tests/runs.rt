@@ -1,7 +1,7 @@
-//! A run makes its calls in order, and stops before the one whose answer has no place.
+//! A run makes its calls in order, and stops before the one for whose answer there is no memory.
 use crate::tests::Core;
 use priority_channel_core::calls::{Answer, Call};
-use priority_channel_core::channel::run::{Done, Ran};
+use priority_channel_core::channel::run::{Progress, Response};
 use priority_channel_core::errors::{TryRecvError, TrySendError};
 use refusing::Refusing;
 use std::alloc::{AllocError, Allocator};
@@ -38,15 +38,16 @@ impl Calls {
     }
 }
 
-/// The first answer that is not right, from this one of a list on. A call that hands somebody out is not.
+/// The first answer that is not right, from this one of a list on. A call that hands somebody out
+/// is not.
 fn right_answers<A: Allocator>(
-    done: Vec<Done<u64, u64, u64, Pairs, A>, A>,
+    done: Vec<Response<u64, u64, u64, Pairs, A>, A>,
     calls: Calls,
     first: usize,
 ) -> usize {
     let mut right = first;
     for made in done {
-        let Done {
+        let Response {
             answer,
             room_waiters,
             message_waiters,
@@ -71,11 +72,11 @@ fn makes_each_call_in_order(rt: HostRuntime) -> Result<(), AllocError> {
         Call::TryRecv,
         Call::Close,
     ]?;
-    let Ran { done, left } = core.run(calls);
+    let Progress { done, left } = core.run(calls);
     assert!(rt; left.is_empty());
     assert_eq!(rt; done.len(), 4);
     assert_eq!(rt; right_answers(done, Calls::InOrder, 0), 4);
-    let Ran { done, left } = core.run(Vec::<Call<u64, u64, u64, Pairs>>::new(rt.alloc()));
+    let Progress { done, left } = core.run(Vec::<Call<u64, u64, u64, Pairs>>::new(rt.alloc()));
     assert!(rt; done.is_empty() && left.is_empty());
     assert!(rt; core.is_closed());
     Ok(())
@@ -99,13 +100,13 @@ fn stops_before_the_call_whose_answer_has_no_place(rt: HostRuntime) -> Result<()
             Call::TryRecv,
         ]?;
         alloc.refuse_nth(n);
-        let Ran { done, left } = core.run(calls);
+        let Progress { done, left } = core.run(calls);
         let met_none = alloc.refuse_none();
         let made = done.len();
         assert_eq!(rt; made.wrapping_add(left.len()), 8, "at {n}");
         assert_eq!(rt; left.is_empty(), met_none, "at {n}");
         assert_eq!(rt; right_answers(done, Calls::WithDrops, 0), made, "at {n}");
-        let Ran { done, left } = core.run(left);
+        let Progress { done, left } = core.run(left);
         assert!(rt; left.is_empty(), "at {n}");
         assert_eq!(rt; right_answers(done, Calls::WithDrops, made), 8, "at {n}");
     }

@@ -1,6 +1,6 @@
 //! Books, which one caller has.
 use super::SEVEN;
-use async_priority_channel::recorded::{Book, Call, Entry, NoPlace, Reply};
+use async_priority_channel::recorded::{Book, Call, Entry, NoMemory, Reply};
 use async_priority_channel::{TryRecvError, TrySendError};
 use refusing::Refusing;
 use std::alloc::AllocError;
@@ -74,7 +74,7 @@ fn its_place_is_made_at_once(rt: HostRuntime) -> Result<(), AllocError> {
         book.record(0, Call::TryRecv),
         Ok(Reply::Received(Ok((1, 1))))
     );
-    assert_eq!(rt; book.record(0, Call::TrySend(3, 3)), Err(NoPlace));
+    assert_eq!(rt; book.record(0, Call::TrySend(3, 3)), Err(NoMemory));
     assert_eq!(rt; book.history().len(), 3);
     alloc.refuse_none();
     assert_eq!(rt; book.record(0, Call::Len), Ok(Reply::Len(0)));
@@ -82,7 +82,7 @@ fn its_place_is_made_at_once(rt: HostRuntime) -> Result<(), AllocError> {
 }
 
 #[test]
-fn its_making_may_be_refused(rt: HostRuntime) -> Result<(), Fail> {
+fn its_constructor_may_be_refused(rt: HostRuntime) -> Result<(), Fail> {
     let alloc = Refusing::new(rt.alloc());
     for round in alloc.rounds() {
         let n = round?;

@@ -4,7 +4,7 @@ ghost use Rattle.priority_channel_recorded.specs.Log.{names};
 
 use super::{SEVEN, Told};
 use async_priority_channel::recorded::{
-    Call, Entry, Fresh, History, NoPlace, Recorded, Recording, Reply,
+    Call, Entry, Fresh, History, NoMemory, Recorded, Recording, Reply,
 };
 use refusing::Refusing;
 use std::alloc::Global;
@@ -14,8 +14,8 @@ use std::test::Fail;
 
 type RefusedHistory<'a> = History<u64, u64, &'a Refusing<Global>>;
 
-// The seven calls, with one pass, for which no more memory is asked. Gives what was told, the pass's count, and the
-// history.
+// The seven calls, with one pass, for which no more memory is asked. Gives what was told, the
+// pass's count, and the history.
 fn seven_calls<'a, J: Recording, R: Wait>(
     rt: &R,
     alloc: &'a Refusing<Global>,
@@ -73,7 +73,7 @@ fn is_made<J: Recording>(alloc: &Refusing<Global>, fresh: Fresh<u64, u64>) -> bo
 const NOT_MET: u64 = 4;
 
 #[test]
-fn its_making_may_be_refused(rt: HostRuntime) -> Result<(), Fail> {
+fn its_constructor_may_be_refused(rt: HostRuntime) -> Result<(), Fail> {
     let alloc = Refusing::new(rt.alloc());
     for round in alloc.rounds() {
         let n = round?;
@@ -86,7 +86,7 @@ fn its_making_may_be_refused(rt: HostRuntime) -> Result<(), Fail> {
     Ok(())
 }
 
-// Without place for an entry: the first call is refused memory for one, and may be made again.
+// Without memory for an entry: the first call is refused memory for one, and may be made again.
 fn without_place<'a, J: Recording, R: Wait>(
     rt: &R,
     alloc: &'a Refusing<Global>,
@@ -117,7 +117,7 @@ fn without_place<'a, J: Recording, R: Wait>(
 fn a_call_without_place_is_not_made(rt: HostRuntime) -> Result<(), Fail> {
     let alloc = Refusing::new(rt.alloc());
     let (told, history) = without_place::<Brand, _>(&rt, &alloc, Fresh::new(1, 1))?;
-    assert_eq!(rt; told[0], (Err(NoPlace), 0));
+    assert_eq!(rt; told[0], (Err(NoMemory), 0));
     assert_eq!(rt; told[1], (Ok(Reply::Sent(Ok(()))), 1));
     assert_eq!(rt; told[2], (Ok(Reply::Len(1)), 2));
     assert_eq!(rt; history.entries().len(), 2);

@@ -142,7 +142,8 @@ fn four_passes<J: Recording + Send + Sync, R: Threads + Wait + Sync>(
     Ok((told.into_inner(), history))
 }
 
-// Whether an entry may come next, on a plain list of pairs in the order of their acceptance, on which it is made.
+// Whether an entry may come next, on a plain list of pairs in the order of their acceptance, on
+// which it is made.
 fn replay(pending: &mut Vec<(u64, u64)>, entry: &Entry<u64, u64>) -> Result<bool, AllocError> {
     let length = pending.len() as u64;
     match (entry.call, entry.reply) {

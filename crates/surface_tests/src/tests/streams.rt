@@ -206,7 +206,7 @@ fn a_dropped_stream_waits_no_more(rt: HostRuntime) -> Result<(), Fail> {
     let (tx, rx) = bounded::<u64, u64, _, _>(&rt, &alloc, 1)?;
     assert!(rt; !wait_once(&rt, &rx));
     for _ in 0..20 {
-        // Its place in the waiting list is free again, so the next asks only for that of a waker.
+        // Its entry in the waiting list is free again, so the next asks only for that of a waker.
         alloc.refuse_nth(2);
         assert!(rt; !wait_once(&rt, &rx));
         assert!(rt; alloc.refuse_none());
@@ -331,7 +331,7 @@ fn a_stream_goes_on_once_there_is_memory(rt: HostRuntime) -> Result<(), Fail> {
         alloc.refuse_nth(n);
         assert!(rt; is_pending(task.poll(&mut stream.next())));
         let met_none = alloc.refuse_none();
-        // The place for the task's waker, and that in the list of those who wait.
+        // The task's waiter, and its entry in the list of those who wait.
         assert_eq!(rt; met_none, n == 3, "at {n}");
         // Refused, it asks to be polled again, and then it waits to be woken.
         assert_eq!(rt; task.is_woken(), !met_none, "at {n}");
@@ -368,14 +368,14 @@ fn a_stream_without_memory_asks_again_and_again(rt: HostRuntime) -> Result<(), F
 }
 
 #[test]
-fn a_stream_keeps_the_place_of_its_waker(rt: HostRuntime) -> Result<(), Fail> {
+fn a_stream_keeps_the_position_of_its_waker(rt: HostRuntime) -> Result<(), Fail> {
     let alloc = Refusing::new(rt.alloc());
     let (tx, rx) = bounded_reserved(&rt, &alloc, 1)?;
     let task = MockTask::new(&rt)?;
     let mut stream = rx.stream();
     assert!(rt; is_pending(task.poll(&mut stream.next())));
     for i in 0..20u64 {
-        // A wait asks at most for a place in the list.
+        // A wait asks at most for an entry in the list.
         alloc.refuse_nth(2);
         assert_eq!(rt; tx.try_send("x", i), Ok(()));
         assert!(rt; matches!(task.poll(&mut stream.next()), Poll::Ready(Some(_))));

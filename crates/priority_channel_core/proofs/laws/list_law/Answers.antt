@@ -1,4 +1,4 @@
-use Rattle.priority_channel_core.proofs.ListLemmas.{list_from_source}
+use Rattle.priority_channel_core.proofs.Lists.{list_from_source}
 use Rattle.priority_channel_core.proofs.laws.list_law.Goals as goal
 
 pub returns : goal.returns

@@ -1,5 +1,5 @@
-use Rattle.priority_channel_laws.proofs.AlikeLists.{state_same}
-use Rattle.priority_channel_laws.proofs.AlikeSteps.{runs_same}
+use Rattle.priority_channel_laws.proofs.alike.Lists.{state_same}
+use Rattle.priority_channel_laws.proofs.alike.Steps.{runs_same}
 use Rattle.priority_channel_laws.proofs.laws.alike_law.Goals as goal
 
 pub returns : goal.returns

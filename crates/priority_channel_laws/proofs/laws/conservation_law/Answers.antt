@@ -1,4 +1,4 @@
-use Rattle.priority_channel_laws.proofs.Runs.{run_conserves, run_closed}
+use Rattle.priority_channel_laws.proofs.runs.Runs.{run_conserves, run_closed}
 use Rattle.priority_channel_laws.proofs.laws.conservation_law.Goals as goal
 
 pub returns-clause-conserved : goal.returns-clause-conserved

@@ -1,4 +1,4 @@
-use Rattle.priority_channel_laws.proofs.Runs.{between_never_rises, run_drains}
+use Rattle.priority_channel_laws.proofs.runs.Runs.{between_never_rises, run_drains}
 use Rattle.priority_channel_laws.proofs.laws.drain_law.Goals as goal
 
 pub returns-clause-ordered : goal.returns-clause-ordered

@@ -1,4 +1,4 @@
-use Rattle.priority_channel_laws.proofs.Events.{nobody_is_forgotten, given_once, numbers_rise, called_by}
+use Rattle.priority_channel_laws.proofs.worlds.Events.{nobody_is_forgotten, given_once, numbers_rise, called_by}
 use Rattle.priority_channel_laws.proofs.laws.waiting_law.Goals as goal
 
 pub returns-clause-forgotten : goal.returns-clause-forgotten

@@ -1,6 +1,6 @@
 use Rattle.std.proofs.Common.{refl}
 use Rattle.priority_channel_parts.specs.Digits.{digits}
-use Rattle.priority_channel_parts.proofs.DigitsLemmas.{lt-digits, digits-least}
+use Rattle.priority_channel_parts.proofs.Digits.{lt-digits, digits-least}
 use Rattle.priority_channel_parts.proofs.laws.digits_law.Goals as goal
 
 pub returns-clause-above : goal.returns-clause-above

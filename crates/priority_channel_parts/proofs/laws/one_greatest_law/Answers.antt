@@ -1,4 +1,4 @@
-use Rattle.priority_channel_parts.proofs.GreatestLemmas.{one_greatest}
+use Rattle.priority_channel_parts.proofs.Greatest.{one_greatest}
 use Rattle.priority_channel_parts.proofs.laws.one_greatest_law.Goals as goal
 
 pub returns : goal.returns

@@ -2,7 +2,7 @@ use Rattle.std.proofs.Common.{◌-◌, ◌/◌, true, false, arith, refl}
 use Rattle.std.proofs.lemmas.List.Sorted.{IsPermutation-refl, IsPermutation-trans}
 use Rattle.std.proofs.HeapSift as heap
 use Rattle.priority_channel_parts.specs.Heap.{item_cmp}
-use Rattle.priority_channel_parts.proofs.DigitsLemmas.{digits_parent}
+use Rattle.priority_channel_parts.proofs.Digits.{digits_parent}
 use Rattle.priority_channel_parts.proofs.ItemOrder.{item_total, compared}
 use Rattle.priority_channel_parts.proofs.sift.rise.Goals as goal
 

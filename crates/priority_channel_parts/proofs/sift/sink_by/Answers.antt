@@ -5,7 +5,7 @@ use Rattle.std.specs.BinaryHeap.Sift.{IsGreaterChild}
 use Rattle.std.proofs.HeapSift as heap
 use Rattle.priority_channel_parts.specs.Digits.{digits}
 use Rattle.priority_channel_parts.specs.Heap.{item_cmp}
-use Rattle.priority_channel_parts.proofs.DigitsLemmas.{digits_child, digits-mono}
+use Rattle.priority_channel_parts.proofs.Digits.{digits_child, digits-mono}
 use Rattle.priority_channel_parts.proofs.ItemOrder.{item_total}
 use Rattle.priority_channel_parts.proofs.sift.sink_by.Goals as goal
 

@@ -1,5 +1,5 @@
--- A refused request gives an error, which owns nothing. Another is the inner allocator's, called at a `&` to its field, and what
--- that gives is handed on.
+-- A refused request gives an error, which owns nothing. Another is the inner allocator's, called at
+-- a `&` to its field, and what that gives is handed on.
 use Rattle.std.proofs.Common.{Bool, false, [], ◌∷◌, refl, ap, lit<, w64, Err}
 use Rattle.std.proofs.VecSteps.Shapes.{after}
 use Rattle.std.proofs.alloc.AllocError.TheLaws.{the_row_laws as error_laws}
@@ -69,14 +69,16 @@ allocate_spec 𝓤 𝓛 𝓜 𝓡 wired B L ghosts methods drops met _ =
     let κ = κs.0 in let inner = inner_of B a.0 in let refusals = refusals_of B a.0 in
     let vs : Valss (usize ∷ usize ∷ []) = (uint_vals w64 a.1.0, (uint_vals w64 a.1.1.0, tt)) in
     let y : W.Ghost = ((κs, qs, bounds, a, (shr_vals a.0, vs)), τ) in
-    -- the contract of `count_request`, and what it is called at; that of the inner allocator's `allocate`, and what that is called at
+    -- the contract of `count_request`, and what it is called at; that of the inner allocator's
+    -- `allocate`, and what that is called at
     let F = triple_of 𝓛 t.signature (t.spec 𝓛 𝓜.mem 𝓡.returns) in
     let x : F.Ghost = (((κ, tt), (qs.0, tt), tt, (refusals, tt), (shr_vals refusals, tt)), tt) in
     let G = triple_of 𝓛 (g.signature B) (g.spec B ghosts methods drops 𝓛 𝓜.mem 𝓡.returns) in let G' = g.ended B ghosts methods drops in
     let z : G.Ghost = ((κs, qs, bounds, (inner, a.1), (shr_vals inner, vs)), τ) in
     qed 𝓛 (((‵ (flft κ qs.0) ⊛ ‵ (flft κs.1.0 qs.1.0) ⊛ ‵ ftrue) ⊛ ‵ (whole_owned B a.0 κ) ⊛ ‵ (owns (usize ∷ usize ∷ []) a.1 vs)) ∷ raw ((c κs a).requires τ) ∷ []) ∵
     split ! $ split ! $ move ! (2 ∷ []) $ split ! $ use1 𝓛 (‵ (inner_owned B a.0 κ) ⊛ ‵ (refusals_owned B a.0 κ)) (fields_lent B a.0 κ 𝓛) $ split ! $
-    -- [the inner allocator; the refusals; the other parameters; the token of κ; the other tokens; what is required]
+    -- [the inner allocator; the refusals; the other parameters; the token of κ; the other tokens;
+    -- what is required]
     nothing ! $ nothing ! $ move ! (3 ∷ 0 ∷ []) $ join ! $ nothing ! $ move ! (5 ∷ 0 ∷ []) $ join ! $ join ! $ join ! $ use1 𝓛 (raw (F.pre x)) (id⊢ 𝓤 _) $
     enter ! _ _ _ _ _ $
     alloc_all ! (λ l. pass_all ! refl ((tt, tt), ((tt, record { fits = are.1.0.1 }), ((tt, record { fits = are.1.1.0.1 }), tt))) $
@@ -85,7 +87,8 @@ allocate_spec 𝓤 𝓛 𝓜 𝓡 wired B L ghosts methods drops met _ =
     use1 𝓛 (later (some (λ (b : Bool). ((‵ (flft κ qs.0) ⊛ ‵ ftrue) ⊛ ‵ (bool.own_val b (v ∷ []))) ⊛ some (λ (ws : Lasts t.ended (κ, tt) x.0.3). ‵ (lasts t.ended (κ, tt) x.0.3 ws) ⊛ ‵ ftrue)))) (id⊢ 𝓤 _) $
     await ! tt $ pick ! (λ b. split ! $ split ! $ split ! $ move ! (2 ∷ []) $ feq_l ! (λ is_b. lands_as ! (ap only is_b) refl (tt, tt) $
     move ! (0 ∷ 5 ∷ []) $ join ! $
-    -- [the tokens; nothing; what the call left; the inner allocator; the other parameters; what is required]
+    -- [the tokens; nothing; what the call left; the inner allocator; the other parameters; what is
+    -- required]
     first ! $ branches ! (get ! refl)
     (λ refused.
     sets ! (agg ! (no_more !)) refl (tt, tt) $

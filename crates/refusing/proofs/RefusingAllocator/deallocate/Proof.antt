@@ -1,5 +1,5 @@
--- The block goes back to the inner allocator, called at a `&` to its field. All else that it takes is what `deallocate` was handed,
--- since the right to free a block is the inner allocator's.
+-- The block goes back to the inner allocator, called at a `&` to its field. All else that it takes
+-- is what `deallocate` was handed, since the right to free a block is the inner allocator's.
 use Rattle.std.proofs.Common.{[], ◌∷◌, refl, ap, w64}
 use Rattle.std.proofs.raw_atomic.Walks.{proved}
 use Rattle.std.specs.contracts.alloc.Allocator.deallocate as g

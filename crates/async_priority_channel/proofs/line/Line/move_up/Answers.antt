@@ -1,5 +1,5 @@
 use Rattle.std.proofs.Common.{◌∙◌, ◌<◌, sym}
-use Rattle.async_priority_channel.proofs.LineLemmas.{all_behind}
+use Rattle.async_priority_channel.proofs.Lines.{all_behind}
 use Rattle.async_priority_channel.proofs.line.Line.move_up.Goals as goal
 
 pub invariant_of-self : goal.invariant_of-self

@@ -2,7 +2,7 @@ use Rattle.std.proofs.Common.{rules}
 use Rattle.priority_channel_core.specs.machine.Good.{IsGood}
 use Rattle.priority_channel_core.specs.machine.Polls.{Ends}
 use Rattle.priority_channel_core.specs.code.Channel.{state_of}
-use Rattle.priority_channel_core.proofs.PollLemmas.{lists_full}
+use Rattle.priority_channel_core.proofs.Polls.{lists_full}
 use Rattle.priority_channel_core.proofs.channel.PriorityQueueChannel.list.Goals as goal
 
 pub returns-clause-sends : goal.returns-clause-sends

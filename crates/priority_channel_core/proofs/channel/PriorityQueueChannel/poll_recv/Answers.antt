@@ -1,5 +1,5 @@
 use Rattle.std.proofs.Common.{arith}
-use Rattle.priority_channel_core.proofs.PollLemmas.{received_searches_less}
+use Rattle.priority_channel_core.proofs.Polls.{received_searches_less}
 use Rattle.priority_channel_core.proofs.channel.PriorityQueueChannel.poll_recv.Goals as goal
 
 pub returns-clause-cost : goal.returns-clause-cost

@@ -1,7 +1,7 @@
 use Rattle.std.proofs.Common.{[], ◌∷◌, arith}
 use Rattle.priority_channel_core.specs.machine.Sends.{as_list}
-use Rattle.priority_channel_core.proofs.SendLemmas.{sends_front}
-use Rattle.priority_channel_core.proofs.PollLemmas.{poll_costs}
+use Rattle.priority_channel_core.proofs.Sends.{sends_front}
+use Rattle.priority_channel_core.proofs.Polls.{poll_costs}
 use Rattle.priority_channel_core.proofs.channel.PriorityQueueChannel.poll_send.Goals as goal
 
 pub returns-clause-step : goal.returns-clause-step

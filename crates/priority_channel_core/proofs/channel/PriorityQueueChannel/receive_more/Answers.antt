@@ -1,5 +1,5 @@
 use Rattle.std.proofs.Common.{length, arith, rules}
-use Rattle.priority_channel_core.proofs.ManyLemmas.{received_more, refusal_costs, receive_costs}
+use Rattle.priority_channel_core.proofs.Many.{received_more, refusal_costs, receive_costs}
 use Rattle.priority_channel_core.proofs.channel.PriorityQueueChannel.receive_more.Goals as goal
 
 pub returns-in-Err-clause-cost : goal.returns-in-Err-clause-cost

@@ -2,7 +2,7 @@ use Rattle.std.proofs.Common.{◌≡◌, ◌*◌, length, vec_capacity}
 use Rattle.priority_channel_parts.specs.Digits.{digits}
 use Rattle.priority_channel_core.specs.machine.Good.{IsGood}
 use Rattle.priority_channel_core.specs.code.Channel.{ComparesAtMost}
-use Rattle.priority_channel_core.proofs.ManyLemmas.{Received}
+use Rattle.priority_channel_core.proofs.Many.{Received}
 use Rattle.priority_channel_core.proofs.channel.PriorityQueueChannel.receive_more.Given as goal
 
 abbrev pub invariant-loop-received : goal.invariant-loop-received

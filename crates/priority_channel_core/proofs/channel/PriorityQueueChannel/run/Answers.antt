@@ -3,8 +3,8 @@ use Rattle.std.specs.Iterator.Adapters.{peekable_can}
 use Rattle.std.proofs.lemmas.List.{reverse-append, reverse-reverse}
 use Rattle.std.proofs.lemmas.List.Elements.{All-head, All-tail}
 use Rattle.priority_channel_core.specs.code.Calls.{MayCall}
-use Rattle.priority_channel_core.proofs.HandleLemmas.{AllowsRun-first, AllowsRun-more}
-use Rattle.priority_channel_core.proofs.RunLemmas.{RunsFront-none, RunsFront-more, at_ok, drop-past}
+use Rattle.priority_channel_core.proofs.Handles.{AllowsRun-first, AllowsRun-more}
+use Rattle.priority_channel_core.proofs.Runs.{RunsFront-none, RunsFront-more, at_ok, drop-past}
 use Rattle.priority_channel_core.proofs.channel.PriorityQueueChannel.run.Goals as goal
 use Rattle.priority_channel_core.proofs.channel.PriorityQueueChannel.run.Goals.{then-loop-done-test+else-is_ok, else-loop-done-test}
 

@@ -1,7 +1,7 @@
 use Rattle.std.proofs.Common.{◌-◌, ◌*◌, ◌<◌, [], ◌∷◌, length, refl, sym, ap, rules, arith}
 use Rattle.std.proofs.lemmas.List.{append-nil}
 use Rattle.priority_channel_parts.specs.Digits.{digits}
-use Rattle.priority_channel_core.proofs.ManyLemmas.{received_first, first_length, refusal_costs, receives_cost, min_next}
+use Rattle.priority_channel_core.proofs.Many.{received_first, first_length, refusal_costs, receives_cost, min_next}
 use Rattle.priority_channel_core.proofs.channel.PriorityQueueChannel.try_recv_many.Goals as goal
 use Rattle.priority_channel_core.proofs.channel.PriorityQueueChannel.try_recv_many.Goals.{else-limit-eq0-via-then-limit-eq0+else-not-is_empty, else-limit-eq0-via-else-limit-eq0}
 

@@ -1,8 +1,8 @@
 use Rattle.std.proofs.Common.{[], rules}
 use Rattle.priority_channel_core.specs.code.Lists.{HasList}
-use Rattle.priority_channel_core.proofs.BulkLemmas.{performs_sendv, replies_closed, replies_full, replies_ended, replies_filled, replies_cut}
-use Rattle.priority_channel_core.proofs.FrontLemmas.{more_left, none_left, sent_peeked}
-use Rattle.priority_channel_core.proofs.SendLemmas.{adds_none}
+use Rattle.priority_channel_core.proofs.Bulk.{performs_sendv, replies_closed, replies_full, replies_ended, replies_filled, replies_cut}
+use Rattle.priority_channel_core.proofs.Fronts.{more_left, none_left, sent_peeked}
+use Rattle.priority_channel_core.proofs.Sends.{adds_none}
 use Rattle.priority_channel_core.proofs.channel.PriorityQueueChannel.try_sendv.Goals as goal
 
 pub returns-then-is_closed-clause-step : goal.returns-then-is_closed-clause-step

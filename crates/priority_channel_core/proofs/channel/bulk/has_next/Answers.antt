@@ -1,4 +1,4 @@
-use Rattle.priority_channel_core.proofs.ListLemmas.{list_at_peeked}
+use Rattle.priority_channel_core.proofs.Lists.{list_at_peeked}
 use Rattle.priority_channel_core.proofs.channel.bulk.has_next.Goals as goal
 
 pub returns-clause-more : goal.returns-clause-more

@@ -10,7 +10,7 @@ invariant-loop-sent g l = record {
   moved : MovesFront g.I.Iterator.next_gives l.fn.bag l.fn.msgs l.sent l.bag l.msgs;
   accepted : l.bag.accepted ≡ l.fn.bag.accepted + l.sent;
   numbered : l.fn.bag.accepted < 2 ^ 64 → l.bag.accepted < 2 ^ 64;
-  place : l.fn.bag.place ≤ l.bag.place;
+  slots : l.fn.bag.slots ≤ l.bag.slots;
   limit : length l.fn.bag.pending < 2 ^ 63 → length l.bag.pending < 2 ^ 63;
   cost : l.bag.comparisons ≤ l.fn.bag.comparisons + l.sent * digits (length l.bag.pending);
 }

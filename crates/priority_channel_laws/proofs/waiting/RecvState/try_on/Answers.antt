@@ -3,8 +3,8 @@ use Rattle.priority_channel_parts.specs.declared.errors.TryRecvError.TheVariants
 use Rattle.priority_channel_core.specs.declared.calls.Call.TheVariants as call
 use Rattle.priority_channel_core.specs.declared.calls.Answer.TheVariants as answer
 use Rattle.priority_channel_core.specs.machine.Step.{Step}
-use Rattle.priority_channel_core.proofs.PollLemmas.{received_searches_less}
-use Rattle.priority_channel_laws.proofs.AtOnce.{received_at_once, closed_at_once}
+use Rattle.priority_channel_core.proofs.Polls.{received_searches_less}
+use Rattle.priority_channel_laws.proofs.futures.Tries.{received_at_once, closed_at_once}
 use Rattle.priority_channel_laws.proofs.waiting.RecvState.try_on.Goals as goal
 
 pub returns-in-Ok-clause-step : goal.returns-in-Ok-clause-step

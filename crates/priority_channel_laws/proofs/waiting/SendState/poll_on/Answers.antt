@@ -1,8 +1,8 @@
 use Rattle.std.proofs.Common.{sym, ◌∙◌}
 use Rattle.priority_channel_core.specs.machine.Step.{Step}
 use Rattle.priority_channel_core.specs.declared.calls.Answer.TheVariants as answer
-use Rattle.priority_channel_laws.specs.States.{send_of}
-use Rattle.priority_channel_laws.proofs.StateLemmas.{polls_kept, send_left}
+use Rattle.priority_channel_laws.specs.Holding.{send_of}
+use Rattle.priority_channel_laws.proofs.futures.Holdings.{polls_kept, send_left}
 use Rattle.priority_channel_laws.proofs.waiting.SendState.poll_on.Goals as goal
 
 pub returns-clause-step : goal.returns-clause-step

@@ -1,6 +1,6 @@
 use Rattle.std.proofs.Common.{sym, ◌∙◌, ap, arith}
 use Rattle.priority_channel_parts.specs.Digits.{digits}
-use Rattle.priority_channel_laws.proofs.AtOnce.{sent_at_once, tried_searches_less, pending_stays}
+use Rattle.priority_channel_laws.proofs.futures.Tries.{sent_at_once, tried_searches_less, pending_stays}
 use Rattle.priority_channel_laws.proofs.waiting.SendState.try_on.Goals as goal
 
 pub returns-clause-step : goal.returns-clause-step

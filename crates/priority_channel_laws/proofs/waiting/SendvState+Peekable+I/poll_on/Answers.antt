@@ -4,8 +4,8 @@ use Rattle.priority_channel_core.specs.code.Lists.{HasList}
 use Rattle.priority_channel_core.specs.code.Calls.{Performs}
 use Rattle.priority_channel_core.specs.declared.calls.Answer.TheVariants as answer
 use Rattle.priority_channel_laws.specs.Future.Task.{Sendv}
-use Rattle.priority_channel_laws.specs.States.{HoldsTail}
-use Rattle.priority_channel_laws.proofs.StateLemmas.{polls_kept, sendv_left, unsent_kept, left_kept, polled_tail}
+use Rattle.priority_channel_laws.specs.Holding.{HoldsTail}
+use Rattle.priority_channel_laws.proofs.futures.Holdings.{polls_kept, sendv_left, unsent_kept, left_kept, polled_tail}
 use Rattle.priority_channel_laws.proofs.waiting.SendvState+Peekable+I.poll_on.Goals as goal
 
 pub returns-clause-step : goal.returns-clause-step

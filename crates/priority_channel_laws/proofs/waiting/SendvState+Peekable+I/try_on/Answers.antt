@@ -1,8 +1,8 @@
 use Rattle.std.proofs.Common.{sym, ◌∙◌}
 use Rattle.priority_channel_core.specs.code.Lists.{HasList}
-use Rattle.priority_channel_laws.specs.States.{HoldsTail}
-use Rattle.priority_channel_laws.proofs.StateLemmas.{refused_tail}
-use Rattle.priority_channel_laws.proofs.AtOnce.{sentv_at_once, tried_in_vain, handed_back_at_once, kept_at_once, tries_front, tried_good}
+use Rattle.priority_channel_laws.specs.Holding.{HoldsTail}
+use Rattle.priority_channel_laws.proofs.futures.Holdings.{refused_tail}
+use Rattle.priority_channel_laws.proofs.futures.Tries.{sentv_at_once, tried_in_vain, handed_back_at_once, kept_at_once, tries_front, tried_good}
 use Rattle.priority_channel_laws.proofs.waiting.SendvState+Peekable+I.try_on.Goals as goal
 
 pub returns-clause-step : goal.returns-clause-step

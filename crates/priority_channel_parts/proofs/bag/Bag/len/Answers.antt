@@ -1,6 +1,6 @@
 use Rattle.std.proofs.Common.{length, arith, ap}
 use Rattle.priority_channel_parts.specs.Bag.{Contents}
-use Rattle.priority_channel_parts.proofs.HeapLemmas.{length-in_order}
+use Rattle.priority_channel_parts.proofs.Heaps.{length-in_order}
 use Rattle.priority_channel_parts.proofs.bag.Bag.len.Goals as goal
 
 pub returns : goal.returns

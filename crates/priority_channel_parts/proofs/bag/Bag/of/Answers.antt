@@ -1,4 +1,4 @@
-use Rattle.priority_channel_parts.proofs.HeapLemmas.{kept_none, in_order_none}
+use Rattle.priority_channel_parts.proofs.Heaps.{kept_none, in_order_none}
 use Rattle.priority_channel_parts.proofs.bag.Bag.of.Goals as goal
 
 pub invariant_of-result : goal.invariant_of-result

@@ -1,7 +1,7 @@
 use Rattle.std.proofs.Common.{arith, sym, eqb-true}
 use Rattle.std.proofs.lemmas.Bool.{eqb-false}
 use Rattle.std.proofs.lemmas.List.{nil_from_length}
-use Rattle.priority_channel_parts.proofs.HeapLemmas.{in_order_none, shows_greatest}
+use Rattle.priority_channel_parts.proofs.Heaps.{in_order_none, shows_greatest}
 use Rattle.priority_channel_parts.proofs.bag.Bag.peek.Goals as goal
 
 pub returns-then-is_empty : goal.returns-then-is_empty

@@ -3,8 +3,8 @@ use Rattle.std.proofs.lemmas.Bool.{eqb-false}
 use Rattle.std.proofs.lemmas.List.{nil_from_length}
 use Rattle.std.proofs.lemmas.List.Sorted.{length_permutation}
 use Rattle.priority_channel_parts.specs.Heap.{IsKept, in_order_of_numbers}
-use Rattle.priority_channel_parts.proofs.DigitsLemmas.{digits-mono}
-use Rattle.priority_channel_parts.proofs.HeapLemmas.{length-in_order, in_order_none, kept_popped, takes_greatest, written_back}
+use Rattle.priority_channel_parts.proofs.Digits.{digits-mono}
+use Rattle.priority_channel_parts.proofs.Heaps.{length-in_order, in_order_none, kept_popped, takes_greatest, written_back}
 use Rattle.priority_channel_parts.proofs.bag.Bag.pop.Goals as goal
 
 pub returns-then-is_empty-clause-taken : goal.returns-then-is_empty-clause-taken

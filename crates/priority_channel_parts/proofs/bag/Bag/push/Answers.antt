@@ -4,7 +4,7 @@ use Rattle.std.proofs.lemmas.List.Sorted.{length_permutation}
 use Rattle.priority_channel_parts.specs.Bag.{Contents}
 use Rattle.priority_channel_parts.specs.Digits.{digits}
 use Rattle.priority_channel_parts.specs.Heap.{IsKept, in_order_of_numbers, item_cmp}
-use Rattle.priority_channel_parts.proofs.HeapLemmas.{length-in_order, kept_pushed, pending_pushed, written_back}
+use Rattle.priority_channel_parts.proofs.Heaps.{length-in_order, kept_pushed, pending_pushed, written_back}
 use Rattle.priority_channel_parts.proofs.bag.Bag.push.Goals as goal
 
 pub push_reserved-requires : goal.push_reserved-requires
@@ -12,8 +12,8 @@ push_reserved-requires g c =
     let before = c.self.inside.items in
     let long = before.ok in
     let pending = ap (λ (b : Contents g.row.T.Denot g.row.P.Denot). length b.pending) c.self.view_is in
-    let place = ap (λ (b : Contents g.row.T.Denot g.row.P.Denot). b.place) c.self.view_is in
-    omega (arith, length-in_order before.items, pending, place)
+    let slots = ap (λ (b : Contents g.row.T.Denot g.row.P.Denot). b.slots) c.self.view_is in
+    omega (arith, length-in_order before.items, pending, slots)
 
 pub invariant_of-self : goal.invariant_of-self
 invariant_of-self g c =

@@ -1,4 +1,4 @@
-use Rattle.priority_channel_parts.proofs.WaitingLemmas.{rising-behind}
+use Rattle.priority_channel_parts.proofs.Waiting.{rising-behind}
 use Rattle.priority_channel_parts.proofs.waiting_list.WaitingList.take_first.Goals as goal
 
 pub invariant_of-self : goal.invariant_of-self

@@ -1,0 +1,118 @@
+//! What the channel keeps of a task or a thread that waits.
+ghost use Rattle.futures.specs.Task.{Hears, IsArmed, Keeps};
+
+use futures::task::{Context, Poll, Source, Waker};
+use priority_channel_core::awaitable_atomics::Wakes;
+use std::alloc::{AllocError, Allocator};
+use std::marker::Model;
+use std::sync::{Arc, Mutex, Wait};
+use std::thread::Parker;
+use std::time::Duration;
+
+/// One task or one thread that waits, which a future or a blocking call shares with the channel's
+/// waiting list and keeps over its polls.
+///
+/// A waker wakes its task also when it is dropped. Were each poll to make a new one, then a poll of
+/// a future that is still listed would drop the listed one, wake its own task, and be polled again
+/// at once, for ever. In a shared waiter a poll finds the waker of its own task, and leaves it.
+#[derive(Drop)]
+pub struct Waiter<A: Allocator> {
+    inner: Arc<Inner, A>,
+}
+
+impl<A: Allocator> Model for Waiter<A> {
+    ghost use Rattle.std.specs.Prelude.{ℕ};
+    ghost use Rattle.std.specs.Arc.{arc_value};
+
+    ghost Value = { ℕ };
+
+    ghost view = { λ w. arc_value w.inner };
+}
+
+// Of a task that waits there is a waker, and a thread that waits is parked.
+#[derive(Drop)]
+struct Inner {
+    // Which waiter it is, for contracts.
+    identity: Source,
+    waker: Mutex<Option<Waker>>,
+    parker: Parker,
+}
+
+impl Model for Inner {
+    ghost use Rattle.std.specs.Prelude.{ℕ};
+
+    ghost Value = { ℕ };
+
+    ghost view = { λ i. i.identity.id };
+}
+
+impl<A: Allocator + Copy> Waiter<A> {
+    pub fn new(alloc: A) -> Result<Self, AllocError> {
+        let inner = Inner {
+            identity: Source::new(),
+            waker: Mutex::new(None),
+            parker: Parker::new(),
+        };
+        let inner = Arc::new(alloc, inner)?;
+        Ok(Waiter { inner })
+    }
+}
+
+impl<A: Allocator> Waiter<A> {
+    /// Leaves the task's waker here. False where none could be made: the task then yields.
+    pub fn register<R: Wait>(&self, rt: &R, cx: &mut Context<'_>, source: &Source) -> bool
+        ensures armed { IsArmed cx.new }
+        ensures heard { Hears cx.new source.now.id }
+        ensures kept { Keeps cx.old cx.new }
+    {
+        let mut slot = self.inner.waker.lock(rt);
+        let _pending: Poll<()> = cx.register(source, &mut slot);
+        slot.is_some()
+    }
+
+    /// Parks the thread until it is woken, or so much time has passed. It may end early, and does
+    /// at once where a wake came since it was last parked.
+    pub fn park<R: Wait>(&self, rt: &R, limit: Option<Duration>) {
+        match limit {
+            Some(limit) => self.inner.parker.park_timeout(rt, limit),
+            None => self.inner.parker.park(rt),
+        }
+    }
+
+    /// Wakes the thread that is parked here, or keeps the next one that parks from it.
+    pub fn unpark(&self) {
+        self.inner.parker.unpark();
+    }
+
+    // Wakes the task, once the waiter's lock is free, and the thread.
+    fn wake<R: Wait>(self, rt: &R) {
+        let waker = self.inner.waker.lock(rt).take();
+        drop(waker);
+        self.unpark();
+    }
+}
+
+// Dropping a clone drops no waker while another is there, so a list can let one go under the
+// channel's lock.
+impl<A: Allocator> Clone for Waiter<A> {
+    ghost use Rattle.std.specs.Prelude.{◌≡◌};
+
+    ghost is_clone = { λ waiter other. other ≡ waiter };
+
+    fn clone(&self) -> Result<Self, AllocError> {
+        let inner = Arc::try_clone(&self.inner)?;
+        Ok(Waiter { inner })
+    }
+}
+
+/// Wakes all who were handed out. It takes the waiters' locks, and the channel's lock must be free.
+#[inline(always)]
+pub fn wake_all<R: Wait, A: Allocator>(rt: &R, wakes: Wakes<Waiter<A>, A>) {
+    let (room, message) = wakes.into_lists();
+    for (_, waker) in room {
+        waker.wake(rt);
+    }
+    for (_, waker) in message {
+        waker.wake(rt);
+    }
+}

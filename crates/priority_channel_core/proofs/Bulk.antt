@@ -1,0 +1,63 @@
+-- A bulk send of the code as a step, whatever list its iterator has.
+use Rattle.std.proofs.Common.{◌≡◌, ℕ, ◌+◌, ◌-◌, ◌<◌, ◌≤◌, ◌^◌, ◌⊎◌, true, false, List, refl, arith}
+use Rattle.std.specs.Prelude.{Result, Ok, Err, Option}
+use Rattle.std.specs.declared.cmp.Ordering.{Ordering}
+use Rattle.std.specs.declared.iter.Ahead.{Ahead}
+use Rattle.priority_channel_core.specs.declared.calls.Call.TheVariants as call
+use Rattle.priority_channel_core.specs.declared.calls.Answer.TheVariants as answer
+use Rattle.priority_channel_parts.specs.declared.errors.TrySendError.{TrySendError}
+use Rattle.priority_channel_parts.specs.declared.errors.TrySendError.TheVariants.{Full, Closed, Memory}
+use Rattle.priority_channel_core.specs.machine.State.{State, Handed, nobody, room}
+use Rattle.priority_channel_core.specs.machine.Good.{IsGood}
+use Rattle.priority_channel_core.specs.machine.Sends.{Sends}
+use Rattle.priority_channel_core.specs.code.Lists.{HasList}
+use Rattle.priority_channel_core.specs.code.Front.{HasMore, HasEnded, SendsFront}
+use Rattle.priority_channel_core.specs.code.Calls.{SameReply, Performs}
+use Rattle.priority_channel_core.proofs.Sends.{sent_full, sent_all, sent_cut, refuses_full}
+
+-- a reply is right for whatever list m holds
+pub record Replies {T P W M : Type 0} (holds : M → List (T × P) → Type 0) (old : State T P W) (m : M)
+    (reply : Result (Unit {0}) (TrySendError M)) (handed : Handed W) (new : State T P W) : Type 0 where
+  pub at : (pairs : List (T × P)) → holds m pairs
+      → (told : Result (Unit {0}) (TrySendError (List (T × P)))) × SameReply holds reply told × Sends old pairs told handed new
+
+module _ {T P W M : Type 0} (holds : M → List (T × P) → Type 0) where
+  pub performs_sendv : (cmp : P → P → Ordering) (is_clone : W → W → Type 0) (old new : State T P W) (m : M)
+      (reply : Result (Unit {0}) (TrySendError M)) (handed : Handed W) → IsGood new → Replies holds old m reply handed new
+      → Performs holds cmp is_clone old (call.TrySendv m) (answer.TrySendv reply) handed new
+  performs_sendv cmp is_clone old new m reply handed good replies = record {
+    at = λ meant same.
+        let k = replies.at same.0 same.2 in
+        (answer.TrySendv k.0, (k.0, refl, k.1), rw same.1 (record { moves = k.2; good = good }));
+  }
+
+  pub replies_closed : (s : State T P W) (m : M) → s.is_closed ≡ true → Replies holds s m (Err (Closed m)) nobody s
+  replies_closed s m closed = record { at = λ pairs has. (Err (Closed pairs), (pairs, refl, has), (closed, refl, (refl, refl))) }
+
+  pub replies_full : (s : State T P W) (m : M) → room s ≡ 0 → s.is_closed ≡ false → Replies holds s m (Err (Full m)) nobody s
+  replies_full s m none opened =
+      record { at = λ pairs has. (Err (Full pairs), (pairs, refl, has), refuses_full s pairs none opened) }
+
+module _ {S T P W : Type 0} (steps : S → Option (T × P) → S → Type 0) (old new : State T P W) (handed : Handed W) (n : ℕ)
+    (msgs left : Ahead S (T × P)) (opened : old.is_closed ≡ false) (some : 0 < room old) (sent : SendsFront steps old msgs n handed new left) where
+  pub replies_ended : HasEnded steps left → n ≤ room old → Replies (HasList steps) old msgs (Ok tt) handed new
+  replies_ended ended within = record {
+    at = λ pairs has.
+        let k = sent.takes.at pairs has in
+        (Ok tt, refl, sent_all old new handed pairs sent.front k.0 opened sent.adds k.1 (ended.at k.0 k.2) some (omega (arith, sent.long, within)));
+  }
+
+  pub replies_filled : HasMore steps left → n ≡ room old → Replies (HasList steps) old msgs (Err (Full left)) handed new
+  replies_filled more filled = record {
+    at = λ pairs has.
+        let k = sent.takes.at pairs has in
+        (Err (Full k.0), (k.0, refl, k.2), sent_full old new handed pairs sent.front k.0 opened sent.adds k.1 (omega (arith, sent.long, filled)) (more.at k.0 k.2));
+  }
+
+  pub replies_cut : HasMore steps left → n < room old → (old.is_reserved ≡ false) ⊎ (old.accepted + n ≡ 2 ^ 64 - 1)
+      → Replies (HasList steps) old msgs (Err (Memory left)) handed new
+  replies_cut more within why = record {
+    at = λ pairs has.
+        let k = sent.takes.at pairs has in
+        (Err (Memory k.0), (k.0, refl, k.2), sent_cut old new handed pairs sent.front k.0 opened sent.adds k.1 (omega (arith, sent.long, within)) (more.at k.0 k.2) (rw sent.long why));
+  }

@@ -1,0 +1,58 @@
+-- The parts of a channel, once the loop of a bulk send has added a front to the bag and the word
+-- has risen.
+use Rattle.std.proofs.Common.{◌≡◌, ℕ, ◌+◌, ◌-◌, ◌<◌, ◌≤◌, ◌^◌, ◌⊎◌, Bool, true, false, List, [], ◌++◌, length, refl, ap, arith, inl, inr, length-append}
+use Rattle.std.specs.Prelude.{◌==◌, if◌then◌else◌}
+use Rattle.priority_channel_core.specs.machine.State.{State, Handed, nobody}
+use Rattle.priority_channel_core.specs.machine.Sends.{AddsFront}
+use Rattle.priority_channel_parts.specs.Bag.{Contents}
+use Rattle.priority_channel_parts.specs.Word.{Word}
+use Rattle.priority_channel_parts.specs.Waiters.{HasOwnTickets}
+use Rattle.priority_channel_core.specs.code.Channel.{state_of, IsSound}
+use Rattle.std.proofs.lemmas.Bool.{cases_lt}
+use Rattle.priority_channel_parts.specs.Digits.{digits}
+use Rattle.priority_channel_parts.proofs.Digits.{digits-mono}
+use Rattle.priority_channel_core.proofs.Sends.{good_adds}
+
+module _ {T P W : Type 0} (bag bag' : Contents T P) (word word' : Word W) (handed : Handed W) (capacity : ℕ) (is_reserved : Bool)
+    (senders receivers n : ℕ) (front : List (T × P)) (long : length front ≡ n)
+    (pending : bag'.pending ≡ bag.pending ++ front) (accepted : bag'.accepted ≡ bag.accepted + n)
+    (handed_is : handed ≡ (if n == 0 then nobody else record { room = []; message = word.waiters.message }))
+    (risen : word' ≡ record word { count = word.count + n; waiters = record word.waiters { message = if n == 0 then word.waiters.message else [] } }) where
+  abbrev Old : State T P W
+  Old = state_of bag word capacity is_reserved senders receivers
+
+  abbrev New : State T P W
+  New = state_of bag' word' capacity is_reserved senders receivers
+
+  pub adds : AddsFront Old front handed New
+  adds = rw (pending, accepted, risen, handed_is, ← long) (record { handed_is = refl; new_is = refl })
+
+  pub sound_adds : IsSound bag word Old → word.is_closed ≡ false → n ≤ capacity - length bag.pending → bag.slots ≤ bag'.slots
+      → length bag'.pending < 2 ^ 63 → bag'.accepted < 2 ^ 64 → HasOwnTickets word'.waiters → IsSound bag' word' New
+  sound_adds sound opened within grown limit fits orderly =
+      let l = length-append bag.pending front in
+      let longer : length bag'.pending ≡ length bag.pending + n = rw pending (omega (arith, l, long)) in
+      let m = sound.good.within_capacity in
+      record {
+        counted = let c = ap (λ (w : Word W). w.count) risen in omega (arith, longer, sound.counted, c);
+        slots_kept = λ reserved. let p = sound.slots_kept reserved in omega arith;
+        good = good_adds Old New front handed adds sound.good opened (omega (arith, m)) limit fits orderly;
+      }
+
+  -- in a reserved channel there is a slot for each pair that has room
+  pub refused_in_channel : IsSound bag word Old → n < capacity - length bag.pending → bag.slots ≤ bag'.slots → bag'.accepted < 2 ^ 64
+      → (bag'.accepted + 1 < 2 ^ 64 → bag'.slots ≤ length bag'.pending) → (is_reserved ≡ false) ⊎ (bag.accepted + n ≡ 2 ^ 64 - 1)
+  refused_in_channel sound within grown fits full =
+      elim (cases_lt (bag'.accepted + 1) (2 ^ 64)) [ inl some ↦ either is_reserved refl (full some) | inr none ↦ inr (omega (arith, accepted)) ]
+    where
+      either : (b : Bool) → is_reserved ≡ b → bag'.slots ≤ length bag'.pending → (is_reserved ≡ false) ⊎ (bag.accepted + n ≡ 2 ^ 64 - 1)
+      either false e filled = inl e
+      either true e filled =
+          let p = sound.slots_kept e in let l = length-append bag.pending front in
+          let longer : length bag'.pending ≡ length bag.pending + n = rw pending (omega (arith, l, long)) in
+          absurd (omega arith)
+
+-- a search in shorter lists
+pub digits_shorter : {X : Type 0} (xs ys us vs : List X) → length us ≤ length xs → length vs ≤ length ys
+    → digits (length us) + digits (length vs) ≤ digits (length xs) + digits (length ys)
+digits_shorter xs ys us vs p q = omega (arith, digits-mono (length us) (length xs) p, digits-mono (length vs) (length ys) q)

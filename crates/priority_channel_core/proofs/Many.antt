@@ -1,0 +1,107 @@
+-- Many receives, one after another.
+use Rattle.std.proofs.Common.{◌≡◌, ℕ, ◌+◌, ◌*◌, ◌≤◌, List, [], ◌∷◌, ◌++◌, length, length-append, refl, sym, ap, subst, ◌∙◌, append_assoc, inl, inr, arith}
+use Rattle.std.specs.Prelude.{Ok, Err, min}
+use Rattle.std.proofs.Math.Nat.{min-eq_left, min-eq_right}
+use Rattle.std.proofs.lemmas.Bool.{cases_lt}
+use Rattle.std.proofs.lemmas.Nat.{mul-le}
+use Rattle.std.specs.declared.cmp.Ordering.{Ordering}
+use Rattle.priority_channel_core.specs.declared.calls.Call.TheVariants as call
+use Rattle.priority_channel_core.specs.declared.calls.Answer.TheVariants as answer
+use Rattle.priority_channel_parts.specs.declared.errors.TryRecvError.{TryRecvError}
+use Rattle.priority_channel_parts.specs.declared.errors.TryRecvError.TheVariants.{Empty, Closed}
+use Rattle.priority_channel_core.specs.machine.State.{State, Handed, nobody}
+use Rattle.priority_channel_parts.specs.Digits.{digits}
+use Rattle.priority_channel_parts.specs.Greatest.{TakesGreatest}
+use Rattle.priority_channel_core.specs.machine.Step.{Step}
+use Rattle.priority_channel_core.specs.machine.Run.{Operation, Run}
+use Rattle.priority_channel_core.specs.code.Many.{receives, ReceivesInTurn}
+use Rattle.priority_channel_parts.proofs.Digits.{digits-mono}
+use Rattle.priority_channel_core.proofs.Runs.{Run-more}
+
+taken_length : {T P : Type 0} (cmp : P → P → Ordering) (pending rest : List (T × P)) (pair : T × P) → TakesGreatest cmp pending pair rest
+    → length pending ≡ length rest + 1
+taken_length cmp pending rest pair h =
+    omega (arith, ap length h.split, ap length h.closed_up, length-append h.before (pair ∷ h.after), length-append h.before h.after)
+
+none_costs : digits 0 ≡ 0
+unfolding digits
+none_costs = refl
+
+module _ {T P W : Type 0} where
+  receives-push : (pairs : List (T × P)) (pair : T × P) → receives {W = W} (pairs ++ pair ∷ []) nobody ≡ receives pairs nobody ++ receives (pair ∷ []) nobody
+  receives-push [] pair = refl
+  receives-push (p ∷ pairs) pair =
+      ap (λ (l : List (Operation T P W)). record { call = call.TryRecv; answer = answer.TryRecv (Ok p); handed = nobody } ∷ l) (receives-push pairs pair)
+
+module _ {T P W : Type 0} (cmp : P → P → Ordering) (is_clone : W → W → Type 0) where
+  -- so many receives went well, and what they gave stands behind what was there before
+  pub record Received (old : State T P W) (before : List (T × P)) (count : ℕ) (new : State T P W) (now : List (T × P)) : Type 0 where
+    pub pairs : List (T × P)
+    pub items : now ≡ before ++ pairs
+    pub long : length pairs ≡ count
+    pub counted : count + length new.pending ≡ length old.pending
+    pub run : Run cmp is_clone old (receives pairs nobody) new
+    pub nobody_waits : new.waiters.room ≡ []
+
+  pub received_more : (old mid new : State T P W) (before now after : List (T × P)) (count : ℕ) (pair : T × P) (handed : Handed W)
+      → Received old before count mid now → Step cmp is_clone mid call.TryRecv (answer.TryRecv (Ok pair)) handed new → after ≡ now ++ pair ∷ []
+      → Received old before (count + 1) new after
+  received_more old mid new before now after count pair handed r s is =
+      let handed_is : handed ≡ nobody = s.moves.1 ∙ ap (λ (l : List (ℕ × W)). record { room = l; message = [] }) r.nobody_waits in
+      let taken = taken_length cmp mid.pending new.pending pair s.moves.0 in
+      record {
+        pairs = r.pairs ++ pair ∷ [];
+        items = is ∙ ap (λ (l : List (T × P)). l ++ pair ∷ []) r.items ∙ append_assoc before r.pairs (pair ∷ []);
+        long = omega (arith, length-append r.pairs (pair ∷ []), r.long);
+        counted = omega (arith, taken, r.counted);
+        run = subst (λ (run : List (Operation T P W)). Run cmp is_clone old run new) (sym (receives-push r.pairs pair))
+            (Run-more cmp is_clone old mid new (receives r.pairs nobody) (record { call = call.TryRecv; answer = answer.TryRecv (Ok pair); handed = nobody }) r.run
+            (subst (λ (h : Handed W). Step cmp is_clone mid call.TryRecv (answer.TryRecv (Ok pair)) h new) handed_is s));
+        nobody_waits = ap (λ (s : State T P W). s.waiters.room) s.moves.2;
+      }
+
+  -- a first receive, which hands out all who wait for room, and then so many others
+  pub received_first : (old mid new : State T P W) (before first now pairs : List (T × P)) (pair : T × P) (handed : Handed W)
+      → Step cmp is_clone old call.TryRecv (answer.TryRecv (Ok pair)) handed mid → first ≡ before ++ pair ∷ []
+      → now ≡ first ++ pairs → ReceivesInTurn cmp is_clone mid pairs nobody new
+      → (now ≡ before ++ (pair ∷ pairs)) × ReceivesInTurn cmp is_clone old (pair ∷ pairs) handed new
+  received_first old mid new before first now pairs pair handed s is items more = (
+    items ∙ ap (λ (l : List (T × P)). l ++ pairs) is ∙ append_assoc before (pair ∷ []) pairs,
+    record { run = (mid, s, more.run); nobody_for_none = λ none. let n = ap length none in absurd (omega arith) },
+  )
+
+  none_pending : (old new : State T P W) (error : TryRecvError) (handed : Handed W)
+      → Step cmp is_clone old call.TryRecv (answer.TryRecv (Err error)) handed new → old.pending ≡ []
+  none_pending old new Empty handed s = s.moves.0
+  none_pending old new Closed handed s = s.moves.0
+
+  -- a receive that is refused compares nothing
+  pub refusal_costs : (old new : State T P W) (error : TryRecvError) (handed : Handed W)
+      → Step cmp is_clone old call.TryRecv (answer.TryRecv (Err error)) handed new → digits (length old.pending) ≡ 0
+  refusal_costs old new error handed s = ap (λ (l : List (T × P)). digits (length l)) (none_pending old new error handed s) ∙ none_costs
+
+  pub first_length : (old mid : State T P W) (pair : T × P) (handed : Handed W)
+      → Step cmp is_clone old call.TryRecv (answer.TryRecv (Ok pair)) handed mid → length old.pending ≡ length mid.pending + 1
+  first_length old mid pair handed s = taken_length cmp old.pending mid.pending pair s.moves.0
+
+-- the lesser of two numbers, each of which is one more
+pub min_next : (n x y a b : ℕ) → n ≡ min x y → x + 1 ≡ a → y + 1 ≡ b → n + 1 ≡ min a b
+min_next n x y a b e p q =
+    elim (cases_lt x y) [
+      | inl lt ↦ let m : min x y ≡ x = min-eq_left (omega arith) in let k : min a b ≡ a = min-eq_left (omega arith) in omega arith
+      | inr ge ↦ let m : min x y ≡ y = min-eq_right (omega arith) in let k : min a b ≡ b = min-eq_right (omega arith) in omega arith
+    ]
+
+-- a receive more, from a shorter bag
+pub receive_costs : (n left all : ℕ) → left ≤ all → n * (2 * digits all) + 2 * digits left ≤ (n + 1) * (2 * digits all)
+receive_costs n left all le =
+    let h = digits-mono left all le in
+    let e : (n + 1) * (2 * digits all) ≡ n * (2 * digits all) + 2 * digits all = grind arith in
+    omega (arith, h, e)
+
+-- so many receives from a shorter bag, after a first one
+pub receives_cost : (n left all : ℕ) → left ≤ all → 2 * digits all + n * (2 * digits left) ≤ (n + 1) * (2 * digits all)
+receives_cost n left all le =
+    let h = mul-le n (2 * digits left) n (2 * digits all) (omega arith) (omega (arith, digits-mono left all le)) in
+    let e : (n + 1) * (2 * digits all) ≡ n * (2 * digits all) + 2 * digits all = grind arith in
+    omega (arith, h, e)

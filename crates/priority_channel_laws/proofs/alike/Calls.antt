@@ -1,0 +1,166 @@
+-- Two calls from states that are the same, of which none waits, with as many pairs accepted.
+use Rattle.std.proofs.Common.{◌≡◌, ℕ, Bool, true, false, List, [], ◌∷◌, ◌++◌, ◌+◌, length, refl, sym, ap, ◌∙◌, inl, inr, zero, suc, arith, length-append}
+use Rattle.std.specs.Prelude.{Result, Ok, Err, ◌==◌, if◌then◌else◌}
+use Rattle.std.specs.Cmp.{IsTotalOrder}
+use Rattle.std.specs.declared.cmp.Ordering.{Ordering}
+use Rattle.priority_channel_parts.specs.declared.errors.TrySendError.{TrySendError}
+use Rattle.priority_channel_parts.specs.declared.errors.TrySendError.TheVariants as send_error
+use Rattle.priority_channel_parts.specs.declared.errors.TryRecvError.{TryRecvError}
+use Rattle.priority_channel_parts.specs.declared.errors.TryRecvError.TheVariants as recv_error
+use Rattle.priority_channel_core.specs.machine.State.{State, Handed, nobody, room}
+use Rattle.priority_channel_core.specs.machine.Sends.{Refuses, Accepts, Sends}
+use Rattle.priority_channel_core.specs.machine.OtherCalls.{Receives, Shuts, Closes, Looks, Clones, Drops}
+use Rattle.priority_channel_laws.specs.Accepted.{all_but, sent}
+use Rattle.priority_channel_laws.specs.Alike.{SameHanded, SameState}
+use Rattle.priority_channel_laws.proofs.runs.Effects.{all_but-front}
+use Rattle.priority_channel_parts.proofs.Greatest.{one_greatest}
+use Rattle.priority_channel_laws.proofs.alike.Lists.{SameList, same_after, handed_same, nobody_same, same_pending, same_closed, same_capacity}
+
+-- two splits of one list, after as many items
+split_same : {A : Type 0} (front rest before after : List A) → front ++ rest ≡ before ++ after → length before ≡ length front
+    → (before ≡ front) × (after ≡ rest)
+split_same [] rest [] after e l = (refl, sym e)
+split_same [] rest (y ∷ before) after e l = absurd (omega arith)
+split_same (x ∷ front) rest [] after e l = absurd (omega arith)
+split_same (x ∷ front) rest (y ∷ before) after e l =
+    let head : y ≡ x = cc in
+    let tail : front ++ rest ≡ before ++ after = cc in
+    let more = split_same front rest before after tail (omega arith) in
+    (rw (head, more.0) refl, more.1)
+
+module _ {T P W : Type 0} (is_clone : W → W → Type 0) where
+  -- the same parties handed out, and the same state
+  pub record Both (h h' : Handed W) (k k' : State T P W) : Type 0 where
+    pub handed : SameHanded is_clone h h'
+    pub state : SameState is_clone k k'
+
+  module _ (s r k k' : State T P W) (h h' : Handed W) (same : SameState is_clone s r) where
+    rooms : room r ≡ room s
+    rooms = rw (same_pending is_clone same, same_capacity is_clone same) refl
+
+    refuses_same : Refuses s h k → Refuses r h' k' → Both h h' k k'
+    refuses_same a b = record { handed = nobody_same is_clone h h' a.0 b.0; state = same_after is_clone k k' s r a.1 b.1 same }
+
+    accepts_same : (front : List (T × P)) → Accepts s front h k → Accepts r front h' k' → Both h h' k k'
+    accepts_same front a b =
+        record {
+          handed = handed_same is_clone h h' _ _ a.1.handed_is b.1.handed_is (handing (length front == 0));
+          state = same_after is_clone k k' _ _ a.1.new_is b.1.new_is (record {
+            waiters = record { room = same.waiters.room; message = messages (length front == 0); next_ticket = same.waiters.next_ticket };
+            others = ap (λ (x : State T P W). record x {
+              pending = x.pending ++ front;
+              accepted = x.accepted + length front;
+              waiters = record r.waiters { message = if length front == 0 then r.waiters.message else [] };
+            }) same.others;
+          });
+        }
+      where
+        handing : (b : Bool) → SameHanded is_clone (if b then nobody else record { room = []; message = s.waiters.message }) (if b then nobody else record { room = []; message = r.waiters.message })
+        handing true = record { room = tt; message = tt }
+        handing false = record { room = tt; message = same.waiters.message }
+
+        messages : (b : Bool) → SameList is_clone (if b then s.waiters.message else []) (if b then r.waiters.message else [])
+        messages true = same.waiters.message
+        messages false = tt
+
+    -- as many pairs were accepted, so the same ones were
+    fronts_same : (pairs f u g v : List (T × P)) → pairs ≡ f ++ u → pairs ≡ g ++ v → length g ≡ length f → Accepts s f h k → Accepts r g h' k'
+        → (v ≡ u) × Both h h' k k'
+    fronts_same pairs f u g v p q l a b =
+        let split = split_same f u g v (sym p ∙ q) l in
+        (split.1, accepts_same f a (rw split.0 at b))
+
+    -- how long the parts of a split are
+    parts_long : (pairs front rest : List (T × P)) → pairs ≡ front ++ rest
+        → (length pairs ≡ length front + length rest) × (length (all_but rest pairs) ≡ length front)
+    parts_long pairs front rest p = rw p (length-append front rest, ap length (all_but-front front rest))
+
+    pub sends_same : (pairs : List (T × P)) (x y : Result (Unit {0}) (TrySendError (List (T × P)))) → Sends s pairs x h k → Sends r pairs y h' k'
+        → length (sent pairs y) ≡ length (sent pairs x) → (y ≡ x) × Both h h' k k'
+    sends_same pairs (Ok d) (Ok e) a b count = (refl, accepts_same pairs a.2 b.2)
+    sends_same pairs (Ok d) (Err (send_error.Closed v)) a b count = let c = a.2.0 in let d' = b.0 in let e = same_closed is_clone same in absurd (cc)
+    sends_same pairs (Ok d) (Err (send_error.Full v)) a b count =
+        let e = rooms in let p = a.0 in let q = a.1 in let m = b.2 in let l = (parts_long pairs b.0 v b.1).0 in
+        elim b.3 [ inl z ↦ absurd (omega arith) | inr more ↦ absurd (omega arith) ]
+    sends_same pairs (Ok d) (Err (send_error.Memory v)) a b count =
+        let more = b.3 in let l = parts_long pairs b.0 v b.1 in let m = l.0 in let n = l.1 in absurd (omega arith)
+    sends_same pairs (Err (send_error.Closed u)) (Ok d) a b count = let c = b.2.0 in let d' = a.0 in let e = same_closed is_clone same in absurd (cc)
+    sends_same pairs (Err (send_error.Closed u)) (Err (send_error.Closed v)) a b count =
+        (ap (λ (z : List (T × P)). Err (send_error.Closed z)) (b.1 ∙ sym a.1), refuses_same a.2 b.2)
+    sends_same pairs (Err (send_error.Closed u)) (Err (send_error.Full v)) a b count = let c = b.4.0 in let d' = a.0 in let e = same_closed is_clone same in absurd (cc)
+    sends_same pairs (Err (send_error.Closed u)) (Err (send_error.Memory v)) a b count = let c = b.4.0 in let d' = a.0 in let e = same_closed is_clone same in absurd (cc)
+    sends_same pairs (Err (send_error.Full u)) (Ok d) a b count =
+        let e = rooms in let p = b.0 in let q = b.1 in let m = a.2 in let l = (parts_long pairs a.0 u a.1).0 in
+        elim a.3 [ inl z ↦ absurd (omega arith) | inr more ↦ absurd (omega arith) ]
+    sends_same pairs (Err (send_error.Full u)) (Err (send_error.Closed v)) a b count = let c = a.4.0 in let d' = b.0 in let e = same_closed is_clone same in absurd (cc)
+    sends_same pairs (Err (send_error.Full u)) (Err (send_error.Full v)) a b count =
+        let t = fronts_same pairs a.0 u b.0 v a.1 b.1 (b.2 ∙ (rooms ∙ sym a.2)) a.4 b.4 in
+        (ap (λ (z : List (T × P)). Err (send_error.Full z)) t.0, t.1)
+    sends_same pairs (Err (send_error.Full u)) (Err (send_error.Memory v)) a b count =
+        let e = rooms in let m = a.2 in let n = b.2 in let c = (parts_long pairs a.0 u a.1).1 in let d = (parts_long pairs b.0 v b.1).1 in absurd (omega arith)
+    sends_same pairs (Err (send_error.Memory u)) (Ok d) a b count =
+        let more = a.3 in let l = parts_long pairs a.0 u a.1 in let m = l.0 in let n = l.1 in absurd (omega arith)
+    sends_same pairs (Err (send_error.Memory u)) (Err (send_error.Closed v)) a b count = let c = a.4.0 in let d' = b.0 in let e = same_closed is_clone same in absurd (cc)
+    sends_same pairs (Err (send_error.Memory u)) (Err (send_error.Full v)) a b count =
+        let e = rooms in let m = b.2 in let n = a.2 in let c = (parts_long pairs a.0 u a.1).1 in let d = (parts_long pairs b.0 v b.1).1 in absurd (omega arith)
+    sends_same pairs (Err (send_error.Memory u)) (Err (send_error.Memory v)) a b count =
+        let c = (parts_long pairs a.0 u a.1).1 in let d = (parts_long pairs b.0 v b.1).1 in
+        let t = fronts_same pairs a.0 u b.0 v a.1 b.1 (sym d ∙ (count ∙ c)) a.4 b.4 in
+        (ap (λ (z : List (T × P)). Err (send_error.Memory z)) t.0, t.1)
+
+    -- a state with both lists handed out
+    shuts_same : (s' r' : State T P W) → SameState is_clone s' r' → Shuts s' h k → Shuts r' h' k' → Both h h' k k'
+    shuts_same s' r' e a b = record {
+      handed = handed_same is_clone h h' _ _ a.0 b.0 (record { room = e.waiters.room; message = e.waiters.message });
+      state = same_after is_clone k k' _ _ a.1 b.1 (record {
+        waiters = record { room = tt; message = tt; next_ticket = e.waiters.next_ticket };
+        others = ap (λ (x : State T P W). record x { is_closed = true; waiters = record r'.waiters { room = []; message = [] } }) e.others;
+      });
+    }
+
+    pub closes_same : (x y : Bool) → Closes s x h k → Closes r y h' k' → (y ≡ x) × Both h h' k k'
+    closes_same true true a b = (refl, shuts_same s r same a.1 b.1)
+    closes_same true false a b = let c = a.0 in let d = b.0 in let e = same_closed is_clone same in absurd (cc)
+    closes_same false true a b = let c = a.0 in let d = b.0 in let e = same_closed is_clone same in absurd (cc)
+    closes_same false false a b = (refl, refuses_same a.1 b.1)
+
+    pub looks_same : {A : Type 0} (v w x y : A) → w ≡ v → Looks s v x h k → Looks r w y h' k' → (y ≡ x) × Both h h' k k'
+    looks_same v w x y e a b = (b.0 ∙ (e ∙ sym a.0), refuses_same a.1 b.1)
+
+    pub clones_same : (n m : ℕ) (s' r' : State T P W) (x y : Bool) → m ≡ n → SameState is_clone s' r' → Clones n s' x s h k → Clones m r' y r h' k' → (y ≡ x) × Both h h' k k'
+    clones_same n m s' r' true true e g a b = (refl, record { handed = nobody_same is_clone h h' a.1 b.1; state = same_after is_clone k k' s' r' a.2 b.2 g })
+    clones_same n m s' r' true false e g a b = let c = a.0 in let d = b.0 in absurd (omega arith)
+    clones_same n m s' r' false true e g a b = let c = a.0 in let d = b.0 in absurd (omega arith)
+    clones_same n m s' r' false false e g a b = (refl, refuses_same a.1 b.1)
+
+    pub drops_same : (n : ℕ) (s' r' : State T P W) → SameState is_clone s' r' → Drops n s' h k → Drops n r' h' k' → Both h h' k k'
+    drops_same zero s' r' e a b = absurd a
+    drops_same (suc zero) s' r' e a b = shuts_same s' r' e a b
+    drops_same (suc (suc n)) s' r' e a b = record { handed = nobody_same is_clone h h' a.0 b.0; state = same_after is_clone k k' s' r' a.1 b.1 e }
+
+    module _ {cmp : P → P → Ordering} (o : IsTotalOrder cmp) where
+      nothing_taken : (pending before after : List (T × P)) (pair : T × P) → pending ≡ before ++ pair ∷ after → pending ≡ [] → ⊥
+      nothing_taken pending before after pair e f = let l = ap length e in let m = ap length f in let n = length-append before (pair ∷ after) in omega arith
+
+      pub receives_same : (x y : Result (T × P) TryRecvError) → Receives cmp s x h k → Receives cmp r y h' k' → (y ≡ x) × Both h h' k k'
+      receives_same (Ok p) (Ok q) a b =
+          let one = one_greatest o s.pending p q k.pending k'.pending a.0 (rw (same_pending is_clone same) at b.0) in (
+            ap (λ (z : T × P). Ok z) (sym one.0),
+            record {
+              handed = handed_same is_clone h h' _ _ a.1 b.1 (record { room = same.waiters.room; message = tt });
+              state = same_after is_clone k k' (record s { pending = k.pending; waiters = record s.waiters { room = [] } })
+                  (record r { pending = k'.pending; waiters = record r.waiters { room = [] } }) a.2 b.2 (record {
+                    waiters = record { room = tt; message = same.waiters.message; next_ticket = same.waiters.next_ticket };
+                    others = ap (λ (x : State T P W). record x { pending = k'.pending; waiters = record r.waiters { room = [] } }) same.others
+                        ∙ ap (λ (l : List (T × P)). record s { pending = l; waiters = record r.waiters { room = [] } }) (sym one.1);
+                  });
+            },
+          )
+      receives_same (Ok p) (Err recv_error.Closed) a b = absurd (nothing_taken _ _ _ p a.0.split (sym (same_pending is_clone same) ∙ b.0))
+      receives_same (Ok p) (Err recv_error.Empty) a b = absurd (nothing_taken _ _ _ p a.0.split (sym (same_pending is_clone same) ∙ b.0))
+      receives_same (Err recv_error.Closed) (Ok q) a b = absurd (nothing_taken _ _ _ q b.0.split (same_pending is_clone same ∙ a.0))
+      receives_same (Err recv_error.Empty) (Ok q) a b = absurd (nothing_taken _ _ _ q b.0.split (same_pending is_clone same ∙ a.0))
+      receives_same (Err recv_error.Closed) (Err recv_error.Closed) a b = (refl, refuses_same a.2 b.2)
+      receives_same (Err recv_error.Empty) (Err recv_error.Empty) a b = (refl, refuses_same a.2 b.2)
+      receives_same (Err recv_error.Closed) (Err recv_error.Empty) a b = let c = a.1 in let d = b.1 in let e = same_closed is_clone same in absurd (cc)
+      receives_same (Err recv_error.Empty) (Err recv_error.Closed) a b = let c = a.1 in let d = b.1 in let e = same_closed is_clone same in absurd (cc)

@@ -1,0 +1,158 @@
+-- Two polls from states that are the same, with as many pairs accepted and both or neither answered
+-- by Memory.
+use Rattle.std.proofs.Common.{◌≡◌, ℕ, Bool, true, false, List, [], ◌∷◌, length, refl, sym, ap, ◌∙◌, is_some}
+use Rattle.std.specs.Prelude.{Option, None, Some, Result, Ok, Err}
+use Rattle.std.specs.Cmp.{IsTotalOrder}
+use Rattle.std.specs.declared.cmp.Ordering.{Ordering}
+use Rattle.priority_channel_core.specs.declared.calls.Call.TheVariants as call
+use Rattle.priority_channel_core.specs.declared.calls.Answer.TheVariants as answer
+use Rattle.priority_channel_core.specs.declared.calls.CorePoll.{CorePoll}
+use Rattle.priority_channel_core.specs.declared.calls.CorePoll.TheVariants.{Ready, Pending}
+use Rattle.priority_channel_parts.specs.declared.errors.TrySendError.{TrySendError}
+use Rattle.priority_channel_parts.specs.declared.errors.TrySendError.TheVariants as send_error
+use Rattle.priority_channel_parts.specs.declared.errors.TryRecvError.{TryRecvError}
+use Rattle.priority_channel_parts.specs.declared.errors.TryRecvError.TheVariants as recv_error
+use Rattle.priority_channel_parts.specs.declared.errors.SendFault.{SendFault}
+use Rattle.priority_channel_parts.specs.declared.errors.SendFault.TheVariants as send_fault
+use Rattle.priority_channel_parts.specs.declared.errors.RecvFault.{RecvFault}
+use Rattle.priority_channel_parts.specs.declared.errors.RecvFault.TheVariants as recv_fault
+use Rattle.priority_channel_core.specs.machine.State.{State, Handed}
+use Rattle.priority_channel_core.specs.machine.Sends.{as_list}
+use Rattle.priority_channel_core.specs.machine.Polls.{send_answer, recv_answer, Ends, Polls}
+use Rattle.priority_channel_core.specs.machine.Step.{Moves}
+use Rattle.priority_channel_laws.specs.Accepted.{poll_sent, accepted_by}
+use Rattle.priority_channel_laws.specs.Alike.{is_memory, SameState}
+use Rattle.priority_channel_parts.specs.declared.side.Side.{Side}
+use Rattle.priority_channel_laws.proofs.runs.Effects.{poll_sent-is, accepted_one-is}
+use Rattle.priority_channel_laws.proofs.alike.Lists.{same_waiting, same_enlists}
+use Rattle.priority_channel_laws.proofs.alike.Calls.{Both, sends_same, receives_same}
+
+-- whether a poll of a send answers Memory
+pub poll_memory : {A : Type 0} → CorePoll (Result (Unit {0}) (SendFault A)) A → Bool
+poll_memory (Ready (Ok d)) = false
+poll_memory (Ready (Err (send_fault.Closed e))) = false
+poll_memory (Ready (Err (send_fault.Memory rest))) = true
+poll_memory (Pending rest ticket) = false
+
+pub is_memory-poll_sendv : {T P : Type 0} (x : CorePoll (Result (Unit {0}) (SendFault (List (T × P)))) (List (T × P))) → poll_memory x ≡ is_memory {T = T} {P = P} (answer.PollSendv x)
+unfolding poll_memory
+is_memory-poll_sendv (Ready (Ok d)) = refl
+is_memory-poll_sendv (Ready (Err (send_fault.Closed e))) = refl
+is_memory-poll_sendv (Ready (Err (send_fault.Memory rest))) = refl
+is_memory-poll_sendv (Pending rest ticket) = refl
+
+pub is_memory-poll_send : {T P : Type 0} (x : CorePoll (Result (Unit {0}) (SendFault (T × P))) (T × P)) → poll_memory x ≡ is_memory {T = T} {P = P} (answer.PollSend x)
+unfolding poll_memory
+is_memory-poll_send (Ready (Ok d)) = refl
+is_memory-poll_send (Ready (Err (send_fault.Closed e))) = refl
+is_memory-poll_send (Ready (Err (send_fault.Memory rest))) = refl
+is_memory-poll_send (Pending rest ticket) = refl
+
+-- one pair, and the list of that pair
+pub as_list_one : {A : Type 0} (x y : Result (Unit {0}) (TrySendError A)) → as_list y ≡ as_list x → y ≡ x
+as_list_one (Ok d) (Ok e) h = refl
+as_list_one (Ok d) (Err (send_error.Closed q)) h = cc
+as_list_one (Ok d) (Err (send_error.Full q)) h = cc
+as_list_one (Ok d) (Err (send_error.Memory q)) h = cc
+as_list_one (Err (send_error.Closed p)) (Ok e) h = cc
+as_list_one (Err (send_error.Closed p)) (Err (send_error.Closed q)) h = cc
+as_list_one (Err (send_error.Closed p)) (Err (send_error.Full q)) h = cc
+as_list_one (Err (send_error.Closed p)) (Err (send_error.Memory q)) h = cc
+as_list_one (Err (send_error.Full p)) (Ok e) h = cc
+as_list_one (Err (send_error.Full p)) (Err (send_error.Closed q)) h = cc
+as_list_one (Err (send_error.Full p)) (Err (send_error.Full q)) h = cc
+as_list_one (Err (send_error.Full p)) (Err (send_error.Memory q)) h = cc
+as_list_one (Err (send_error.Memory p)) (Ok e) h = cc
+as_list_one (Err (send_error.Memory p)) (Err (send_error.Closed q)) h = cc
+as_list_one (Err (send_error.Memory p)) (Err (send_error.Full q)) h = cc
+as_list_one (Err (send_error.Memory p)) (Err (send_error.Memory q)) h = cc
+
+-- one that waits, and one that was refused memory, do not answer alike
+only_one : {K : Type 0} (reply : Result (Unit {0}) (TrySendError K)) (u : ℕ) (x y : CorePoll (Result (Unit {0}) (SendFault K)) K)
+    → send_answer reply None ≡ Some x → send_answer reply (Some u) ≡ Some y → poll_memory y ≡ poll_memory x → ⊥
+unfolding poll_memory
+only_one (Ok done) u x y a b memory = cc
+only_one (Err (send_error.Closed rest)) u x y a b memory = cc
+only_one (Err (send_error.Memory rest)) u x y a b memory = cc
+only_one (Err (send_error.Full rest)) u x y a b memory =
+    let e : x ≡ Ready (Err (send_fault.Memory rest)) = cc in
+    let f : y ≡ Pending rest u = cc in
+    let m : poll_memory (Pending rest u) ≡ poll_memory (Ready (Err (send_fault.Memory rest))) = rw (e, f) at memory in
+    absurd (cc)
+
+-- of two polls whose tries replied alike, both wait or neither does, where both or neither answered
+-- Memory
+sends_wait_alike : {K : Type 0} (reply : Result (Unit {0}) (TrySendError K)) (t u : Option ℕ) (x y : CorePoll (Result (Unit {0}) (SendFault K)) K)
+    → send_answer reply t ≡ Some x → send_answer reply u ≡ Some y → poll_memory y ≡ poll_memory x → is_some u ≡ is_some t
+sends_wait_alike reply None None x y a b memory = refl
+sends_wait_alike reply (Some t) (Some u) x y a b memory = refl
+sends_wait_alike reply None (Some u) x y a b memory = absurd (only_one reply u x y a b memory)
+sends_wait_alike reply (Some t) None x y a b memory = absurd (only_one reply t y x b a (sym memory))
+
+only_one_receives : {T P : Type 0} (reply : Result (T × P) TryRecvError) (u : ℕ) (x y : CorePoll (Result (T × P) RecvFault) (Unit {0}))
+    → recv_answer reply None ≡ Some x → recv_answer reply (Some u) ≡ Some y
+    → is_memory {T = T} {P = P} (answer.PollRecv y) ≡ is_memory {T = T} {P = P} (answer.PollRecv x) → ⊥
+only_one_receives (Ok pair) u x y a b memory = cc
+only_one_receives (Err recv_error.Closed) u x y a b memory = cc
+only_one_receives {T} {P} (Err recv_error.Empty) u x y a b memory =
+    let e : x ≡ Ready (Err recv_fault.Memory) = cc in
+    let f : y ≡ Pending tt u = cc in
+    let m : false ≡ true = rw (e, f) at memory in
+    absurd (cc)
+
+recvs_wait_alike : {T P : Type 0} (reply : Result (T × P) TryRecvError) (t u : Option ℕ) (x y : CorePoll (Result (T × P) RecvFault) (Unit {0}))
+    → recv_answer reply t ≡ Some x → recv_answer reply u ≡ Some y
+    → is_memory {T = T} {P = P} (answer.PollRecv y) ≡ is_memory {T = T} {P = P} (answer.PollRecv x) → is_some u ≡ is_some t
+recvs_wait_alike reply None None x y a b memory = refl
+recvs_wait_alike reply (Some t) (Some u) x y a b memory = refl
+recvs_wait_alike {T} {P} reply None (Some u) x y a b memory = absurd (only_one_receives {T = T} {P = P} reply u x y a b memory)
+recvs_wait_alike {T} {P} reply (Some t) None x y a b memory = absurd (only_one_receives {T = T} {P = P} reply t y x b a (sym memory))
+
+module _ {T P W : Type 0} (is_clone : W → W → Type 0) {cmp : P → P → Ordering} (o : IsTotalOrder cmp) (s r k k' : State T P W) (h h' : Handed W) (same : SameState is_clone s r) where
+  -- two polls of which both wait or neither does
+  ends_same : (side : Side) (given t u : Option ℕ) (waker : W) (m m' : State T P W) → Both is_clone h h' m m' → is_some u ≡ is_some t
+      → Ends is_clone side given waker t m k → Ends is_clone side given waker u m' k' → (u ≡ t) × Both is_clone h h' k k'
+  ends_same side given t u waker m m' both alike a b =
+      let listed = same_enlists is_clone side given t u waker m.waiters k.waiters m'.waiters k'.waiters both.state.waiters alike a.0 b.0 in
+      (listed.0, record { handed = both.handed; state = same_waiting is_clone k k' m m' a.1 b.1 both.state listed.1 })
+
+  -- two polls whose tries went alike
+  polls_same : {R A : Type 0} {tries others : R → Handed W → State T P W → Type 0} {answer_by : R → Option ℕ → Option A} {side : Side} {given : Option ℕ}
+      {waker : W} {x y : A} (a : Polls is_clone tries answer_by side given waker x h k) (b : Polls is_clone others answer_by side given waker y h' k')
+      → b.reply ≡ a.reply → Both is_clone h h' a.mid b.mid
+      → (answer_by a.reply a.ticket ≡ Some x → answer_by a.reply b.ticket ≡ Some y → is_some b.ticket ≡ is_some a.ticket)
+      → (y ≡ x) × Both is_clone h h' k k'
+  polls_same {answer_by = answer_by} {side = side} {given = given} {waker = waker} {x = x} {y = y} a b replies both alike =
+      let answered : answer_by a.reply b.ticket ≡ Some y = rw replies at b.answered in
+      let ended = ends_same side given a.ticket b.ticket waker a.mid b.mid both (alike a.answered answered) a.ends b.ends in
+      let answers : Some y ≡ Some x = sym answered ∙ (ap (answer_by a.reply) ended.0 ∙ a.answered) in
+      (cc, ended.1)
+
+  pub polls_send_same : (msg : T) (priority : P) (given : Option ℕ) (waker : W) (x y : CorePoll (Result (Unit {0}) (SendFault (T × P))) (T × P))
+      → Moves cmp is_clone s (call.PollSend msg priority given waker) (answer.PollSend x) h k
+      → Moves cmp is_clone r (call.PollSend msg priority given waker) (answer.PollSend y) h' k'
+      → length (accepted_by (call.PollSend msg priority given waker) (answer.PollSend y)) ≡ length (accepted_by (call.PollSend msg priority given waker) (answer.PollSend x))
+      → poll_memory y ≡ poll_memory x → (y ≡ x) × Both is_clone h h' k k'
+  polls_send_same msg priority given waker x y a b count memory =
+      let mine = ap length (accepted_one-is msg priority given waker a.reply a.ticket x a.answered) in
+      let other = ap length (accepted_one-is msg priority given waker b.reply b.ticket y b.answered) in
+      let tries = sends_same is_clone s r a.mid b.mid h h' same ((msg, priority) ∷ []) (as_list a.reply) (as_list b.reply) a.tried b.tried (sym other ∙ (count ∙ mine)) in
+      polls_same a b (as_list_one a.reply b.reply tries.0) tries.1 (λ p q. sends_wait_alike a.reply a.ticket b.ticket x y p q memory)
+
+  pub polls_sendv_same : (pairs : List (T × P)) (given : Option ℕ) (waker : W) (x y : CorePoll (Result (Unit {0}) (SendFault (List (T × P)))) (List (T × P)))
+      → Moves cmp is_clone s (call.PollSendv pairs given waker) (answer.PollSendv x) h k
+      → Moves cmp is_clone r (call.PollSendv pairs given waker) (answer.PollSendv y) h' k'
+      → length (poll_sent pairs y) ≡ length (poll_sent pairs x) → poll_memory y ≡ poll_memory x → (y ≡ x) × Both is_clone h h' k k'
+  polls_sendv_same pairs given waker x y a b count memory =
+      let mine = ap length (poll_sent-is pairs a.reply a.ticket x a.answered) in
+      let other = ap length (poll_sent-is pairs b.reply b.ticket y b.answered) in
+      let tries = sends_same is_clone s r a.mid b.mid h h' same pairs a.reply b.reply a.tried b.tried (sym other ∙ (count ∙ mine)) in
+      polls_same a b tries.0 tries.1 (λ p q. sends_wait_alike a.reply a.ticket b.ticket x y p q memory)
+
+  pub polls_receive_same : (given : Option ℕ) (waker : W) (x y : CorePoll (Result (T × P) RecvFault) (Unit {0}))
+      → Moves cmp is_clone s (call.PollRecv given waker) (answer.PollRecv x) h k
+      → Moves cmp is_clone r (call.PollRecv given waker) (answer.PollRecv y) h' k'
+      → is_memory {T = T} {P = P} (answer.PollRecv y) ≡ is_memory {T = T} {P = P} (answer.PollRecv x) → (y ≡ x) × Both is_clone h h' k k'
+  polls_receive_same given waker x y a b memory =
+      let tries = receives_same is_clone s r a.mid b.mid h h' same o a.reply b.reply a.tried b.tried in
+      polls_same a b tries.0 tries.1 (λ p q. recvs_wait_alike a.reply a.ticket b.ticket x y p q memory)

@@ -1,0 +1,160 @@
+-- What a run does to the pending pairs.
+use Rattle.std.proofs.Common.{◌≡◌, ℕ, ◌+◌, true, false, List, [], ◌∷◌, ◌++◌, length, map, refl, ap, ◌∙◌, arith, append_assoc, inl, inr, zero, suc, replicate, length-append, add-one}
+use Rattle.std.specs.Prelude.{Result, Ok, Err}
+use Rattle.std.proofs.lemmas.List.{append-nil}
+use Rattle.std.specs.List.{All, AllByRecursion}
+use Rattle.std.specs.List.Sorted.{IsPermutation}
+use Rattle.std.proofs.lemmas.List.Sorted.{IsPermutation-refl, IsPermutation-trans, IsPermutation-append_left, IsPermutation-append_right, IsPermutation-cons, IsPermutation-middle, length_permutation, All-permutation}
+use Rattle.std.proofs.lemmas.List.Elements.{All-from_recursion, recursion_from_All}
+use Rattle.std.proofs.lemmas.List.Kept.{AllPairs-cons}
+use Rattle.std.proofs.Permutation.{every_append}
+use Rattle.std.specs.Ordering.{is_gt}
+use Rattle.std.specs.declared.cmp.Ordering.{Ordering}
+use Rattle.priority_channel_core.specs.declared.calls.Call.TheVariants as call
+use Rattle.priority_channel_core.specs.declared.calls.Answer.TheVariants as answer
+use Rattle.priority_channel_parts.specs.declared.errors.TryRecvError.{TryRecvError}
+use Rattle.priority_channel_parts.specs.declared.errors.TryRecvError.TheVariants as recv_error
+use Rattle.priority_channel_core.specs.machine.State.{State, Handed}
+use Rattle.priority_channel_core.specs.machine.OtherCalls.{Receives}
+use Rattle.priority_channel_core.specs.machine.Step.{Moves, Step, Answers}
+use Rattle.priority_channel_core.specs.machine.Run.{Operation, Run}
+use Rattle.priority_channel_parts.proofs.Heaps.{every_part}
+use Rattle.priority_channel_laws.specs.Accepted.{accepted_by, received_by, accepted_in, received_in, NeverRise}
+use Rattle.priority_channel_laws.proofs.runs.Effects.{Effect, effect}
+
+empty_parts : {A : Type 0} (xs ys : List A) → xs ++ ys ≡ [] → (xs ≡ []) × (ys ≡ [])
+empty_parts [] ys h = (refl, h)
+empty_parts (x ∷ xs) ys h = absurd (cc)
+
+map_none : {A B : Type 0} (f : A → B) (xs : List A) → map f xs ≡ [] → xs ≡ []
+map_none f [] h = refl
+map_none f (x ∷ xs) h = absurd (cc)
+
+module _ {T P W : Type 0} (cmp : P → P → Ordering) (is_clone : W → W → Type 0) where
+  step_effect : (old new : State T P W) (made : Operation T P W) → Step cmp is_clone old made.call made.answer made.handed new
+      → Effect cmp old (accepted_by made.call made.answer) (received_by made.answer) new
+  step_effect old new made step = effect cmp is_clone old new made.handed made.call made.answer step.moves
+
+  -- a run of two parts
+  pub Run-split : (old new : State T P W) (front back : List (Operation T P W)) → Run cmp is_clone old (front ++ back) new
+      → (mid : State T P W) × Run cmp is_clone old front mid × Run cmp is_clone mid back new
+  Run-split old new [] back run = (old, refl, run)
+  Run-split old new (made ∷ front) back run =
+      let r = Run-split run.0 new front back run.2 in (r.0, (run.0, run.1, r.1), r.2)
+
+  pub run_conserves : (old new : State T P W) (run : List (Operation T P W)) → Run cmp is_clone old run new
+      → IsPermutation (old.pending ++ accepted_in run) (received_in run ++ new.pending)
+  run_conserves old new [] run = rw (append-nil old.pending, run) (IsPermutation-refl old.pending)
+  run_conserves old new (made ∷ more) run =
+      let mid = run.0 in
+      let e = step_effect old mid made run.1 in
+      let a = accepted_by made.call made.answer in
+      let r = received_by made.answer in
+      rw (← append_assoc old.pending a (accepted_in more), append_assoc r (received_in more) new.pending)
+      (IsPermutation-trans _ _ _ (IsPermutation-append_left (accepted_in more) _ _ e.moves)
+      (rw (append_assoc r mid.pending (accepted_in more)) (IsPermutation-append_right r _ _ (run_conserves mid new more run.2))))
+
+  pub run_closed : (old new : State T P W) (run : List (Operation T P W)) → Run cmp is_clone old run new → old.is_closed ≡ true
+      → (new.is_closed ≡ true) × (accepted_in run ≡ [])
+  run_closed old new [] run closed = (ap (λ (s : State T P W). s.is_closed) run ∙ closed, refl)
+  run_closed old new (made ∷ more) run closed =
+      let mid = run.0 in
+      let e = (step_effect old mid made run.1).closed closed in
+      let r = run_closed mid new more run.2 e.0 in
+      (r.0, rw (e.1, r.1) refl)
+
+  -- what holds of each pending pair holds of each pair that is received before another is accepted
+  received_were_pending : (Q : T × P → Type 0) (old new : State T P W) (run : List (Operation T P W)) → Run cmp is_clone old run new
+      → accepted_in run ≡ [] → All Q old.pending → AllByRecursion Q (received_in run)
+  received_were_pending Q old new [] run none all = tt
+  received_were_pending Q old new (made ∷ more) run none all =
+      let mid = run.0 in
+      let e = step_effect old mid made run.1 in
+      let parts = empty_parts (accepted_by made.call made.answer) (accepted_in more) none in
+      let same : old.pending ++ accepted_by made.call made.answer ≡ old.pending = rw parts.0 (append-nil old.pending) in
+      let both = every_part Q (received_by made.answer) mid.pending (recursion_from_All Q _ (All-permutation Q _ _ e.moves (rw same all))) in
+      every_append Q _ _ both.0 (received_were_pending Q mid new more run.2 parts.1 (All-from_recursion Q _ both.1))
+
+  pub run_never_rises : (old new : State T P W) (run : List (Operation T P W)) → Run cmp is_clone old run new
+      → accepted_in run ≡ [] → NeverRise cmp (received_in run)
+  run_never_rises old new [] run none = λ i j d before within. absurd (omega arith)
+  run_never_rises old new (made ∷ more) run none =
+      let mid = run.0 in
+      let e = step_effect old mid made run.1 in
+      let parts = empty_parts (accepted_by made.call made.answer) (accepted_in more) none in
+      let later = run_never_rises mid new more run.2 parts.1 in
+      elim e.gives [
+        | inl nothing ↦ rw nothing later
+        | inr g ↦
+            rw g.1
+            (AllPairs-cons (λ (before later : T × P). is_gt (cmp later.1 before.1) ≡ false) g.0 (received_in more)
+            (All-from_recursion _ _ (received_were_pending (λ (other : T × P). is_gt (cmp other.1 g.0.1) ≡ false) mid new more run.2 parts.1 g.2)) later)
+      ]
+
+  pub between_never_rises : (old new : State T P W) (before between after : List (Operation T P W))
+      → Run cmp is_clone old (before ++ between ++ after) new → accepted_in between ≡ [] → NeverRise cmp (received_in between)
+  between_never_rises old new before between after run none =
+      let first = Run-split old new (before ++ between) after run in
+      let second = Run-split old first.0 before between first.1 in
+      run_never_rises second.0 first.0 between second.2 none
+
+  -- a try_recv is answered as a receive
+  answered : (old new : State T P W) (handed : Handed W) (reply : Answers T P) → Moves cmp is_clone old call.TryRecv reply handed new
+      → (told : Result (T × P) TryRecvError) × (reply ≡ answer.TryRecv told) × Receives cmp old told handed new
+  answered old new handed (answer.TryRecv told) h = (told, refl, h)
+  answered old new handed reply h = absurd h
+
+  -- what n pending pairs and n + 1 receives of a closed channel give
+  record Drained (pending : List (T × P)) (run : List (Operation T P W)) : Type 0 where
+    pairs : List (T × P)
+    all : IsPermutation pending pairs
+    given : received_in run ≡ pairs
+    answers : map (λ (made : Operation T P W). made.answer) run ≡ map (λ (pair : T × P). answer.TryRecv (Ok pair)) pairs ++ answer.TryRecv (Err recv_error.Closed) ∷ []
+
+  step_received : (old new : State T P W) (made : Operation T P W) → Step cmp is_clone old made.call made.answer made.handed new → made.call ≡ call.TryRecv
+      → (told : Result (T × P) TryRecvError) × (made.answer ≡ answer.TryRecv told) × Receives cmp old told made.handed new
+  step_received old new made step is = answered old new made.handed made.answer (rw is at step.moves)
+
+  none_left : (old mid : State T P W) (made : Operation T P W) (more : List (Operation T P W)) → old.is_closed ≡ true → length old.pending ≡ 0
+      → (told : Result (T × P) TryRecvError) → made.answer ≡ answer.TryRecv told → Receives cmp old told made.handed mid → more ≡ [] → Drained old.pending (made ∷ more)
+  none_left old mid made more closed long (Err recv_error.Closed) is h end =
+      record { pairs = []; all = rw h.0 (IsPermutation-refl []); given = rw (is, end) refl; answers = rw (is, end) refl }
+  none_left old mid made more closed long (Err recv_error.Empty) is h end = let e = h.1 in absurd (cc)
+  none_left old mid made more closed long (Ok pair) is h end =
+      let taken = h.0 in
+      let l = ap length taken.split in let m = length-append taken.before (pair ∷ taken.after) in absurd (omega arith)
+
+  drains : (n : ℕ) (old new : State T P W) (run : List (Operation T P W)) → Run cmp is_clone old run new → old.is_closed ≡ true → length old.pending ≡ n
+      → map (λ (made : Operation T P W). made.call) run ≡ replicate (suc n) call.TryRecv → Drained old.pending run
+  drains n old new [] run closed long same = absurd (cc)
+  drains zero old new (made ∷ more) run closed long same =
+      let t = step_received old run.0 made run.1 (cc) in
+      none_left old run.0 made more closed long t.0 t.1 t.2 (map_none (λ (made : Operation T P W). made.call) more (cc))
+  drains (suc n) old new (made ∷ more) run closed long same =
+      let t = step_received old run.0 made run.1 (cc) in
+      one_more n old run.0 made more closed long t.0 t.1 t.2 (λ c l. drains n run.0 new more run.2 c l (cc))
+    where
+      one_more : (n : ℕ) (old mid : State T P W) (made : Operation T P W) (more : List (Operation T P W)) → old.is_closed ≡ true → length old.pending ≡ suc n
+          → (told : Result (T × P) TryRecvError) → made.answer ≡ answer.TryRecv told → Receives cmp old told made.handed mid
+          → (mid.is_closed ≡ true → length mid.pending ≡ n → Drained mid.pending more) → Drained old.pending (made ∷ more)
+      one_more n old mid made more closed long (Err recv_error.Closed) is h next = let e = ap length h.0 in absurd (omega arith)
+      one_more n old mid made more closed long (Err recv_error.Empty) is h next = let e = h.1 in absurd (cc)
+      one_more n old mid made more closed long (Ok pair) is h next =
+          let taken = h.0 in
+          let perm : IsPermutation old.pending (pair ∷ mid.pending) = rw (taken.split, taken.closed_up) (IsPermutation-middle taken.before pair taken.after) in
+          let r = next (ap (λ (s : State T P W). s.is_closed) h.2 ∙ closed) (let l = length_permutation _ _ perm in omega arith) in
+          record {
+            pairs = pair ∷ r.pairs;
+            all = IsPermutation-trans _ _ _ perm (IsPermutation-cons pair _ _ r.all);
+            given = rw (is, r.given) refl;
+            answers = rw (is, r.answers) refl;
+          }
+
+  -- a closed channel gives what is pending, and then nothing
+  pub run_drains : (old new : State T P W) (run : List (Operation T P W)) → Run cmp is_clone old run new → old.is_closed ≡ true
+      → map (λ (made : Operation T P W). made.call) run ≡ replicate (length old.pending + 1) call.TryRecv
+      → (pairs : List (T × P)) × IsPermutation old.pending pairs × NeverRise cmp pairs
+      × (map (λ (made : Operation T P W). made.answer) run ≡ map (λ (pair : T × P). answer.TryRecv (Ok pair)) pairs ++ answer.TryRecv (Err recv_error.Closed) ∷ [])
+  run_drains old new run is closed same =
+      let d = drains (length old.pending) old new run is closed refl (rw add-one at same) in
+      (d.pairs, d.all, rw (← d.given) (run_never_rises old new run is (run_closed old new run is closed).1), d.answers)

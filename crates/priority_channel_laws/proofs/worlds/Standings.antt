@@ -1,0 +1,125 @@
+-- A future ends, or waits: what this changes in a world.
+use Rattle.std.proofs.Common.{eq-eqb, ◌≡◌, ◌≢◌, ℕ, ◌<◌, ◌⊎◌, true, false, List, refl, ap, sym, ◌∙◌, inl, inr, arith}
+use Rattle.std.specs.Prelude.{Option, Some, None, slice_get, ◌==◌}
+use Rattle.std.specs.List.{All}
+use Rattle.std.proofs.lemmas.Bool.{ne_eqb}
+use Rattle.std.proofs.lemmas.Bool.Decides.{eqb_tells}
+use Rattle.priority_channel_parts.specs.Waiting.{without_given, listing}
+use Rattle.priority_channel_laws.specs.WaitingLaw.{waker_of}
+use Rattle.priority_channel_laws.specs.Future.{Futures, ticket_of}
+use Rattle.priority_channel_laws.specs.Future.Standing.{Waiting, Done}
+use Rattle.priority_channel_parts.specs.declared.side.Side.{Side}
+use Rattle.priority_channel_laws.specs.WaitingLaw.{side_of}
+use Rattle.priority_channel_parts.specs.declared.side.Side.TheVariants.{Room, Message}
+use Rattle.priority_channel_laws.proofs.worlds.Positions.{Some-same}
+use Rattle.priority_channel_laws.proofs.worlds.Lookups.{put, waker_of-without, waker_of-listing, waker_of-listed, ticket_listed}
+use Rattle.priority_channel_laws.proofs.worlds.Worlds.{Keeps, Changes}
+
+-- the list of a side, once a given ticket has left it
+gone : {W : Type 0} (xs : List (ℕ × W)) (given : Option ℕ) (t : ℕ) → given ≢ Some t → waker_of t (without_given given xs) ≡ waker_of t xs
+gone xs None t ne = refl
+gone xs (Some u) t ne = let n : (u == t) ≡ false = ne_eqb u t (λ e. ne (ap Some e)) in waker_of-without xs u t ∙ rw n refl
+
+gone_only : {W : Type 0} (xs : List (ℕ × W)) (given : Option ℕ) (t : ℕ) (k : W) → waker_of t (without_given given xs) ≡ Some k → (waker_of t xs ≡ Some k) × (given ≢ Some t)
+gone_only xs None t k h = (h, λ e. cc)
+gone_only xs (Some u) t k h =
+    let p : put u t None (waker_of t xs) ≡ Some k = sym (waker_of-without xs u t) ∙ h in
+    elim (eqb_tells u t) [
+      | inl e ↦ let r = e.0 in let n : None ≡ Some k = rw r at p in absurd (cc)
+      | inr e ↦ let r = e.0 in (rw r at p, λ q. e.1 (cc))
+    ]
+
+same_side : (a b : Side) → (a ≡ b) ⊎ (a ≢ b)
+same_side Room Room = inl refl
+same_side Room Message = inr (λ e. cc)
+same_side Message Room = inr (λ e. cc)
+same_side Message Message = inl refl
+
+module _ {T P W : Type 0} (is_clone : W → W → Type 0) where
+  pub Keeps-same : (lists lists' : Side → List (ℕ × W)) (next next' : ℕ) (futures : List (Futures T P W))
+      → ((side : Side) → lists' side ≡ lists side) → next' ≡ next → Keeps is_clone lists next futures → Keeps is_clone lists' next' futures
+  Keeps-same lists lists' next next' futures same e k = record {
+    kept = λ i f t w at waits. let o = k.kept i f t w at waits in (o.0, o.1, ap (waker_of t) (same (side_of f.task)) ∙ o.2);
+    listed = λ side t kept here. k.listed side t kept (ap (waker_of t) (sym (same side)) ∙ here);
+    below = λ i f t at has. let b = k.below i f t at has in omega arith;
+    differ = k.differ;
+  }
+
+  module _ (lists : Side → List (ℕ × W)) (next : ℕ) (futures : List (Futures T P W)) (keeps : Keeps is_clone lists next futures)
+      (i : ℕ) (f g : Futures T P W) (at : slice_get futures i ≡ Some f) where
+    -- a future ends, and its ticket leaves both lists
+    pub ends : (given : Option ℕ) → given ≡ ticket_of f.standing → g.standing ≡ Done
+        → Changes is_clone lists next futures keeps i f g at (λ side. without_given given (lists side)) next
+    ends given own done = record {
+      grows = omega arith;
+      same = λ side t lt ne. gone (lists side) given t (λ e. ne (sym own ∙ e));
+      own = λ t w waits. absurd (cc);
+      only = λ side t k here. let r = gone_only (lists side) given t k here in inl (r.0, λ e. r.1 (own ∙ e));
+      ticket = λ t has. let n : None ≡ Some t = rw done at has in absurd (cc);
+    }
+
+    -- a future waits, under its own ticket or the next one
+    pub waits : (given : Option ℕ) (kept waker : W) (side : Side) (lists' : Side → List (ℕ × W)) (next' : ℕ)
+        → given ≡ ticket_of f.standing → is_clone waker kept → side_of f.task ≡ side → side_of g.task ≡ side
+        → All (λ a. a.0 < next) (lists side)
+        → lists' side ≡ (listing given kept (lists side) next).waiters
+        → ((other : Side) → other ≢ side → lists' other ≡ lists other)
+        → next' ≡ (listing given kept (lists side) next).next_ticket
+        → g.standing ≡ Waiting (listing given kept (lists side) next).ticket waker
+        → Changes is_clone lists next futures keeps i f g at lists' next'
+    waits given kept waker side lists' next' own clone on_side goes_on below mine others nexts stands =
+        let xs = lists side in
+        let l = listing given kept xs next in
+        let p = (ticket_listed xs given kept next).own_or_next in
+        record {
+          grows = elim p [ inl a ↦ let e = a.1 in omega arith | inr b ↦ let e = b.1 in omega arith ];
+          same = λ s t lt ne.
+              elim (same_side s side) [
+                | inl e ↦
+                    let n : (l.ticket == t) ≡ false = ne_eqb l.ticket t (λ q. elim p [ inl a ↦ ne (sym own ∙ (a.0 ∙ ap Some q)) | inr b ↦ let c = b.0 in absurd (omega arith) ]) in
+                    rw e (ap (waker_of t) mine ∙ (waker_of-listing xs given kept next t below ∙ rw n refl))
+                | inr ne ↦ ap (waker_of t) (others s ne)
+              ];
+          own = λ t w is.
+              let q : l.ticket ≡ t = cc in let v : waker ≡ w = cc in
+              let r : (l.ticket == l.ticket) ≡ true = eq-eqb l.ticket l.ticket refl in
+              (kept, rw (← v) clone, rw (goes_on, ← q) (ap (waker_of l.ticket) mine ∙ (waker_of-listing xs given kept next l.ticket below ∙ rw r refl)));
+          only = λ s t k here.
+              elim (same_side s side) [
+                | inl e ↦
+                    let w : waker_of t (lists' side) ≡ Some k = rw e at here in
+                    let put_is : put l.ticket t (Some kept) (waker_of t xs) ≡ Some k = sym (ap (waker_of t) mine ∙ waker_of-listing xs given kept next t below) ∙ w in
+                    elim (eqb_tells l.ticket t) [
+                      | inl q ↦
+                          let r = q.0 in let v : Some kept ≡ Some k = rw r at put_is in let same : kept ≡ k = cc in
+                          inr (waker, goes_on ∙ sym e, stands ∙ ap (λ (u : ℕ). Waiting u waker) q.1, rw (← same) clone)
+                      | inr q ↦
+                          let r = q.0 in let old : waker_of t xs ≡ Some k = rw r at put_is in
+                          inl (
+                            rw e old,
+                            λ has. elim p [
+                              | inl a ↦ let z : l.ticket ≡ t = cc (own) in q.1 z
+                              | inr b ↦ let z = b.2 t (own ∙ has) in let y = waker_of-listed xs t k old in absurd (cc)
+                            ],
+                          )
+                    ]
+                | inr ne ↦
+                    let old : waker_of t (lists s) ≡ Some k = ap (waker_of t) (sym (others s ne)) ∙ here in
+                    inl (
+                      old,
+                      λ has.
+                          let found = keeps.listed s t k old in
+                          let same : i ≡ found.which = keeps.differ i found.which f found.future t at found.there has (ap ticket_of found.waits) in
+                          let one : f ≡ found.future = Some-same _ f found.future at (ap (slice_get futures) same ∙ found.there) in
+                          ne (sym found.on_side ∙ (sym (ap (λ (x : Futures T P W). side_of x.task) one) ∙ on_side)),
+                    )
+              ];
+          ticket = λ t has.
+              let q : l.ticket ≡ t = cc in
+              elim p [
+                | inl a ↦
+                    let mine : ticket_of f.standing ≡ Some t = sym own ∙ (a.0 ∙ ap Some q) in
+                    let b = keeps.below i f t at mine in let e = a.1 in (omega arith, inl mine)
+                | inr b ↦ let c = b.0 in let d = b.1 in (omega arith, inr (omega arith))
+              ];
+        }
