@@ -26,7 +26,12 @@ impl<T, P: Ord, R: Wait + Clone, A: Allocator + Copy> Receiver<T, P, R, A> {
     /// `for pair in &rx` has.
     ///
     /// ```
+    /// let (tx, rx) = bounded(&rt, rt.alloc(), 1)?;
+    /// let sending = thread::spawn(&rt, move || tx.send_blocking("Foo", 0))?;
     /// let (job, priority) = rx.recv_blocking()?;
+    /// assert_eq!(rt; (job, priority), ("Foo", 0));
+    /// assert_eq!(rt; sending.join(&rt), Ok(()));
+    /// assert_eq!(rt; rx.recv_blocking(), Err(RecvFault::Closed(RecvError)));
     /// ```
     pub fn recv_blocking(&self) -> Result<(T, P), RecvFault> {
         Ok(self.handle.wait(Receive, &Endless, &mut None)?)
@@ -40,11 +45,13 @@ impl<T, P: Ord, R: Wait + Clone, A: Allocator + Copy> Receiver<T, P, R, A> {
     /// clock cannot be read.
     ///
     /// ```
-    /// match rx.recv_timeout(Duration::from_millis(50)) {
-    ///     Ok((job, priority)) => work(job, priority),
-    ///     Err(RecvTimeoutError::Timeout) => rest(),
-    ///     Err(error) => return Err(error.into()),
-    /// }
+    /// let (tx, rx) = bounded(&rt, rt.alloc(), 1)?;
+    /// let limit = Duration::from_millis(5);
+    /// assert_eq!(rt; rx.recv_timeout(limit), Err(RecvTimeoutError::Timeout));
+    /// tx.try_send("Foo", 0)?;
+    /// assert_eq!(rt; rx.recv_timeout(limit), Ok(("Foo", 0)));
+    /// drop(tx);
+    /// assert_eq!(rt; rx.recv_timeout(limit), Err(RecvTimeoutError::Closed));
     /// ```
     pub fn recv_timeout(&self, timeout: Duration) -> Result<(T, P), RecvTimeoutError>
     where
@@ -55,6 +62,16 @@ impl<T, P: Ord, R: Wait + Clone, A: Allocator + Copy> Receiver<T, P, R, A> {
     }
 
     /// As `recv_timeout`, but waits no longer than until then.
+    ///
+    /// ```
+    /// let (tx, rx) = bounded(&rt, rt.alloc(), 1)?;
+    /// tx.try_send("Foo", 0)?;
+    /// let limit = Duration::from_millis(5);
+    /// let deadline = Instant::now(&rt)?.checked_add(limit).ok_or("too late")?;
+    /// assert_eq!(rt; rx.recv_deadline(deadline), Ok(("Foo", 0)));
+    /// assert_eq!(rt; rx.recv_deadline(deadline), Err(RecvTimeoutError::Timeout));
+    /// assert!(rt; deadline <= Instant::now(&rt)?);
+    /// ```
     pub fn recv_deadline(&self, deadline: Instant) -> Result<(T, P), RecvTimeoutError>
     where
         R: Clock,
@@ -72,7 +89,12 @@ impl<T, P: Ord, R: Wait + Clone, A: Allocator + Copy> Sender<T, P, R, A> {
     /// It holds up an executor: a task uses `send`.
     ///
     /// ```
+    /// let (tx, rx) = bounded(&rt, rt.alloc(), 1)?;
     /// tx.send_blocking("Foo", 0)?;
+    /// let sending = thread::spawn(&rt, move || tx.send_blocking("Bar", 2))?;
+    /// assert_eq!(rt; rx.recv_blocking(), Ok(("Foo", 0)));
+    /// assert_eq!(rt; rx.recv_blocking(), Ok(("Bar", 2)));
+    /// assert_eq!(rt; sending.join(&rt), Ok(()));
     /// ```
     pub fn send_blocking(&self, msg: T, priority: P) -> Result<(), SendFault<(T, P)>>
         ensures { IfErr result (λ fault. unsent fault ≡ (msg, priority)) }
@@ -88,11 +110,14 @@ impl<T, P: Ord, R: Wait + Clone, A: Allocator + Copy> Sender<T, P, R, A> {
     /// clock cannot be read.
     ///
     /// ```
-    /// match tx.send_timeout(job, 7, Duration::from_millis(50)) {
-    ///     Ok(()) => {}
-    ///     Err(SendTimeoutError::Timeout((job, priority))) => put_off(job, priority),
-    ///     Err(error) => return Err(error.into()),
-    /// }
+    /// let (tx, rx) = bounded(&rt, rt.alloc(), 1)?;
+    /// let limit = Duration::from_millis(5);
+    /// tx.send_timeout("Foo", 0, limit)?;
+    /// let late = tx.send_timeout("Bar", 2, limit);
+    /// assert_eq!(rt; late, Err(SendTimeoutError::Timeout(("Bar", 2))));
+    /// drop(rx);
+    /// let late = tx.send_timeout("Bar", 2, limit);
+    /// assert_eq!(rt; late, Err(SendTimeoutError::Closed(("Bar", 2))));
     /// ```
     pub fn send_timeout(
         &self,
@@ -109,6 +134,14 @@ impl<T, P: Ord, R: Wait + Clone, A: Allocator + Copy> Sender<T, P, R, A> {
     }
 
     /// As `send_timeout`, but waits no longer than until then.
+    ///
+    /// ```
+    /// let limit = Duration::from_millis(5);
+    /// let deadline = Instant::now(&rt)?.checked_add(limit).ok_or("too late")?;
+    /// tx.send_deadline("Foo", 0, deadline)?;
+    /// let refused = tx.send_deadline("Bar", 2, deadline);
+    /// assert_eq!(rt; refused, Err(SendTimeoutError::Timeout(("Bar", 2))));
+    /// ```
     pub fn send_deadline(
         &self,
         msg: T,
@@ -130,8 +163,12 @@ impl<T: Drop, P: Ord + Drop, R: Wait + Clone, A: Allocator + Copy> Sender<T, P, 
     /// iterator is called and dropped as by `try_sendv`.
     ///
     /// ```
-    /// let jobs = vec![in rt.alloc(); ("compile", 2), ("link", 1)]?;
-    /// tx.sendv_blocking(jobs.into_iter().peekable())?;
+    /// let (tx, rx) = bounded(&rt, rt.alloc(), 1)?;
+    /// let jobs = [("compile", 1), ("link", 2)].into_iter().peekable();
+    /// let sending = thread::spawn(&rt, move || tx.sendv_blocking(jobs).is_ok())?;
+    /// assert_eq!(rt; rx.recv_blocking(), Ok(("compile", 1)));
+    /// assert_eq!(rt; rx.recv_blocking(), Ok(("link", 2)));
+    /// assert!(rt; sending.join(&rt));
     /// ```
     pub fn sendv_blocking<I: Iterator<Item = (T, P)>>(
         &self,
@@ -147,6 +184,17 @@ impl<T: Drop, P: Ord + Drop, R: Wait + Clone, A: Allocator + Copy> Sender<T, P, 
 
     /// As `sendv_blocking`, but waits no longer than that, with the limits of `send_timeout`. The
     /// rest that comes back can be sent again.
+    ///
+    /// ```
+    /// let (tx, rx) = bounded(&rt, rt.alloc(), 1)?;
+    /// let jobs = [("compile", 1), ("link", 2)].into_iter().peekable();
+    /// if let Err(error) = tx.sendv_timeout(jobs, Duration::from_millis(5)) {
+    ///     assert!(rt; error.is_timeout());
+    ///     assert_eq!(rt; rx.try_recv(), Ok(("compile", 1)));
+    ///     assert!(rt; tx.try_sendv(error.into_inner()).is_ok());
+    /// }
+    /// assert_eq!(rt; rx.try_recv(), Ok(("link", 2)));
+    /// ```
     pub fn sendv_timeout<I: Iterator<Item = (T, P)>>(
         &self,
         msgs: Peekable<I>,
@@ -164,6 +212,16 @@ impl<T: Drop, P: Ord + Drop, R: Wait + Clone, A: Allocator + Copy> Sender<T, P, 
     }
 
     /// As `sendv_timeout`, but waits no longer than until then.
+    ///
+    /// ```
+    /// let now = Instant::now(&rt)?;
+    /// let jobs = [("compile", 1), ("link", 2)].into_iter().peekable();
+    /// if let Err(error) = tx.sendv_deadline(jobs, now) {
+    ///     assert!(rt; error.is_timeout());
+    ///     assert_eq!(rt; error.into_inner().next(), Some(("link", 2)));
+    /// }
+    /// assert_eq!(rt; rx.try_recv(), Ok(("compile", 1)));
+    /// ```
     pub fn sendv_deadline<I: Iterator<Item = (T, P)>>(
         &self,
         msgs: Peekable<I>,

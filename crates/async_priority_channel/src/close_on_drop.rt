@@ -7,6 +7,14 @@ use std::sync::Wait;
 
 /// Closes the channel where it is dropped, so that nobody waits for a party that has failed.
 /// `Sender::close_on_drop` and `Receiver::close_on_drop` make it.
+///
+/// ```
+/// fn first<R: Wait + Clone>(rx: &Receiver<u64, u64, R>) -> Result<u64, TryRecvError> {
+///     let _guard = rx.close_on_drop();
+///     let (number, _) = rx.try_recv()?;
+///     Ok(number)
+/// }
+/// ```
 #[must_use = "it closes the channel as soon as it is dropped"]
 pub struct CloseOnDrop<'a, T, P: Ord, R: Wait + Clone, A: Allocator + Copy = Global> {
     handle: &'a Handle<T, P, R, A>,
@@ -29,10 +37,13 @@ impl<T, P: Ord, R: Wait + Clone, A: Allocator + Copy> Sender<T, P, R, A> {
     /// be received.
     ///
     /// ```
-    /// let _guard = tx.close_on_drop();
-    /// for job in plan(&file)? {
-    ///     tx.send_blocking(job, 0)?;
-    /// }
+    /// let (tx, rx) = unbounded(&rt, rt.alloc())?;
+    /// let other = tx.clone()?;
+    /// let guard = tx.close_on_drop();
+    /// other.try_send("Foo", 0)?;
+    /// drop(guard);
+    /// assert!(rt; other.is_closed());
+    /// assert_eq!(rt; rx.try_recv(), Ok(("Foo", 0)));
     /// ```
     pub fn close_on_drop(&self) -> CloseOnDrop<'_, T, P, R, A> {
         CloseOnDrop {
@@ -48,10 +59,13 @@ impl<T, P: Ord, R: Wait + Clone, A: Allocator + Copy> Receiver<T, P, R, A> {
     /// hold the means of an answer, and who waits for that answer then learns that none comes.
     ///
     /// ```
-    /// let _guard = requests.close_on_drop();
-    /// for (request, _) in &requests {
-    ///     request.answer.try_send(serve(&request)?, 0)?;
-    /// }
+    /// let (answer, answers) = unbounded::<&str, u64, _, _>(&rt, rt.alloc())?;
+    /// let (tx, requests) = unbounded(&rt, rt.alloc())?;
+    /// assert!(rt; tx.try_send(answer, 0).is_ok());
+    /// let guard = requests.close_on_drop();
+    /// drop(guard);
+    /// drop(requests);
+    /// assert_eq!(rt; answers.try_recv(), Err(TryRecvError::Closed));
     /// ```
     pub fn close_on_drop(&self) -> CloseOnDrop<'_, T, P, R, A> {
         CloseOnDrop {

@@ -77,6 +77,15 @@ fn pause<R: Wait>(rt: &R) {
 ///
 /// It never fails: where memory for waiting is refused, it sleeps for a millisecond and looks
 /// again. Its waits share what keeps them in the waiting list.
+///
+/// ```
+/// let (tx, rx) = bounded(&rt, rt.alloc(), 1)?;
+/// let sending = thread::spawn(&rt, move || tx.send_blocking("Foo", 0))?;
+/// for (job, priority) in &rx {
+///     assert_eq!(rt; (job, priority), ("Foo", 0));
+/// }
+/// assert_eq!(rt; sending.join(&rt), Ok(()));
+/// ```
 #[must_use = "it receives nothing until it is asked for the next message"]
 pub struct Iter<'a, T, P: Ord, R: Wait + Clone, A: Allocator + Copy = Global> {
     receiver: &'a Receiver<T, P, R, A>,
@@ -106,6 +115,17 @@ impl<'a, T, P: Ord, R: Wait + Clone, A: Allocator + Copy> Iterator for Iter<'a, 
 impl<'a, T, P: Ord, R: Wait + Clone, A: Allocator + Copy> FusedIterator for Iter<'a, T, P, R, A> {}
 
 /// As `Iter`, with a receiver of its own, which goes with it. `for pair in rx` makes it.
+///
+/// ```
+/// let (tx, rx) = unbounded(&rt, rt.alloc())?;
+/// tx.try_send("Foo", 0)?;
+/// for (job, priority) in rx {
+///     assert_eq!(rt; (job, priority), ("Foo", 0));
+///     assert_eq!(rt; tx.receiver_count(), 1);
+///     tx.close();
+/// }
+/// assert_eq!(rt; tx.receiver_count(), 0);
+/// ```
 #[derive(Drop)]
 #[must_use = "it receives nothing until it is asked for the next message"]
 pub struct IntoIter<T, P: Ord, R: Wait + Clone, A: Allocator + Copy = Global> {
@@ -129,6 +149,15 @@ impl<T: Drop, P: Ord + Drop, R: Wait + Clone, A: Allocator + Copy> FusedIterator
 
 /// The messages that are there, until none is. `Receiver::try_iter` makes it. Once it has found
 /// none, it stays ended.
+///
+/// ```
+/// let (tx, rx) = unbounded(&rt, rt.alloc())?;
+/// let mut there = rx.try_iter();
+/// assert_eq!(rt; there.next(), None);
+/// tx.try_send("Foo", 0)?;
+/// assert_eq!(rt; there.next(), None);
+/// assert_eq!(rt; rx.try_iter().next(), Some(("Foo", 0)));
+/// ```
 #[must_use = "it receives nothing until it is asked for the next message"]
 pub struct TryIter<'a, T, P: Ord, R: Wait + Clone, A: Allocator + Copy = Global> {
     receiver: &'a Receiver<T, P, R, A>,
@@ -196,9 +225,14 @@ impl<T, P: Ord, R: Wait + Clone, A: Allocator + Copy> Receiver<T, P, R, A> {
     /// and empty. It is what a worker's loop goes over, and its proof sees that the loop ends.
     ///
     /// ```
-    /// for (job, priority) in rx.iter() {
-    ///     work(job, priority);
-    /// }
+    /// let (tx, rx) = unbounded(&rt, rt.alloc())?;
+    /// tx.try_send("tidy up", 1)?;
+    /// tx.try_send("put out the fire", 9)?;
+    /// drop(tx);
+    /// let mut jobs = rx.iter().map(|(job, _)| job);
+    /// assert_eq!(rt; jobs.next(), Some("put out the fire"));
+    /// assert_eq!(rt; jobs.next(), Some("tidy up"));
+    /// assert_eq!(rt; jobs.next(), None);
     /// ```
     pub fn iter(&self) -> Iter<'_, T, P, R, A> {
         Iter {
@@ -210,9 +244,14 @@ impl<T, P: Ord, R: Wait + Clone, A: Allocator + Copy> Receiver<T, P, R, A> {
     /// The messages that are there, until none is. It never waits.
     ///
     /// ```
-    /// for (job, priority) in rx.try_iter() {
-    ///     put_off(job, priority);
+    /// let (tx, rx) = unbounded(&rt, rt.alloc())?;
+    /// tx.try_send("tidy up", 1)?;
+    /// tx.try_send("put out the fire", 9)?;
+    /// let mut done = Vec::new(rt.alloc());
+    /// for (job, _) in rx.try_iter() {
+    ///     done.push(job)?;
     /// }
+    /// assert_eq!(rt; done.as_slice(), ["put out the fire", "tidy up"].as_slice());
     /// ```
     pub fn try_iter(&self) -> TryIter<'_, T, P, R, A> {
         TryIter {

@@ -25,8 +25,13 @@ impl<T, P: Ord, R: Wait + Clone, A: Allocator + Copy> Receiver<T, P, R, A> {
     /// where it is refused, as many come as there is capacity for.
     ///
     /// ```
-    /// let mut jobs = Vec::new(rt.alloc());
-    /// let count = rx.try_recv_many(&mut jobs, 64)?;
+    /// let (tx, rx) = unbounded(&rt, rt.alloc())?;
+    /// let jobs = [("compile", 2), ("link", 1), ("test", 3)];
+    /// tx.try_sendv(jobs.into_iter().peekable())?;
+    /// let mut batch = Vec::new(rt.alloc());
+    /// assert_eq!(rt; rx.try_recv_many(&mut batch, 2), Ok(2));
+    /// assert_eq!(rt; batch.as_slice(), [("test", 3), ("compile", 2)].as_slice());
+    /// assert_eq!(rt; rx.len(), 1);
     /// ```
     pub fn try_recv_many<B: Allocator>(
         &self,
@@ -57,7 +62,14 @@ impl<T, P: Ord, R: Wait + Clone, A: Allocator + Copy> Receiver<T, P, R, A> {
     /// there by then.
     ///
     /// ```
-    /// let count = rx.recv_many_blocking(&mut jobs, 64)?;
+    /// let (tx, rx) = bounded(&rt, rt.alloc(), 10)?;
+    /// let sending = thread::spawn(&rt, move || tx.send_blocking("Foo", 0))?;
+    /// let mut batch = Vec::new(rt.alloc());
+    /// assert_eq!(rt; rx.recv_many_blocking(&mut batch, 64), Ok(1));
+    /// assert_eq!(rt; batch.pop(), Some(("Foo", 0)));
+    /// assert_eq!(rt; sending.join(&rt), Ok(()));
+    /// let ended = rx.recv_many_blocking(&mut batch, 64);
+    /// assert_eq!(rt; ended, Err(RecvFault::Closed(RecvError)));
     /// ```
     pub fn recv_many_blocking<B: Allocator>(
         &self,
@@ -128,7 +140,13 @@ impl<T, P: Ord, R: Wait + Clone, A: Allocator + Copy> Receiver<T, P, R, A> {
     /// it has answered, it takes nothing.
     ///
     /// ```
-    /// let count = block_on(&rt, rx.recv_many(&mut jobs, 64))??;
+    /// let (tx, rx) = unbounded(&rt, rt.alloc())?;
+    /// let jobs = [("compile", 2), ("link", 1), ("test", 3)];
+    /// tx.try_sendv(jobs.into_iter().peekable())?;
+    /// let mut batch = Vec::new(rt.alloc());
+    /// let count = block_on(&rt, rx.recv_many(&mut batch, 64))??;
+    /// assert_eq!(rt; count, 3);
+    /// assert_eq!(rt; batch.first(), Some(&("test", 3)));
     /// ```
     pub fn recv_many<'a, B: Allocator>(
         &'a self,
@@ -159,6 +177,16 @@ fn reserve<X, B: Allocator>(batch: &mut Vec<X, B>, limit: usize, pending: u64)
 ///
 /// Polled again after its answer it is pending, changes nothing, and asks to be polled once more,
 /// so it should not be polled on.
+///
+/// ```
+/// let (tx, rx) = unbounded(&rt, rt.alloc())?;
+/// let mut batch = Vec::new(rt.alloc());
+/// let mut receiving = rx.recv_many(&mut batch, 64);
+/// assert_eq!(rt; block_on(&rt, poll_immediate(&mut receiving))?, None);
+/// let jobs = [("compile", 2), ("link", 1)];
+/// tx.try_sendv(jobs.into_iter().peekable())?;
+/// assert_eq!(rt; block_on(&rt, receiving)?, Ok(2));
+/// ```
 #[must_use = "a future does nothing until it is polled: `block_on`, or a call that ends in `_blocking`"]
 pub struct RecvMany<'a, T, P: Ord, B: Allocator, R: Wait + Clone, A: Allocator + Copy = Global> {
     receiver: &'a Receiver<T, P, R, A>,

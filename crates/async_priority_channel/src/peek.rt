@@ -14,7 +14,11 @@ impl<T, P: Ord, R: Wait + Clone, A: Allocator + Copy> Receiver<T, P, R, A> {
     /// of it that it drops, waits for ever. Let it be short, since all others wait for it.
     ///
     /// ```
+    /// let (tx, rx) = unbounded(&rt, rt.alloc())?;
+    /// tx.try_send("water the plants", Reverse(30))?;
     /// let is_due = rx.peek_with(|_, Reverse(due)| *due <= now);
+    /// assert_eq!(rt; is_due, Some(now >= 30));
+    /// assert_eq!(rt; rx.len(), 1);
     /// ```
     pub fn peek_with<X, F: FnOnce(&T, &P) -> X>(&self, look: F) -> Option<X>
     where
@@ -34,7 +38,11 @@ impl<T, P: Ord, R: Wait + Clone, A: Allocator + Copy> Receiver<T, P, R, A> {
     /// is pending. The error is that the clone was refused. It is cloned under the channel's lock.
     ///
     /// ```
+    /// let (tx, rx) = unbounded(&rt, rt.alloc())?;
+    /// assert_eq!(rt; rx.peek_priority()?, None);
+    /// tx.try_send("Foo", 7)?;
     /// assert_eq!(rt; rx.peek_priority()?, Some(7));
+    /// assert_eq!(rt; rx.try_recv(), Ok(("Foo", 7)));
     /// ```
     pub fn peek_priority(&self) -> Result<Option<P>, AllocError>
     where

@@ -62,7 +62,11 @@ impl<T: Drop, P: Ord + Drop, R: Wait + Clone, A: Allocator + Copy> Receiver<T, P
     /// Of the two `?` below the first is for `block_on`, and the second for the fault.
     ///
     /// ```
+    /// let (tx, rx) = unbounded(&rt, rt.alloc())?;
+    /// let sending = thread::spawn(&rt, move || tx.try_send("Foo", 0))?;
     /// let (job, priority) = block_on(&rt, rx.recv())??;
+    /// assert_eq!(rt; (job, priority), ("Foo", 0));
+    /// assert_eq!(rt; sending.join(&rt), Ok(()));
     /// ```
     pub fn recv(&self) -> Recv<'_, T, P, R, A>
         ensures channel { result.channel ≡ self.now }
@@ -81,11 +85,12 @@ impl<T, P: Ord, R: Wait + Clone, A: Allocator + Copy> Receiver<T, P, R, A> {
     /// number of pending messages has binary digits.
     ///
     /// ```
-    /// match rx.try_recv() {
-    ///     Ok((job, priority)) => work(job, priority),
-    ///     Err(TryRecvError::Empty) => rest(),
-    ///     Err(TryRecvError::Closed) => return,
-    /// }
+    /// let (tx, rx) = unbounded(&rt, rt.alloc())?;
+    /// assert_eq!(rt; rx.try_recv(), Err(TryRecvError::Empty));
+    /// tx.try_send("Foo", 0)?;
+    /// drop(tx);
+    /// assert_eq!(rt; rx.try_recv(), Ok(("Foo", 0)));
+    /// assert_eq!(rt; rx.try_recv(), Err(TryRecvError::Closed));
     /// ```
     pub fn try_recv(&self) -> Result<(T, P), TryRecvError> {
         let mut core = self.handle.lock();
@@ -98,8 +103,12 @@ impl<T, P: Ord, R: Wait + Clone, A: Allocator + Copy> Receiver<T, P, R, A> {
     /// received. All who wait are woken.
     ///
     /// ```
+    /// let (tx, rx) = unbounded(&rt, rt.alloc())?;
+    /// tx.try_send("Foo", 0)?;
     /// assert!(rt; rx.close());
     /// assert!(rt; !rx.close());
+    /// assert_eq!(rt; rx.try_recv(), Ok(("Foo", 0)));
+    /// assert_eq!(rt; rx.try_recv(), Err(TryRecvError::Closed));
     /// ```
     pub fn close(&self) -> bool {
         self.handle.close()
@@ -107,27 +116,64 @@ impl<T, P: Ord, R: Wait + Clone, A: Allocator + Copy> Receiver<T, P, R, A> {
 
     /// Whether the channel is closed, by a call of `close` or by the drop of the last sender or
     /// receiver.
+    ///
+    /// ```
+    /// let (tx, rx) = unbounded(&rt, rt.alloc())?;
+    /// tx.try_send("Foo", 0)?;
+    /// drop(tx);
+    /// assert!(rt; rx.is_closed() && !rx.is_empty());
+    /// ```
     pub fn is_closed(&self) -> bool {
         self.handle.is_closed()
     }
 
     /// Whether no message is pending.
+    ///
+    /// ```
+    /// let (tx, rx) = unbounded(&rt, rt.alloc())?;
+    /// assert!(rt; rx.is_empty());
+    /// tx.try_send("Foo", 0)?;
+    /// assert!(rt; !rx.is_empty());
+    /// ```
     pub fn is_empty(&self) -> bool {
         self.handle.is_empty()
     }
 
     /// Whether there is no room.
+    ///
+    /// ```
+    /// let (tx, rx) = bounded(&rt, rt.alloc(), 2)?;
+    /// tx.try_send("Foo", 0)?;
+    /// assert!(rt; !rx.is_full());
+    /// tx.try_send("Bar", 2)?;
+    /// assert!(rt; rx.is_full());
+    /// ```
     pub fn is_full(&self) -> bool {
         self.handle.is_full()
     }
 
     /// How many messages are pending.
+    ///
+    /// ```
+    /// let (tx, rx) = unbounded(&rt, rt.alloc())?;
+    /// tx.try_send("Foo", 0)?;
+    /// tx.try_send("Bar", 2)?;
+    /// assert_eq!(rt; rx.len(), 2);
+    /// drop(tx);
+    /// assert_eq!(rt; rx.len(), 2);
+    /// ```
     pub fn len(&self) -> u64 {
         self.handle.len()
     }
 
     /// How many messages may be pending at a time; None where the capacity is `u64::MAX`. It takes
     /// no lock.
+    ///
+    /// ```
+    /// let (tx, rx) = bounded(&rt, rt.alloc(), 10)?;
+    /// tx.try_send("Foo", 0)?;
+    /// assert_eq!(rt; rx.capacity(), Some(10));
+    /// ```
     pub fn capacity(&self) -> Option<u64>
         ensures { result ≡ capacity_told self.now.capacity }
     {
@@ -138,6 +184,13 @@ impl<T, P: Ord, R: Wait + Clone, A: Allocator + Copy> Receiver<T, P, R, A> {
     ///
     /// A channel draws 128 random bits where it is compared for the first time, and is known by
     /// them: so the permission has to be a `RandomSource` too.
+    ///
+    /// ```
+    /// let (_tx, rx) = unbounded::<&str, u64, _, _>(&rt, rt.alloc())?;
+    /// let (_other_tx, other) = unbounded(&rt, rt.alloc())?;
+    /// assert!(rt; rx.same_channel(&rx.clone()?));
+    /// assert!(rt; !rx.same_channel(&other));
+    /// ```
     pub fn same_channel(&self, other: &Receiver<T, P, R, A>) -> bool
     where
         R: RandomSource,
@@ -146,11 +199,26 @@ impl<T, P: Ord, R: Wait + Clone, A: Allocator + Copy> Receiver<T, P, R, A> {
     }
 
     /// How many senders the channel has.
+    ///
+    /// ```
+    /// let (tx, rx) = unbounded::<&str, u64, _, _>(&rt, rt.alloc())?;
+    /// assert_eq!(rt; rx.sender_count(), 1);
+    /// drop(tx);
+    /// assert_eq!(rt; rx.sender_count(), 0);
+    /// ```
     pub fn sender_count(&self) -> usize {
         self.handle.sender_count()
     }
 
     /// How many receivers the channel has.
+    ///
+    /// ```
+    /// let (_tx, rx) = unbounded::<&str, u64, _, _>(&rt, rt.alloc())?;
+    /// let other = rx.clone()?;
+    /// assert_eq!(rt; rx.receiver_count(), 2);
+    /// drop(other);
+    /// assert_eq!(rt; rx.receiver_count(), 1);
+    /// ```
     pub fn receiver_count(&self) -> usize {
         self.handle.receiver_count()
     }
@@ -158,6 +226,15 @@ impl<T, P: Ord, R: Wait + Clone, A: Allocator + Copy> Receiver<T, P, R, A> {
 
 /// A further receiver of the channel. Refused where there are more than `usize::MAX / 2`, or for
 /// want of memory; the count is then as it was.
+///
+/// ```
+/// let (tx, rx) = unbounded(&rt, rt.alloc())?;
+/// let other = rx.clone()?;
+/// tx.try_send("Foo", 0)?;
+/// tx.try_send("Bar", 2)?;
+/// assert_eq!(rt; rx.try_recv(), Ok(("Bar", 2)));
+/// assert_eq!(rt; other.try_recv(), Ok(("Foo", 0)));
+/// ```
 impl<T: Drop, P: Ord + Drop, R: Wait + Clone, A: Allocator + Copy> Clone for Receiver<T, P, R, A> {
     ghost use Rattle.async_priority_channel.specs.Handles.{SameChannel};
 

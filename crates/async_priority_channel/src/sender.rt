@@ -57,8 +57,13 @@ impl<T: Drop, P: Ord + Drop, R: Wait + Clone, A: Allocator + Copy> Sender<T, P, 
     /// a call that it makes on the channel, or a handle of it that it drops, waits for ever.
     ///
     /// ```
-    /// let jobs = vec![in rt.alloc(); ("compile", 2), ("link", 1)]?;
-    /// tx.try_sendv(jobs.into_iter().peekable())?;
+    /// let (tx, rx) = bounded(&rt, rt.alloc(), 2)?;
+    /// let jobs = [("compile", 2), ("link", 1), ("test", 0)];
+    /// if let Err(refusal) = tx.try_sendv(jobs.into_iter().peekable()) {
+    ///     assert!(rt; refusal.is_full());
+    ///     assert_eq!(rt; refusal.into_inner().next(), Some(("test", 0)));
+    /// }
+    /// assert_eq!(rt; rx.try_recv(), Ok(("compile", 2)));
     /// ```
     pub fn try_sendv<I: Iterator<Item = (T, P)>>(
         &self,
@@ -83,7 +88,11 @@ impl<T: Drop, P: Ord + Drop, R: Wait + Clone, A: Allocator + Copy> Sender<T, P, 
     /// Of the two `?` below the first is for `block_on`, and the second for the fault.
     ///
     /// ```
+    /// let (tx, rx) = bounded(&rt, rt.alloc(), 1)?;
     /// block_on(&rt, tx.send("Foo", 0))??;
+    /// let (sent, received) = block_on(&rt, join(tx.send("Bar", 2), rx.recv()))?;
+    /// assert_eq!(rt; received, Ok(("Foo", 0)));
+    /// assert_eq!(rt; sent, Ok(()));
     /// ```
     pub fn send(&self, msg: T, priority: P) -> Send<'_, T, P, R, A>
         ensures channel { result.channel ≡ self.now }
@@ -98,8 +107,12 @@ impl<T: Drop, P: Ord + Drop, R: Wait + Clone, A: Allocator + Copy> Sender<T, P, 
     /// `try_sendv`.
     ///
     /// ```
-    /// let jobs = vec![in rt.alloc(); ("compile", 2), ("link", 1)]?;
-    /// block_on(&rt, tx.sendv(jobs.into_iter().peekable()))??;
+    /// let (tx, rx) = bounded(&rt, rt.alloc(), 1)?;
+    /// let jobs = [("compile", 2), ("link", 1)].into_iter().peekable();
+    /// let (sent, received) = block_on(&rt, join(tx.sendv(jobs), rx.recv()))?;
+    /// assert_eq!(rt; received, Ok(("compile", 2)));
+    /// assert!(rt; sent.is_ok());
+    /// assert_eq!(rt; rx.try_recv(), Ok(("link", 1)));
     /// ```
     pub fn sendv<I: Iterator<Item = (T, P)>>(
         &self,
@@ -121,9 +134,12 @@ impl<T, P: Ord, R: Wait + Clone, A: Allocator + Copy> Sender<T, P, R, A> {
     /// pending messages, with this one, has binary digits.
     ///
     /// ```
-    /// if let Err(TrySendError::Full((job, priority))) = tx.try_send(job, 7) {
-    ///     block_on(&rt, tx.send(job, priority))??;
-    /// }
+    /// let (tx, rx) = bounded(&rt, rt.alloc(), 1)?;
+    /// tx.try_send("Foo", 0)?;
+    /// assert_eq!(rt; tx.try_send("Bar", 2), Err(TrySendError::Full(("Bar", 2))));
+    /// drop(rx);
+    /// let refused = tx.try_send("Bar", 2);
+    /// assert_eq!(rt; refused, Err(TrySendError::Closed(("Bar", 2))));
     /// ```
     pub fn try_send(&self, msg: T, priority: P) -> Result<(), TrySendError<(T, P)>>
         ensures { IfErr result (λ error. rest_of error ≡ (msg, priority)) }
@@ -138,8 +154,13 @@ impl<T, P: Ord, R: Wait + Clone, A: Allocator + Copy> Sender<T, P, R, A> {
     /// received. All who wait are woken.
     ///
     /// ```
+    /// let (tx, rx) = unbounded(&rt, rt.alloc())?;
+    /// tx.try_send("Foo", 0)?;
     /// assert!(rt; tx.close());
-    /// assert_eq!(rt; tx.try_send("Foo", 0), Err(TrySendError::Closed(("Foo", 0))));
+    /// let refused = tx.try_send("Bar", 2);
+    /// assert_eq!(rt; refused, Err(TrySendError::Closed(("Bar", 2))));
+    /// assert_eq!(rt; rx.try_recv(), Ok(("Foo", 0)));
+    /// assert_eq!(rt; rx.try_recv(), Err(TryRecvError::Closed));
     /// ```
     pub fn close(&self) -> bool {
         self.handle.close()
@@ -147,27 +168,66 @@ impl<T, P: Ord, R: Wait + Clone, A: Allocator + Copy> Sender<T, P, R, A> {
 
     /// Whether the channel is closed, by a call of `close` or by the drop of the last sender or
     /// receiver.
+    ///
+    /// ```
+    /// let (tx, rx) = unbounded::<&str, u64, _, _>(&rt, rt.alloc())?;
+    /// assert!(rt; !tx.is_closed());
+    /// drop(rx);
+    /// assert!(rt; tx.is_closed());
+    /// ```
     pub fn is_closed(&self) -> bool {
         self.handle.is_closed()
     }
 
     /// Whether no message is pending.
+    ///
+    /// ```
+    /// let (tx, rx) = unbounded(&rt, rt.alloc())?;
+    /// tx.try_send("Foo", 0)?;
+    /// assert!(rt; !tx.is_empty());
+    /// rx.try_recv()?;
+    /// assert!(rt; tx.is_empty());
+    /// ```
     pub fn is_empty(&self) -> bool {
         self.handle.is_empty()
     }
 
     /// Whether there is no room.
+    ///
+    /// ```
+    /// let (tx, rx) = bounded(&rt, rt.alloc(), 1)?;
+    /// tx.try_send("Foo", 0)?;
+    /// assert!(rt; tx.is_full());
+    /// rx.try_recv()?;
+    /// assert!(rt; !tx.is_full());
+    /// ```
     pub fn is_full(&self) -> bool {
         self.handle.is_full()
     }
 
     /// How many messages are pending.
+    ///
+    /// ```
+    /// let (tx, rx) = bounded(&rt, rt.alloc(), 10)?;
+    /// tx.try_send("Foo", 0)?;
+    /// tx.try_send("Bar", 2)?;
+    /// assert_eq!(rt; tx.len(), 2);
+    /// rx.try_recv()?;
+    /// assert_eq!(rt; tx.len(), 1);
+    /// ```
     pub fn len(&self) -> u64 {
         self.handle.len()
     }
 
     /// How many messages may be pending at a time; None where the capacity is `u64::MAX`. It takes
     /// no lock.
+    ///
+    /// ```
+    /// let (tx, _rx) = bounded::<&str, u64, _, _>(&rt, rt.alloc(), 10)?;
+    /// assert_eq!(rt; tx.capacity(), Some(10));
+    /// let (tx, _rx) = unbounded::<&str, u64, _, _>(&rt, rt.alloc())?;
+    /// assert_eq!(rt; tx.capacity(), None);
+    /// ```
     pub fn capacity(&self) -> Option<u64>
         ensures { result ≡ capacity_told self.now.capacity }
     {
@@ -178,6 +238,13 @@ impl<T, P: Ord, R: Wait + Clone, A: Allocator + Copy> Sender<T, P, R, A> {
     ///
     /// A channel draws 128 random bits where it is compared for the first time, and is known by
     /// them: so the permission has to be a `RandomSource` too.
+    ///
+    /// ```
+    /// let (tx, _rx) = unbounded::<&str, u64, _, _>(&rt, rt.alloc())?;
+    /// let (other, _other_rx) = unbounded(&rt, rt.alloc())?;
+    /// assert!(rt; tx.same_channel(&tx.clone()?));
+    /// assert!(rt; !tx.same_channel(&other));
+    /// ```
     pub fn same_channel(&self, other: &Sender<T, P, R, A>) -> bool
     where
         R: RandomSource,
@@ -186,11 +253,26 @@ impl<T, P: Ord, R: Wait + Clone, A: Allocator + Copy> Sender<T, P, R, A> {
     }
 
     /// How many senders the channel has.
+    ///
+    /// ```
+    /// let (tx, _rx) = unbounded::<&str, u64, _, _>(&rt, rt.alloc())?;
+    /// let other = tx.clone()?;
+    /// assert_eq!(rt; tx.sender_count(), 2);
+    /// drop(other);
+    /// assert_eq!(rt; tx.sender_count(), 1);
+    /// ```
     pub fn sender_count(&self) -> usize {
         self.handle.sender_count()
     }
 
     /// How many receivers the channel has.
+    ///
+    /// ```
+    /// let (tx, rx) = unbounded::<&str, u64, _, _>(&rt, rt.alloc())?;
+    /// assert_eq!(rt; tx.receiver_count(), 1);
+    /// drop(rx);
+    /// assert_eq!(rt; tx.receiver_count(), 0);
+    /// ```
     pub fn receiver_count(&self) -> usize {
         self.handle.receiver_count()
     }
@@ -198,6 +280,16 @@ impl<T, P: Ord, R: Wait + Clone, A: Allocator + Copy> Sender<T, P, R, A> {
 
 /// A further sender of the channel. Refused where there are more than `usize::MAX / 2`, or for want
 /// of memory; the count is then as it was.
+///
+/// ```
+/// let (tx, rx) = unbounded(&rt, rt.alloc())?;
+/// let other = tx.clone()?;
+/// let sending = thread::spawn(&rt, move || other.try_send("Foo", 0))?;
+/// assert_eq!(rt; sending.join(&rt), Ok(()));
+/// assert!(rt; !rx.is_closed());
+/// drop(tx);
+/// assert!(rt; rx.is_closed());
+/// ```
 impl<T: Drop, P: Ord + Drop, R: Wait + Clone, A: Allocator + Copy> Clone for Sender<T, P, R, A> {
     ghost use Rattle.async_priority_channel.specs.Handles.{SameChannel};
 

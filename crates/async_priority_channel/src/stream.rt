@@ -141,6 +141,15 @@ impl<A: Allocator + Copy> Receives<A> {
 /// What is there is received at once, in one hold of the lock and without memory. To wait takes
 /// memory for the task's waker, which is kept over all waits, and one in the list of those who
 /// wait; where either is refused, the task asks to be polled again at once.
+///
+/// ```
+/// let (tx, rx) = unbounded(&rt, rt.alloc())?;
+/// let mut stream = rx.stream();
+/// tx.try_send("Foo", 0)?;
+/// drop(tx);
+/// assert_eq!(rt; block_on(&rt, stream.next())?, Some(("Foo", 0)));
+/// assert_eq!(rt; block_on(&rt, stream.next())?, None);
+/// ```
 #[must_use = "a stream does nothing until it is polled: `block_on`, or `for pair in &rx`"]
 pub struct RecvStream<'a, T, P: Ord, R: Wait + Clone, A: Allocator + Copy = Global> {
     receiver: &'a Receiver<T, P, R, A>,
@@ -193,6 +202,15 @@ impl<T, P: Ord, R: Wait + Clone, A: Allocator + Copy> Drop for RecvStream<'_, T,
 
 /// As `RecvStream`, with a receiver of its own, which goes with it: a task can take it.
 /// `Receiver::into_stream` makes it.
+///
+/// ```
+/// let (tx, rx) = unbounded(&rt, rt.alloc())?;
+/// tx.try_send("Foo", 0)?;
+/// let mut stream = rx.into_stream();
+/// assert_eq!(rt; block_on(&rt, stream.next())?, Some(("Foo", 0)));
+/// drop(stream);
+/// assert!(rt; tx.is_closed());
+/// ```
 #[must_use = "a stream does nothing until it is polled: `block_on`, or `for pair in rx`"]
 pub struct IntoStream<T, P: Ord, R: Wait + Clone, A: Allocator + Copy = Global> {
     receiver: Receiver<T, P, R, A>,
@@ -249,7 +267,12 @@ impl<T, P: Ord, R: Wait + Clone, A: Allocator + Copy> Receiver<T, P, R, A> {
     /// empty.
     ///
     /// ```
-    /// let pairs = block_on(&rt, rx.stream().take(10).collect(rt.alloc()))??;
+    /// let (tx, rx) = unbounded(&rt, rt.alloc())?;
+    /// let jobs = [("compile", 2), ("link", 1), ("test", 3)];
+    /// tx.try_sendv(jobs.into_iter().peekable())?;
+    /// let pairs = block_on(&rt, rx.stream().take(2).collect(rt.alloc()))??;
+    /// assert_eq!(rt; pairs.as_slice(), [("test", 3), ("compile", 2)].as_slice());
+    /// assert_eq!(rt; rx.try_recv(), Ok(("link", 1)));
     /// ```
     pub fn stream(&self) -> RecvStream<'_, T, P, R, A>
         ensures { result ≡ record { channel = self.now; has_ended = false } }
@@ -261,6 +284,16 @@ impl<T, P: Ord, R: Wait + Clone, A: Allocator + Copy> Receiver<T, P, R, A> {
     }
 
     /// As `stream`, for a task that outlives this receiver.
+    ///
+    /// ```
+    /// let (tx, rx) = bounded(&rt, rt.alloc(), 1)?;
+    /// let stream = rx.into_stream();
+    /// let counting = thread::spawn(&rt, move || block_on(&rt, stream.count()))?;
+    /// tx.send_blocking("Foo", 0)?;
+    /// tx.send_blocking("Bar", 2)?;
+    /// drop(tx);
+    /// assert_eq!(rt; counting.join(&rt)?, 2);
+    /// ```
     pub fn into_stream(self) -> IntoStream<T, P, R, A>
         ensures { result ≡ record { channel = self; has_ended = false } }
     {

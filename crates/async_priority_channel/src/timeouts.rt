@@ -67,6 +67,14 @@ pub enum SendTimeoutError<T> {
 
 impl<T> SendTimeoutError<T> {
     /// What was not sent.
+    ///
+    /// ```
+    /// let (tx, rx) = bounded(&rt, rt.alloc(), 1)?;
+    /// drop(rx);
+    /// let refused = tx.send_timeout("Foo", 0, Duration::from_millis(5));
+    /// let unsent = refused.err().map(|error| error.into_inner());
+    /// assert_eq!(rt; unsent, Some(("Foo", 0)));
+    /// ```
     pub fn into_inner(self) -> T
         ensures { result ≡ unsent_in_time self }
     {
@@ -78,6 +86,13 @@ impl<T> SendTimeoutError<T> {
     }
 
     /// Whether the time was over.
+    ///
+    /// ```
+    /// let (tx, _rx) = bounded(&rt, rt.alloc(), 1)?;
+    /// tx.try_send("Foo", 0)?;
+    /// let refused = tx.send_timeout("Bar", 2, Duration::from_millis(5));
+    /// assert!(rt; refused.is_err_and(|error| error.is_timeout()));
+    /// ```
     pub fn is_timeout(&self) -> bool
         ensures { IsTrue result ↔ (self.now ≡ SendTimeoutError.Timeout (unsent_in_time self.now)) }
     {
@@ -85,6 +100,13 @@ impl<T> SendTimeoutError<T> {
     }
 
     /// Whether the channel was closed, so that it takes nothing any more.
+    ///
+    /// ```
+    /// let (tx, rx) = bounded(&rt, rt.alloc(), 1)?;
+    /// drop(rx);
+    /// let refused = tx.send_timeout("Foo", 0, Duration::from_millis(5));
+    /// assert!(rt; refused.is_err_and(|error| error.is_closed()));
+    /// ```
     pub fn is_closed(&self) -> bool
         ensures { IsTrue result ↔ (self.now ≡ SendTimeoutError.Closed (unsent_in_time self.now)) }
     {
@@ -92,6 +114,11 @@ impl<T> SendTimeoutError<T> {
     }
 
     /// Whether memory was refused.
+    ///
+    /// ```
+    /// let refused = SendTimeoutError::Memory(("Foo", 0));
+    /// assert!(rt; refused.is_memory() && !refused.is_timeout());
+    /// ```
     pub fn is_memory(&self) -> bool
         ensures { IsTrue result ↔ (self.now ≡ SendTimeoutError.Memory (unsent_in_time self.now)) }
     {
@@ -158,6 +185,14 @@ impl<T> fmt::Debug for SendTimeoutError<T> {
 impl<T: Drop> Error for SendTimeoutError<T> {}
 
 /// Why a receive that waits for a limited time has no message.
+///
+/// ```
+/// let (tx, rx) = bounded::<&str, u64, _, _>(&rt, rt.alloc(), 1)?;
+/// let limit = Duration::from_millis(5);
+/// assert_eq!(rt; rx.recv_timeout(limit), Err(RecvTimeoutError::Timeout));
+/// drop(tx);
+/// assert_eq!(rt; rx.recv_timeout(limit), Err(RecvTimeoutError::Closed));
+/// ```
 #[derive(Clone, Copy, Debug, Drop, PartialEq, Eq)]
 pub enum RecvTimeoutError {
     /// None came in time.
@@ -170,6 +205,12 @@ pub enum RecvTimeoutError {
 
 impl RecvTimeoutError {
     /// Whether the time was over, so that a message may still come.
+    ///
+    /// ```
+    /// let (_tx, rx) = bounded::<&str, u64, _, _>(&rt, rt.alloc(), 1)?;
+    /// let refused = rx.recv_timeout(Duration::from_millis(5));
+    /// assert!(rt; refused.is_err_and(|error| error.is_timeout()));
+    /// ```
     pub fn is_timeout(&self) -> bool
         ensures { IsTrue result ↔ (self.now ≡ RecvTimeoutError.Timeout) }
     {
@@ -177,6 +218,13 @@ impl RecvTimeoutError {
     }
 
     /// Whether the channel was closed, so that no message will come.
+    ///
+    /// ```
+    /// let (tx, rx) = bounded::<&str, u64, _, _>(&rt, rt.alloc(), 1)?;
+    /// drop(tx);
+    /// let refused = rx.recv_timeout(Duration::from_millis(5));
+    /// assert!(rt; refused.is_err_and(|error| error.is_closed()));
+    /// ```
     pub fn is_closed(&self) -> bool
         ensures { IsTrue result ↔ (self.now ≡ RecvTimeoutError.Closed) }
     {
@@ -184,6 +232,11 @@ impl RecvTimeoutError {
     }
 
     /// Whether memory was refused.
+    ///
+    /// ```
+    /// let refused = RecvTimeoutError::Memory;
+    /// assert!(rt; refused.is_memory() && !refused.is_timeout());
+    /// ```
     pub fn is_memory(&self) -> bool
         ensures { IsTrue result ↔ (self.now ≡ RecvTimeoutError.Memory) }
     {

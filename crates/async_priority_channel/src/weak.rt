@@ -38,6 +38,14 @@ impl<T, P: Ord, R: Wait + Clone, A: Allocator + Copy> Model for WeakSender<T, P,
 impl<T: Drop, P: Ord + Drop, R: Wait + Clone, A: Allocator + Copy> WeakSender<T, P, R, A> {
     /// A further sender of the channel. None where the channel is closed, as it is once its last
     /// sender or its last receiver is gone, and where a clone of a sender would be refused.
+    ///
+    /// ```
+    /// let (tx, rx) = unbounded::<&str, u64, _, _>(&rt, rt.alloc())?;
+    /// let weak = tx.downgrade()?;
+    /// assert!(rt; weak.upgrade().is_some());
+    /// drop(tx);
+    /// assert!(rt; weak.upgrade().is_none() && rx.is_closed());
+    /// ```
     pub fn upgrade(&self) -> Option<Sender<T, P, R, A>>
         ensures { IfSome result (λ sender. SameChannel self.now sender) }
     {
@@ -58,6 +66,14 @@ impl<T: Drop, P: Ord + Drop, R: Wait + Clone, A: Allocator + Copy> WeakSender<T,
 impl<T, P: Ord, R: Wait + Clone, A: Allocator + Copy> WeakSender<T, P, R, A> {
     /// Whether the channel is closed, by a call of `close` or by the drop of the last sender or
     /// receiver.
+    ///
+    /// ```
+    /// let (tx, _rx) = unbounded::<&str, u64, _, _>(&rt, rt.alloc())?;
+    /// let weak = tx.downgrade()?;
+    /// assert!(rt; !weak.is_closed());
+    /// drop(tx);
+    /// assert!(rt; weak.is_closed());
+    /// ```
     pub fn is_closed(&self) -> bool {
         self.handle.is_closed()
     }
@@ -66,6 +82,14 @@ impl<T, P: Ord, R: Wait + Clone, A: Allocator + Copy> WeakSender<T, P, R, A> {
 impl<T, P: Ord, R: Wait + Clone, A: Allocator + Copy> Sender<T, P, R, A> {
     /// A handle that knows the channel and is none of its senders. It changes no count. Refused for
     /// want of memory.
+    ///
+    /// ```
+    /// let (tx, rx) = unbounded::<&str, u64, _, _>(&rt, rt.alloc())?;
+    /// let _weak = tx.downgrade()?;
+    /// assert_eq!(rt; rx.sender_count(), 1);
+    /// drop(tx);
+    /// assert!(rt; rx.is_closed());
+    /// ```
     pub fn downgrade(&self) -> Result<WeakSender<T, P, R, A>, AllocError>
         ensures { IfOk result (λ weak. SameChannel self.now weak) }
     {
@@ -75,6 +99,15 @@ impl<T, P: Ord, R: Wait + Clone, A: Allocator + Copy> Sender<T, P, R, A> {
 }
 
 /// A further weak handle of the channel.
+///
+/// ```
+/// let (tx, rx) = unbounded(&rt, rt.alloc())?;
+/// let weak = tx.downgrade()?;
+/// let other = weak.clone()?;
+/// drop(weak);
+/// other.upgrade().ok_or("closed")?.try_send("Foo", 0)?;
+/// assert_eq!(rt; rx.try_recv(), Ok(("Foo", 0)));
+/// ```
 impl<T: Drop, P: Ord + Drop, R: Wait + Clone, A: Allocator + Copy> Clone
     for WeakSender<T, P, R, A> {
     ghost use Rattle.async_priority_channel.specs.Handles.{SameChannel};
@@ -105,8 +138,9 @@ impl<T, P: Ord, R: Wait + Clone, A: Allocator + Copy> fmt::Debug for WeakSender<
 ///
 /// ```
 /// let weak = rx.downgrade()?;
+/// tx.try_send("still here", 0)?;
 /// if let Some(receiver) = weak.upgrade() {
-///     work(receiver.try_recv()?);
+///     assert_eq!(rt; receiver.try_recv(), Ok(("still here", 0)));
 /// }
 /// ```
 #[derive(Drop)]
@@ -125,6 +159,14 @@ impl<T, P: Ord, R: Wait + Clone, A: Allocator + Copy> Model for WeakReceiver<T, 
 impl<T: Drop, P: Ord + Drop, R: Wait + Clone, A: Allocator + Copy> WeakReceiver<T, P, R, A> {
     /// A further receiver of the channel. None where the channel is closed, as it is once its last
     /// receiver or its last sender is gone, and where a clone of a receiver would be refused.
+    ///
+    /// ```
+    /// let (tx, rx) = unbounded::<&str, u64, _, _>(&rt, rt.alloc())?;
+    /// let weak = rx.downgrade()?;
+    /// assert!(rt; weak.upgrade().is_some());
+    /// drop(rx);
+    /// assert!(rt; weak.upgrade().is_none() && tx.is_closed());
+    /// ```
     pub fn upgrade(&self) -> Option<Receiver<T, P, R, A>>
         ensures { IfSome result (λ receiver. SameChannel self.now receiver) }
     {
@@ -145,6 +187,14 @@ impl<T: Drop, P: Ord + Drop, R: Wait + Clone, A: Allocator + Copy> WeakReceiver<
 impl<T, P: Ord, R: Wait + Clone, A: Allocator + Copy> WeakReceiver<T, P, R, A> {
     /// Whether the channel is closed, by a call of `close` or by the drop of the last sender or
     /// receiver.
+    ///
+    /// ```
+    /// let (tx, rx) = unbounded::<&str, u64, _, _>(&rt, rt.alloc())?;
+    /// let weak = rx.downgrade()?;
+    /// assert!(rt; !weak.is_closed());
+    /// tx.close();
+    /// assert!(rt; weak.is_closed());
+    /// ```
     pub fn is_closed(&self) -> bool {
         self.handle.is_closed()
     }
@@ -153,6 +203,14 @@ impl<T, P: Ord, R: Wait + Clone, A: Allocator + Copy> WeakReceiver<T, P, R, A> {
 impl<T, P: Ord, R: Wait + Clone, A: Allocator + Copy> Receiver<T, P, R, A> {
     /// A handle that knows the channel and is none of its receivers. It changes no count. Refused
     /// for want of memory.
+    ///
+    /// ```
+    /// let (tx, rx) = unbounded::<&str, u64, _, _>(&rt, rt.alloc())?;
+    /// let _weak = rx.downgrade()?;
+    /// assert_eq!(rt; tx.receiver_count(), 1);
+    /// drop(rx);
+    /// assert!(rt; tx.is_closed());
+    /// ```
     pub fn downgrade(&self) -> Result<WeakReceiver<T, P, R, A>, AllocError>
         ensures { IfOk result (λ weak. SameChannel self.now weak) }
     {
@@ -162,6 +220,15 @@ impl<T, P: Ord, R: Wait + Clone, A: Allocator + Copy> Receiver<T, P, R, A> {
 }
 
 /// A further weak handle of the channel.
+///
+/// ```
+/// let (tx, rx) = unbounded(&rt, rt.alloc())?;
+/// let weak = rx.downgrade()?;
+/// let other = weak.clone()?;
+/// drop(weak);
+/// tx.try_send("Foo", 0)?;
+/// assert_eq!(rt; other.upgrade().ok_or("closed")?.try_recv(), Ok(("Foo", 0)));
+/// ```
 impl<T: Drop, P: Ord + Drop, R: Wait + Clone, A: Allocator + Copy> Clone
     for WeakReceiver<T, P, R, A> {
     ghost use Rattle.async_priority_channel.specs.Handles.{SameChannel};

@@ -20,6 +20,14 @@ use std::sync::Wait;
 /// Its fault is `Closed`, where none can come any more, or `Memory`, where memory was refused.
 /// Polled again after its answer it is pending, changes nothing, and asks to be polled once more,
 /// so it should not be polled on.
+///
+/// ```
+/// let (tx, rx) = bounded(&rt, rt.alloc(), 1)?;
+/// let mut receiving = rx.recv();
+/// assert_eq!(rt; block_on(&rt, poll_immediate(&mut receiving))?, None);
+/// tx.try_send("Foo", 0)?;
+/// assert_eq!(rt; block_on(&rt, receiving)?, Ok(("Foo", 0)));
+/// ```
 #[must_use = "a future does nothing until it is polled: `block_on`, or a call that ends in `_blocking`"]
 pub struct Recv<'a, T, P: Ord, R: Wait + Clone, A: Allocator + Copy = Global> {
     receiver: &'a Receiver<T, P, R, A>,

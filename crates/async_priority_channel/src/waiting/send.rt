@@ -20,6 +20,15 @@ use std::sync::Wait;
 /// Its fault is `Closed`, or `Memory` where memory was refused, and gives the message back. Polled
 /// again after its answer it is pending, changes nothing, and asks to be polled once more, so it
 /// should not be polled on.
+///
+/// ```
+/// let (tx, rx) = bounded(&rt, rt.alloc(), 1)?;
+/// tx.try_send("Foo", 0)?;
+/// let mut sending = tx.send("Bar", 2);
+/// assert_eq!(rt; block_on(&rt, poll_immediate(&mut sending))?, None);
+/// assert_eq!(rt; rx.try_recv(), Ok(("Foo", 0)));
+/// assert_eq!(rt; block_on(&rt, sending)?, Ok(()));
+/// ```
 #[must_use = "a future does nothing until it is polled: `block_on`, or a call that ends in `_blocking`"]
 pub struct Send<'a, T, P: Ord, R: Wait + Clone, A: Allocator + Copy = Global> {
     sender: &'a Sender<T, P, R, A>,

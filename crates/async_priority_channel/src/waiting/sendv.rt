@@ -25,6 +25,14 @@ use std::sync::Wait;
 /// Its fault is `Closed`, or `Memory` where memory was refused, and gives back what was not sent.
 /// Polled again after its answer it is pending, changes nothing, and asks to be polled once more,
 /// so it should not be polled on.
+///
+/// ```
+/// let (tx, rx) = bounded(&rt, rt.alloc(), 1)?;
+/// let sending = tx.sendv([("compile", 2), ("link", 1)].into_iter().peekable());
+/// assert!(rt; block_on(&rt, poll_immediate(sending))?.is_none());
+/// assert_eq!(rt; rx.try_recv(), Ok(("compile", 2)));
+/// assert!(rt; rx.is_empty());
+/// ```
 #[must_use = "a future does nothing until it is polled: `block_on`, or a call that ends in `_blocking`"]
 pub struct Sendv<'a, T, P: Ord, M, R: Wait + Clone, A: Allocator + Copy = Global> {
     sender: &'a Sender<T, P, R, A>,
