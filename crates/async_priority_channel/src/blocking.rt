@@ -165,10 +165,11 @@ impl<T: Drop, P: Ord + Drop, R: Wait + Clone, A: Allocator + Copy> Sender<T, P, 
     /// ```
     /// let (tx, rx) = bounded(&rt, rt.alloc(), 1)?;
     /// let jobs = [("compile", 1), ("link", 2)].into_iter().peekable();
-    /// let sending = thread::spawn(&rt, move || tx.sendv_blocking(jobs).is_ok())?;
-    /// assert_eq!(rt; rx.recv_blocking(), Ok(("compile", 1)));
-    /// assert_eq!(rt; rx.recv_blocking(), Ok(("link", 2)));
-    /// assert!(rt; sending.join(&rt));
+    /// let receiving = thread::spawn(&rt, move || (rx.recv_blocking(), rx))?;
+    /// assert!(rt; tx.sendv_blocking(jobs).is_ok());
+    /// let (received, rx) = receiving.join(&rt);
+    /// assert_eq!(rt; received, Ok(("compile", 1)));
+    /// assert_eq!(rt; rx.try_recv(), Ok(("link", 2)));
     /// ```
     pub fn sendv_blocking<I: Iterator<Item = (T, P)>>(
         &self,

@@ -9,6 +9,12 @@ use std::alloc::{AllocError, Allocator, Global};
 use std::sync::Wait;
 
 /// A sender and a receiver of one channel.
+///
+/// ```
+/// fn numbers<R: Wait + Clone>(rt: &R, alloc: Global) -> Result<Ends<u64, u64, R>, AllocError> {
+///     bounded(rt, alloc, 10)
+/// }
+/// ```
 pub type Ends<T, P, R, A = Global> = (Sender<T, P, R, A>, Receiver<T, P, R, A>);
 
 /// A channel for at most `cap` pending messages. While it is full, `send` waits and `try_send` is

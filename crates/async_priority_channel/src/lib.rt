@@ -216,9 +216,10 @@
 //! fn offer<R: Wait + Clone>(tx: &Sender<u64, u64, R>, number: u64) -> Option<u64>
 //!     ensures { IfSome result (λ unsent. unsent ≡ number) }
 //! {
-//!     let refusal = tx.try_send(number, 0).err()?;
-//!     let (unsent, _) = refusal.into_inner();
-//!     Some(unsent)
+//!     match tx.try_send(number, 0) {
+//!         Ok(()) => None,
+//!         Err(refusal) => Some(refusal.into_inner().0),
+//!     }
 //! }
 //! ```
 #![tactic(auto)]

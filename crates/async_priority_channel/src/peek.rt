@@ -16,8 +16,9 @@ impl<T, P: Ord, R: Wait + Clone, A: Allocator + Copy> Receiver<T, P, R, A> {
     /// ```
     /// let (tx, rx) = unbounded(&rt, rt.alloc())?;
     /// tx.try_send("water the plants", Reverse(30))?;
+    /// let now = 20;
     /// let is_due = rx.peek_with(|_, Reverse(due)| *due <= now);
-    /// assert_eq!(rt; is_due, Some(now >= 30));
+    /// assert_eq!(rt; is_due, Some(false));
     /// assert_eq!(rt; rx.len(), 1);
     /// ```
     pub fn peek_with<X, F: FnOnce(&T, &P) -> X>(&self, look: F) -> Option<X>

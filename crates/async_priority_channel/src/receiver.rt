@@ -41,6 +41,16 @@ use std::sync::Wait;
 /// What is pending then stays in memory as long as there is a handle of the channel, and with it
 /// what the messages own: a client that waits for the answer to a request that nobody will receive
 /// waits for ever. `close_on_drop` lets it go.
+///
+/// ```
+/// let (tx, rx) = unbounded(&rt, rt.alloc())?;
+/// tx.try_send("first", 5)?;
+/// tx.try_send("second", 5)?;
+/// tx.try_send("urgent", 9)?;
+/// assert_eq!(rt; rx.try_recv(), Ok(("urgent", 9)));
+/// assert_eq!(rt; rx.try_recv(), Ok(("first", 5)));
+/// assert_eq!(rt; rx.try_recv(), Ok(("second", 5)));
+/// ```
 pub struct Receiver<T, P: Ord, R: Wait + Clone, A: Allocator + Copy = Global> {
     pub(crate) handle: Handle<T, P, R, A>,
 }

@@ -36,6 +36,17 @@ use std::sync::Wait;
 ///
 /// Of its user's code the channel calls under the lock the order of priorities, and the iterator of
 /// a bulk send and its drop. These must neither use the channel nor own a handle of it.
+///
+/// ```
+/// let (tx, rx) = unbounded(&rt, rt.alloc())?;
+/// let other = tx.clone()?;
+/// tx.try_send("Foo", 0)?;
+/// drop(tx);
+/// assert!(rt; !rx.is_closed());
+/// drop(other);
+/// assert!(rt; rx.is_closed());
+/// assert_eq!(rt; rx.try_recv(), Ok(("Foo", 0)));
+/// ```
 pub struct Sender<T, P: Ord, R: Wait + Clone, A: Allocator + Copy = Global> {
     pub(crate) handle: Handle<T, P, R, A>,
 }
@@ -109,9 +120,10 @@ impl<T: Drop, P: Ord + Drop, R: Wait + Clone, A: Allocator + Copy> Sender<T, P, 
     /// ```
     /// let (tx, rx) = bounded(&rt, rt.alloc(), 1)?;
     /// let jobs = [("compile", 2), ("link", 1)].into_iter().peekable();
-    /// let (sent, received) = block_on(&rt, join(tx.sendv(jobs), rx.recv()))?;
+    /// let receiving = thread::spawn(&rt, move || (rx.recv_blocking(), rx))?;
+    /// assert!(rt; block_on(&rt, tx.sendv(jobs))?.is_ok());
+    /// let (received, rx) = receiving.join(&rt);
     /// assert_eq!(rt; received, Ok(("compile", 2)));
-    /// assert!(rt; sent.is_ok());
     /// assert_eq!(rt; rx.try_recv(), Ok(("link", 1)));
     /// ```
     pub fn sendv<I: Iterator<Item = (T, P)>>(
