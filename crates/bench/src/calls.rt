@@ -41,34 +41,29 @@ impl FromStr for Calls {
 }
 
 impl Calls {
-    pub fn send<R>(
-        self,
-        rt: &R,
-        tx: &Sender<u64, i64, R>,
-        msg: u64,
-        priority: i64,
-    ) -> anyhow::Result<()>
+    /// Whether it was sent. No `Result` of `anyhow`: where one is made of an error, a function clears
+    /// much memory as it begins, which would be timed with each message.
+    pub fn send<R>(self, rt: &R, tx: &Sender<u64, i64, R>, msg: u64, priority: i64) -> bool
     where
         R: Wait + Clone + RandomSource + AllocGlobal,
     {
         match self {
-            Calls::Try => send_by_tries(tx, msg, priority)?,
-            Calls::Blocking => tx.send_blocking(msg, priority)?,
-            Calls::Future | Calls::Stream => block_on(rt, tx.send(msg, priority))??,
+            Calls::Try => send_by_tries(tx, msg, priority),
+            Calls::Blocking => send_by_waits(tx, msg, priority),
+            Calls::Future | Calls::Stream => send_by_future(rt, tx, msg, priority),
         }
-        Ok(())
     }
 
-    pub fn recv<R>(self, rt: &R, rx: &Receiver<u64, i64, R>) -> anyhow::Result<u64>
+    /// The message that came, if one did.
+    pub fn recv<R>(self, rt: &R, rx: &Receiver<u64, i64, R>) -> Option<u64>
     where
         R: Wait + Clone + RandomSource + AllocGlobal,
     {
-        let (msg, _) = match self {
-            Calls::Try => recv_by_tries(rx)?,
-            Calls::Blocking => rx.recv_blocking()?,
-            Calls::Future | Calls::Stream => block_on(rt, rx.recv())??,
-        };
-        Ok(msg)
+        match self {
+            Calls::Try => recv_by_tries(rx),
+            Calls::Blocking => recv_by_waits(rx),
+            Calls::Future | Calls::Stream => recv_by_future(rt, rx),
+        }
     }
 
     /// Sends so many numbers, from `first` on.
@@ -87,7 +82,8 @@ impl Calls {
         }
         for position in 0..count {
             let number = first.wrapping_add(position);
-            self.send(rt, tx, number, Load::Random.priority(number))?;
+            let is_sent = self.send(rt, tx, number, Load::Random.priority(number));
+            ensure!(is_sent, "{number} was not sent");
         }
         Ok(())
     }
@@ -102,34 +98,67 @@ impl Calls {
         }
         let mut sum = 0u64;
         for _ in 0..count {
-            sum = sum.wrapping_add(self.recv(rt, rx)?);
+            let Some(msg) = self.recv(rt, rx) else {
+                bail!("no message came");
+            };
+            sum = sum.wrapping_add(msg);
         }
         Ok(sum)
     }
 }
 
-fn send_by_tries<R: Wait + Clone>(
-    tx: &Sender<u64, i64, R>,
-    msg: u64,
-    priority: i64,
-) -> Result<(), TrySendError<(u64, i64)>> {
+// Each way is a function of its own that is not inlined: together they would share one frame, of
+// which each call would clear the whole.
+
+#[inline(never)]
+fn send_by_tries<R: Wait + Clone>(tx: &Sender<u64, i64, R>, msg: u64, priority: i64) -> bool {
     for _ in 0..u64::MAX {
         match tx.try_send(msg, priority) {
             Err(TrySendError::Full(_)) => thread::yield_now(),
-            answer => return answer,
+            sent => return sent.is_ok(),
         }
     }
-    Err(TrySendError::Full((msg, priority)))
+    false
 }
 
-fn recv_by_tries<R: Wait + Clone>(rx: &Receiver<u64, i64, R>) -> Result<(u64, i64), TryRecvError> {
+#[inline(never)]
+fn recv_by_tries<R: Wait + Clone>(rx: &Receiver<u64, i64, R>) -> Option<u64> {
     for _ in 0..u64::MAX {
         match rx.try_recv() {
+            Ok((msg, _)) => return Some(msg),
             Err(TryRecvError::Empty) => thread::yield_now(),
-            answer => return answer,
+            Err(TryRecvError::Closed) => return None,
         }
     }
-    Err(TryRecvError::Empty)
+    None
+}
+
+#[inline(never)]
+fn send_by_waits<R: Wait + Clone>(tx: &Sender<u64, i64, R>, msg: u64, priority: i64) -> bool {
+    tx.send_blocking(msg, priority).is_ok()
+}
+
+#[inline(never)]
+fn recv_by_waits<R: Wait + Clone>(rx: &Receiver<u64, i64, R>) -> Option<u64> {
+    let (msg, _) = rx.recv_blocking().ok()?;
+    Some(msg)
+}
+
+#[inline(never)]
+fn send_by_future<R>(rt: &R, tx: &Sender<u64, i64, R>, msg: u64, priority: i64) -> bool
+where
+    R: Wait + Clone + RandomSource + AllocGlobal,
+{
+    matches!(block_on(rt, tx.send(msg, priority)), Ok(Ok(())))
+}
+
+#[inline(never)]
+fn recv_by_future<R>(rt: &R, rx: &Receiver<u64, i64, R>) -> Option<u64>
+where
+    R: Wait + Clone + RandomSource + AllocGlobal,
+{
+    let (msg, _) = block_on(rt, rx.recv()).ok()?.ok()?;
+    Some(msg)
 }
 
 fn send_stream<R>(rt: &R, tx: &Sender<u64, i64, R>, first: u64, count: u64) -> anyhow::Result<()>

@@ -3,7 +3,7 @@
 use crate::calls::{Calls, channel};
 use crate::load::Load;
 use crate::measure::{Measure, add_at};
-use anyhow::ensure;
+use anyhow::{bail, ensure};
 use std::alloc::AllocGlobal;
 use std::random::RandomSource;
 use std::sync::Wait;
@@ -22,8 +22,12 @@ where
     let mut sum = 0u64;
     for position in 0..count {
         let number = pending.wrapping_add(position);
-        calls.send(rt, &tx, number, Load::Random.priority(number))?;
-        sum = add_at(sum, position, calls.recv(rt, &rx)?);
+        let is_sent = calls.send(rt, &tx, number, Load::Random.priority(number));
+        ensure!(is_sent, "{number} was not sent");
+        let Some(msg) = calls.recv(rt, &rx) else {
+            bail!("no message came");
+        };
+        sum = add_at(sum, position, msg);
     }
     let end = rt.thread_cpu_time()?;
     Ok(Measure::of_time(end.saturating_sub(start), sum))

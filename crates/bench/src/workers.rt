@@ -2,6 +2,7 @@
 
 use crate::calls::{Calls, channel};
 use crate::measure::Measure;
+use anyhow::{bail, ensure};
 use async_priority_channel::{Receiver, Sender};
 use std::alloc::AllocGlobal;
 use std::random::RandomSource;
@@ -58,10 +59,10 @@ where
     R: Wait + Clone + RandomSource + AllocGlobal,
 {
     for _ in 0..u64::MAX {
-        let Ok(job) = calls.recv(rt, requests) else {
+        let Some(job) = calls.recv(rt, requests) else {
             return Ok(());
         };
-        calls.send(rt, done, job, PRIORITY)?;
+        ensure!(calls.send(rt, done, job, PRIORITY), "no answer was sent");
     }
     Ok(())
 }
@@ -76,7 +77,8 @@ where
     let receiver = thread::spawn(&rt, move || add_delays(&rt, calls, &rx, start, count))?;
     for _ in 0..count {
         thread::sleep(&rt, Duration::from_micros(PAUSE));
-        calls.send(&rt, &tx, nanoseconds_since(&rt, start)?, PRIORITY)?;
+        let is_sent = calls.send(&rt, &tx, nanoseconds_since(&rt, start)?, PRIORITY);
+        ensure!(is_sent, "no message was sent");
     }
     let delays = receiver.join(&rt)?;
     Ok(Measure {
@@ -97,7 +99,9 @@ where
 {
     let mut delays = 0u64;
     for _ in 0..count {
-        let sent = calls.recv(rt, rx)?;
+        let Some(sent) = calls.recv(rt, rx) else {
+            bail!("no message came");
+        };
         delays = delays.saturating_add(nanoseconds_since(rt, start)?.saturating_sub(sent));
     }
     Ok(delays)
