@@ -7,6 +7,7 @@ ghost use Rattle.prio.specs.Fields.{IsPair, IsWord, fields_of, further_text, nam
 ghost use Rattle.prio.specs.Call.{CanCall, call_text};
 ghost use Rattle.prio.specs.Opening.{CanOpen, opening_text};
 
+use memchr::memchr_iter;
 use std::alloc::{AllocError, Allocator};
 
 /// What a first line asks for.
@@ -82,7 +83,7 @@ pub fn parse_pairs<A: Allocator + Copy>(
     ensures complete { IfOk result (λ parsed. IfNone parsed ((pairs : List (String A × ℤ))
         → All IsPair pairs → further_text (option_copied fields.entry) ≢ pairs_text pairs)) }
 {
-    let mut pairs = Vec::new(alloc);
+    let mut pairs = Vec::with_capacity(alloc, count_pairs(fields))?;
     let mut further = fields;
     while let Some(fields) = further {
         let Some(((priority, word), rest)) = take_pair(fields) else {
@@ -93,6 +94,14 @@ pub fn parse_pairs<A: Allocator + Copy>(
         further = rest;
     }
     Ok(Some(pairs))
+}
+
+// How many pairs these fields are, if they are pairs: each has one space, and one before the next.
+fn count_pairs(fields: Option<&str>) -> usize {
+    match fields {
+        Some(fields) => memchr_iter(b' ', fields.as_bytes()).count() / 2 + 1,
+        None => 0,
+    }
 }
 
 // The first field, and what follows the space behind it.
