@@ -164,12 +164,12 @@ impl<T: Drop, P: Ord + Drop, R: Wait + Clone, A: Allocator + Copy> Sender<T, P, 
     ///
     /// ```
     /// let (tx, rx) = bounded(&rt, rt.alloc(), 1)?;
-    /// let jobs = [("compile", 1), ("link", 2)].into_iter().peekable();
+    /// let jobs = [(3, 1), (4, 2)].into_iter().peekable();
     /// let receiving = thread::spawn(&rt, move || (rx.recv_blocking(), rx))?;
     /// assert!(rt; tx.sendv_blocking(jobs).is_ok());
     /// let (received, rx) = receiving.join(&rt);
-    /// assert_eq!(rt; received, Ok(("compile", 1)));
-    /// assert_eq!(rt; rx.try_recv(), Ok(("link", 2)));
+    /// assert_eq!(rt; received, Ok((3, 1)));
+    /// assert_eq!(rt; rx.try_recv(), Ok((4, 2)));
     /// ```
     pub fn sendv_blocking<I: Iterator<Item = (T, P)>>(
         &self,

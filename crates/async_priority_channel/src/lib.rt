@@ -52,8 +52,8 @@
 //! let (tx, rx) = bounded(&rt, rt.alloc(), 10)?;
 //! let other = tx.clone()?;
 //! let working = thread::spawn(&rt, move || rx.iter().count())?;
-//! let sending = thread::spawn(&rt, move || other.send_blocking("Foo", 0))?;
-//! tx.send_blocking("Bar", 2)?;
+//! let sending = thread::spawn(&rt, move || other.send_blocking(3, 0))?;
+//! tx.send_blocking(4, 2)?;
 //! assert_eq!(rt; sending.join(&rt), Ok(()));
 //! drop(tx);
 //! assert_eq!(rt; working.join(&rt), 2);
@@ -106,12 +106,12 @@
 //!
 //! ```
 //! let (tx, rx) = bounded(&rt, rt.alloc(), 1)?;
-//! tx.try_send("Foo", 0)?; // at once, or not at all
+//! tx.try_send(3, 0)?; // at once, or not at all
 //! let receiving = thread::spawn(&rt, move || (rx.recv_blocking(), rx))?;
-//! tx.send_blocking("Bar", 2)?; // once there is room
+//! tx.send_blocking(4, 2)?; // once there is room
 //! let (received, rx) = receiving.join(&rt);
-//! assert_eq!(rt; received, Ok(("Foo", 0)));
-//! assert_eq!(rt; rx.try_recv(), Ok(("Bar", 2)));
+//! assert_eq!(rt; received, Ok((3, 0)));
+//! assert_eq!(rt; rx.try_recv(), Ok((4, 2)));
 //! ```
 //!
 //! # Time limits

@@ -119,12 +119,12 @@ impl<T: Drop, P: Ord + Drop, R: Wait + Clone, A: Allocator + Copy> Sender<T, P, 
     ///
     /// ```
     /// let (tx, rx) = bounded(&rt, rt.alloc(), 1)?;
-    /// let jobs = [("compile", 2), ("link", 1)].into_iter().peekable();
+    /// let jobs = [(3, 2), (4, 1)].into_iter().peekable();
     /// let receiving = thread::spawn(&rt, move || (rx.recv_blocking(), rx))?;
     /// assert!(rt; block_on(&rt, tx.sendv(jobs))?.is_ok());
     /// let (received, rx) = receiving.join(&rt);
-    /// assert_eq!(rt; received, Ok(("compile", 2)));
-    /// assert_eq!(rt; rx.try_recv(), Ok(("link", 1)));
+    /// assert_eq!(rt; received, Ok((3, 2)));
+    /// assert_eq!(rt; rx.try_recv(), Ok((4, 1)));
     /// ```
     pub fn sendv<I: Iterator<Item = (T, P)>>(
         &self,
