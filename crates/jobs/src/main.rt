@@ -1,24 +1,85 @@
-//! A queue of jobs: the most urgent first, a worker on a thread of its own, and an end once all is
-//! done.
+//! Reads numbers from standard input, and prints of each in its turn whether it is prime.
+//!
+//! Each is a job for a few workers. A worker gives it so many steps at a time. Where these were too
+//! few the job has failed for now: it is sent again with less urgency, at most three times, and
+//! goes on behind the others.
 #![tactic(auto)]
 
-use async_priority_channel::bounded;
+mod job;
+mod queue;
+#[cfg(test)]
+mod tests;
+mod urgency;
+mod worker;
+
+use anyhow::{Context, ensure};
+use async_priority_channel::{Receiver, unbounded};
+use job::{Job, Settled};
+use queue::Queue;
+use std::alloc::AllocGlobal;
+use std::sync::{Arc, Wait};
 use std::thread;
+use worker::work;
+
+const WORKERS: usize = 4;
 
 fn main(rt: HostRuntime) -> anyhow::Result<()> {
-    let (tx, rx) = bounded(&rt, rt.alloc(), 10)?;
-    tx.try_send("tidy up", 1)?;
-    tx.try_send("put out the fire", 9)?;
-    let (urgent, priority) = rx.try_recv()?;
-    println!(rt; "{urgent} ({priority})")?;
+    let queue = Arc::new(rt.alloc(), Queue::new(&rt, rt.alloc())?)?;
+    let count = submit_lines(&rt, &queue)?;
+    let (results, settled) = unbounded(&rt, rt.alloc())?;
+    let mut workers = Vec::new(rt.alloc());
+    for _ in 0..WORKERS {
+        let queue = Arc::try_clone(&queue)?;
+        let results = results.clone()?;
+        workers.push(thread::spawn(&rt, move || work(&queue, &results))?)?;
+    }
+    drop(results); // the workers have the other senders: the results end with the last worker
+    let all = collect(&rt, &settled, count)?;
+    for worker in workers {
+        worker.join(&rt)?;
+    }
+    for settled in &all {
+        println!(rt; "{settled}")?;
+    }
+    Ok(())
+}
 
-    let worker = thread::spawn(&rt, move || -> anyhow::Result<()> {
-        for (job, priority) in &rx {
-            println!(rt; "{job} ({priority})")?;
-        }
-        Ok(())
-    })?;
-    tx.send_blocking("sweep the floor", 1)?;
-    drop(tx); // closes the channel: the loop ends once nothing is pending
-    worker.join(&rt)
+/// Submits a job for each line, and tells how many there are.
+fn submit_lines<R>(rt: &R, queue: &Queue<R>) -> anyhow::Result<usize>
+where
+    R: Wait + Clone + Input + AllocGlobal,
+{
+    let mut count = 0usize;
+    for line in rt.lines(rt.alloc()) {
+        let line = line?;
+        let number: u64 = line
+            .trim()
+            .parse()
+            .context(format_args!("reading {line:?}"))?;
+        ensure!(number > 1, "neither prime nor a product: {number}");
+        queue.submit(Job::new(count, number))?;
+        count = count.saturating_add(1);
+    }
+    queue.settle(); // nothing more comes from here
+    Ok(count)
+}
+
+/// Waits for all results, shows meanwhile how many there are, and puts them in order.
+fn collect<R>(
+    rt: &R,
+    settled: &Receiver<Settled, (), R>,
+    count: usize,
+) -> anyhow::Result<Vec<Settled>>
+where
+    R: Wait + Clone + Eprint + AllocGlobal,
+{
+    let mut all = Vec::new(rt.alloc());
+    for (settled, ()) in settled {
+        all.push(settled)?;
+        // A terminal writes it over the line before. Where it can't be shown, the work goes on.
+        let _ = eprint!(rt; "\r{} of {count}", all.len());
+    }
+    let _ = eprintln!(rt);
+    all.sort_by_key(|settled| settled.job.index)?;
+    Ok(all)
 }

@@ -1,0 +1,18 @@
+//! Recipes: what a program needs beside the calls of a channel, a file each.
+#![tactic(auto)]
+
+mod aging;
+mod blind_bound;
+mod ends;
+mod own_queue;
+mod replies;
+mod timer;
+
+fn main(rt: HostRuntime) -> anyhow::Result<()> {
+    ends::run(rt)?;
+    own_queue::run(&rt)?;
+    replies::run(rt)?;
+    aging::run(&rt)?;
+    blind_bound::run(&rt)?;
+    timer::run(rt)
+}
