@@ -41,8 +41,8 @@ impl FromStr for Calls {
 }
 
 impl Calls {
-    /// Whether it was sent. No `Result` of `anyhow`: where one is made of an error, a function clears
-    /// much memory as it begins, which would be timed with each message.
+    /// Whether it was sent. No `Result` of `anyhow`: where one is made of an error, a function
+    /// clears much memory as it begins, which would be timed with each message.
     pub fn send<R>(self, rt: &R, tx: &Sender<u64, i64, R>, msg: u64, priority: i64) -> bool
     where
         R: Wait + Clone + RandomSource + AllocGlobal,
