@@ -21,12 +21,11 @@ mod watchdog;
 use anyhow::{Context, bail};
 use round::run_round;
 use std::alloc::AllocGlobal;
-use std::env;
-use std::fmt;
 use std::random::RandomSource;
 use std::sync::Wait;
 use std::thread::Threads;
 use std::time::{Clock, Duration, Instant};
+use std::{env, fmt};
 
 fn main(rt: HostRuntime) -> anyhow::Result<()> {
     let args: Vec<String> = env::args(&rt)?.skip(1).collect(rt.alloc())?;

@@ -1,5 +1,6 @@
 //! What is sent.
 
+use crate::dice::Dice;
 use std::fmt;
 
 /// How many priorities there are: few, so that many messages have the same.
@@ -16,15 +17,10 @@ pub struct Message {
 }
 
 impl Message {
-    /// As if it were drawn, but the same each time: so who receives it can tell whether it came
-    /// with its own.
+    /// Drawn, but the same each time: so who receives it can tell whether it came with its own.
     pub fn priority(self) -> u64 {
-        let mixed = self
-            .number
-            .wrapping_mul(31)
-            .wrapping_add(self.sender)
-            .wrapping_mul(0x9e37_79b9_7f4a_7c15);
-        (mixed >> 32) % PRIORITIES
+        let seed = self.sender.wrapping_mul(1 << 32).wrapping_add(self.number);
+        Dice::new(seed).below(PRIORITIES)
     }
 
     pub fn pair(self) -> Pair {

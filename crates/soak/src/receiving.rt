@@ -159,10 +159,7 @@ where
                 inbox.push(pair)?;
             }
         }
-        RecvCall::TryMany
-        | RecvCall::PollMany
-        | RecvCall::FutureMany
-        | RecvCall::BlockingMany => {
+        RecvCall::TryMany | RecvCall::PollMany | RecvCall::FutureMany | RecvCall::BlockingMany => {
             for pair in receive_many(rt, call, rx, memory, many)? {
                 inbox.push(pair)?;
             }
@@ -228,22 +225,27 @@ where
             received
         }
     };
-    ensure!(received == batch.len(), "a receive of many has counted wrong");
+    ensure!(
+        received == batch.len(),
+        "a receive of many has counted wrong"
+    );
     Ok(batch)
 }
 
 /// Once all other parties have gone: receives what is left in the closed channel.
-pub fn drain<R, A>(
-    alloc: Global,
-    rx: &Receiver<Message, u64, R, A>,
-) -> anyhow::Result<Vec<Pair>>
+pub fn drain<R, A>(alloc: Global, rx: &Receiver<Message, u64, R, A>) -> anyhow::Result<Vec<Pair>>
 where
     R: Wait + Copy,
     A: Allocator + Copy,
 {
     ensure!(rx.is_closed(), "the channel is still open");
     let counts = (rx.sender_count(), rx.receiver_count());
-    ensure!(counts == (0, 1), "{} senders and {} receivers are left", counts.0, counts.1);
+    ensure!(
+        counts == (0, 1),
+        "{} senders and {} receivers are left",
+        counts.0,
+        counts.1
+    );
     let pending = rx.len();
     ensure!(
         rx.capacity().is_none_or(|capacity| pending <= capacity),
@@ -253,7 +255,11 @@ where
     for pair in rx.try_iter() {
         drained.push(pair)?;
     }
-    ensure!(drained.len() as u64 == pending, "{pending} were pending, {} came", drained.len());
+    ensure!(
+        drained.len() as u64 == pending,
+        "{pending} were pending, {} came",
+        drained.len()
+    );
     check_falling(&drained)?;
     Ok(drained)
 }

@@ -5,7 +5,7 @@ use crate::alone::run_alone;
 use crate::dice::Dice;
 use crate::message::Message;
 use crate::receiving::{drain, receive_all};
-use crate::sending::{Outbox, send_all};
+use crate::sending::{Closing, Outbox, send_all};
 use crate::watchdog::{Party, Watchdog, Work};
 use anyhow::Context;
 use async_priority_channel::{Ends, Receiver, bounded, bounded_reserved, unbounded};
@@ -17,11 +17,14 @@ use std::time::{Clock, Duration};
 
 // How many there are at most, beside one.
 const SENDERS: u64 = 3;
+
 const RECEIVERS: u64 = 3;
+
 const ROOM: u64 = 12;
 
 // How many each sender has, and how many more at most.
 const MESSAGES: u64 = 300;
+
 const MORE_MESSAGES: u64 = 1000;
 
 // How many the party on its own has.
@@ -54,14 +57,14 @@ where
     R: Threads + Wait + Copy + Clock + RandomSource + AllocGlobal + Send + 'static,
 {
     let (tx, rx) = make_channel(&rt, dice)?;
-    let mut closes_at = draw_close(dice);
+    let close = draw_close(dice);
     for number in 0..dice.from(1, SENDERS) {
         let post = watchdog.add(rt.alloc(), Party::Sender(number))?;
         let outbox = Outbox::new(rt.alloc(), number, dice.from(MESSAGES, MORE_MESSAGES));
         let (dice, tx) = (dice.split(), tx.clone()?);
-        let closes_at = closes_at.take();
+        let closing = closing_of(number, close);
         thread::spawn(&rt, move || {
-            let sent = send_all(&rt, dice, tx, outbox, closes_at, &post);
+            let sent = send_all(&rt, dice, tx, outbox, closing, &post);
             post.report(&rt, sent.map(Work::Sent));
         })?;
     }
@@ -82,10 +85,18 @@ where
     Ok(rx)
 }
 
-// Where a sender closes the channel: how many it has left then.
+// Where the first sender closes the channel: how many it has left then.
 fn draw_close(dice: &mut Dice) -> Option<u64> {
     let left = dice.below(MESSAGES);
     dice.one_in(2).then_some(left)
+}
+
+fn closing_of(sender: u64, close: Option<u64>) -> Closing {
+    match close {
+        None => Closing::Nobody,
+        Some(left) if sender == 0 => Closing::Here(left),
+        Some(_) => Closing::Another,
+    }
 }
 
 fn make_channel<R>(rt: &R, dice: &mut Dice) -> Result<Ends<Message, u64, R>, AllocError>
@@ -122,6 +133,8 @@ fn settle<R: Wait + Copy>(
     for (party, inbox) in &inboxes {
         account.count(inbox).context(party)?;
     }
-    account.count(&drain(alloc, rx).context("the drain")?).context("the drain")?;
+    account
+        .count(&drain(alloc, rx).context("the drain")?)
+        .context("the drain")?;
     Ok(account.settle()?.saturating_add(alone))
 }

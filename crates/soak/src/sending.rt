@@ -114,6 +114,15 @@ impl Outbox {
     }
 }
 
+/// Who closes the channel before all is sent.
+#[derive(Clone, Copy, Debug, PartialEq, Eq)]
+pub enum Closing {
+    Nobody,
+    Another,
+    /// This sender, once it has no more than so many left.
+    Here(u64),
+}
+
 // What came of a call.
 enum Answer {
     // So many were sent, and the rest can be sent again.
@@ -134,14 +143,13 @@ impl Answer {
     }
 }
 
-/// Sends all, and drops the handle. Who is to close the channel does so once no more than so many
-/// are left.
+/// Sends until all are settled, and drops the handle.
 pub fn send_all<R>(
     rt: &R,
     mut dice: Dice,
     tx: Sender<Message, u64, R>,
     mut outbox: Outbox,
-    closes_at: Option<u64>,
+    closing: Closing,
     post: &Post,
 ) -> anyhow::Result<Outbox>
 where
@@ -151,13 +159,19 @@ where
         if outbox.left() == 0 {
             break;
         }
-        if closes_at.is_some_and(|left| outbox.left() <= left) {
-            close(&mut dice, &tx);
+        if let Closing::Here(left) = closing {
+            if outbox.left() <= left {
+                close(&mut dice, &tx);
+            }
         }
         let call = SendCall::draw(&mut dice);
         post.note(rt, Doing::Sends(call));
         if !send_turn(rt, &mut dice, call, &tx, &mut outbox)? {
-            ensure!(tx.is_closed(), "an open channel has told that it is closed");
+            ensure!(
+                closing != Closing::Nobody,
+                "told of a close that nobody has made"
+            );
+            ensure!(tx.is_closed(), "told of a close while the channel is open");
             break;
         }
     }
@@ -186,7 +200,10 @@ where
     A: Allocator + Copy,
 {
     if let Some(capacity) = tx.capacity() {
-        ensure!(tx.len() <= capacity, "more are pending than there is room for");
+        ensure!(
+            tx.len() <= capacity,
+            "more are pending than there is room for"
+        );
     }
     match dice.below(8) {
         0 => match tx.clone() {

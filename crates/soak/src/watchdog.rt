@@ -1,8 +1,8 @@
 //! Who waits for the parties of a round, and names those that hang.
 
+use crate::message::Pair;
 use crate::receiving::RecvCall;
 use crate::sending::{Outbox, SendCall};
-use crate::message::Pair;
 use anyhow::{Context, bail};
 use crossbeam_channel::{Receiver, Sender, unbounded};
 use std::alloc::{AllocError, AllocGlobal, Global};
@@ -125,8 +125,9 @@ impl Watchdog {
     fn names_of_those_left<R: Wait + AllocGlobal>(&self, rt: &R) -> anyhow::Result<String> {
         let mut names = String::new(rt.alloc());
         for Watched { party, doing } in &self.watched {
-            let name = format!(in rt.alloc(); "; {party}: {:?}", *doing.lock(rt))?;
-            names.push_str(&name)?;
+            let comma = if names.is_empty() { "" } else { ", " };
+            let doing = *doing.lock(rt);
+            names.push_str(&format!(in rt.alloc(); "{comma}{party} at {doing:?}")?)?;
         }
         Ok(names)
     }
