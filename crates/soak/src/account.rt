@@ -1,6 +1,7 @@
 //! The count of each message, and the order in which they came.
 
 use crate::message::{Message, PRIORITIES, Pair};
+use anyhow::ensure;
 use std::alloc::{AllocError, Global};
 use thiserror::Error;
 
@@ -9,6 +10,8 @@ use thiserror::Error;
 pub enum Fate {
     /// A send has taken it, and nobody has received it yet.
     Accepted,
+    /// A bulk send was dropped that may have sent it.
+    Unknown,
     /// It came back to its sender, or was dropped with a future that had not sent it.
     HandedBack,
     Received,
@@ -66,7 +69,7 @@ impl Account {
             return Err(Fault::MadeUp(message));
         }
         match *fate {
-            Fate::Accepted => {
+            Fate::Accepted | Fate::Unknown => {
                 *fate = Fate::Received;
                 Ok(())
             }
@@ -119,5 +122,13 @@ pub fn check_falling(pairs: &[Pair]) -> Result<(), Fault> {
         }
         least = *priority;
     }
+    Ok(())
+}
+
+pub fn check_bound(pending: u64, capacity: Option<u64>) -> anyhow::Result<()> {
+    ensure!(
+        capacity.is_none_or(|capacity| pending <= capacity),
+        "more are pending than there is room for"
+    );
     Ok(())
 }

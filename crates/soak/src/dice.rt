@@ -30,11 +30,6 @@ impl Dice {
         self.below(times) == 0
     }
 
-    /// One of them, where there is any.
-    pub fn choose<'a, T>(&mut self, all: &'a [T]) -> Option<&'a T> {
-        all.get(self.below(all.len() as u64) as usize)
-    }
-
     /// Others, for a thread of its own.
     pub fn split(&mut self) -> Dice {
         Dice::new(self.generator.next_u64())

@@ -9,6 +9,7 @@
 
 mod account;
 mod alone;
+mod call;
 mod dice;
 mod message;
 mod receiving;

@@ -1,9 +1,10 @@
 //! The party that sends: by which calls, and what has become of its messages.
 
-use crate::account::Fate;
+use crate::account::{Fate, check_bound};
+use crate::call::{Call, Shape, Way};
 use crate::dice::Dice;
 use crate::message::{Message, Pair};
-use crate::watchdog::{Doing, Post};
+use crate::watchdog::Post;
 use anyhow::ensure;
 use async_priority_channel::Sender;
 use futures::executor::block_on;
@@ -17,50 +18,7 @@ use std::time::{Clock, Duration, Instant};
 const BULK: u64 = 6;
 
 // In microseconds: how long a call with a limit waits at most.
-const PATIENCE: u64 = 500;
-
-#[derive(Clone, Copy, Debug, PartialEq, Eq)]
-pub enum SendCall {
-    Try,
-    TryMany,
-    /// A future that is polled once, and dropped.
-    Poll,
-    Future,
-    FutureMany,
-    Blocking,
-    BlockingMany,
-    Timeout,
-    TimeoutMany,
-    Deadline,
-    DeadlineMany,
-}
-
-const AT_ONCE: [SendCall; 3] = [SendCall::Try, SendCall::TryMany, SendCall::Poll];
-
-const ALL: [SendCall; 11] = [
-    SendCall::Try,
-    SendCall::TryMany,
-    SendCall::Poll,
-    SendCall::Future,
-    SendCall::FutureMany,
-    SendCall::Blocking,
-    SendCall::BlockingMany,
-    SendCall::Timeout,
-    SendCall::TimeoutMany,
-    SendCall::Deadline,
-    SendCall::DeadlineMany,
-];
-
-impl SendCall {
-    pub fn draw(dice: &mut Dice) -> SendCall {
-        *dice.choose(&ALL).unwrap_or(&SendCall::Try)
-    }
-
-    /// One that does not wait.
-    pub fn draw_at_once(dice: &mut Dice) -> SendCall {
-        *dice.choose(&AT_ONCE).unwrap_or(&SendCall::Try)
-    }
-}
+const LIMIT: u64 = 500;
 
 /// The messages of a sender, in the order of their numbers: what has become of the first of them,
 /// and how many there are.
@@ -87,23 +45,15 @@ impl Outbox {
 
     /// How many are still to be sent.
     pub fn left(&self) -> u64 {
-        self.end.saturating_sub(self.next())
-    }
-
-    fn next(&self) -> u64 {
-        self.fates.len() as u64
+        self.end.saturating_sub(self.fates.len() as u64)
     }
 
     fn pair(&self, ahead: u64) -> Pair {
         let message = Message {
             sender: self.sender,
-            number: self.next().saturating_add(ahead),
+            number: ahead.saturating_add(self.fates.len() as u64),
         };
         message.pair()
-    }
-
-    fn pairs(&self, alloc: Global, count: u64) -> Result<Vec<Pair>, AllocError> {
-        (0..count).map(|ahead| self.pair(ahead)).collect(alloc)
     }
 
     fn settle(&mut self, count: u64, fate: Fate) -> Result<(), AllocError> {
@@ -123,38 +73,15 @@ pub enum Closing {
     Here(u64),
 }
 
-// What came of a call.
-enum Answer {
-    // So many were sent, and the rest can be sent again.
-    Sent(u64),
-    // So many were sent before the channel was closed.
-    Closed(u64),
-    // The message has gone with its future.
-    Dropped,
-}
-
-impl Answer {
-    fn new(sent: u64, is_closed: bool) -> Self {
-        if is_closed {
-            Answer::Closed(sent)
-        } else {
-            Answer::Sent(sent)
-        }
-    }
-}
-
 /// Sends until all are settled, and drops the handle.
-pub fn send_all<R>(
+pub fn send_all<R: Wait + Copy + Clock + RandomSource + AllocGlobal>(
     rt: &R,
     mut dice: Dice,
     tx: Sender<Message, u64, R>,
     mut outbox: Outbox,
     closing: Closing,
     post: &Post,
-) -> anyhow::Result<Outbox>
-where
-    R: Wait + Copy + Clock + RandomSource + AllocGlobal,
-{
+) -> anyhow::Result<Outbox> {
     for _ in 0..u64::MAX {
         if outbox.left() == 0 {
             break;
@@ -164,14 +91,13 @@ where
                 close(&mut dice, &tx);
             }
         }
-        let call = SendCall::draw(&mut dice);
-        post.note(rt, Doing::Sends(call));
+        let call = Call::draw(&mut dice);
+        post.note(rt, call);
         if !send_turn(rt, &mut dice, call, &tx, &mut outbox)? {
             ensure!(
                 closing != Closing::Nobody,
                 "told of a close that nobody has made"
             );
-            ensure!(tx.is_closed(), "told of a close while the channel is open");
             break;
         }
     }
@@ -188,112 +114,108 @@ fn close<R: Wait + Clone>(dice: &mut Dice, tx: &Sender<Message, u64, R>) {
 
 /// Sends some by one call, of the handle or of another that it makes for that. False where the
 /// channel is closed.
-pub fn send_turn<R, A>(
+pub fn send_turn<R: Wait + Copy + Clock + RandomSource + AllocGlobal, A: Allocator + Copy>(
     rt: &R,
     dice: &mut Dice,
-    call: SendCall,
+    call: Call,
     tx: &Sender<Message, u64, R, A>,
     outbox: &mut Outbox,
-) -> anyhow::Result<bool>
-where
-    R: Wait + Copy + Clock + RandomSource + AllocGlobal,
-    A: Allocator + Copy,
-{
-    if let Some(capacity) = tx.capacity() {
-        ensure!(
-            tx.len() <= capacity,
-            "more are pending than there is room for"
-        );
-    }
-    match dice.below(8) {
-        0 => match tx.clone() {
-            Ok(other) => send_by(rt, dice, call, &other, outbox),
-            Err(AllocError) => Ok(true),
-        },
-        1 => match tx.downgrade() {
-            Ok(weak) => match weak.upgrade() {
-                Some(other) => send_by(rt, dice, call, &other, outbox),
-                None => Ok(true),
-            },
-            Err(AllocError) => Ok(true),
-        },
-        _ => send_by(rt, dice, call, tx, outbox),
-    }
-}
-
-fn send_by<R, A>(
-    rt: &R,
-    dice: &mut Dice,
-    call: SendCall,
-    tx: &Sender<Message, u64, R, A>,
-    outbox: &mut Outbox,
-) -> anyhow::Result<bool>
-where
-    R: Wait + Copy + Clock + RandomSource + AllocGlobal,
-    A: Allocator + Copy,
-{
-    let limit = Duration::from_micros(dice.below(PATIENCE));
-    let many = dice.from(1, BULK).min(outbox.left());
-    let answer = match call {
-        SendCall::Try
-        | SendCall::Poll
-        | SendCall::Future
-        | SendCall::Blocking
-        | SendCall::Timeout
-        | SendCall::Deadline => send_one(rt, call, limit, tx, outbox.pair(0))?,
-        _ => send_many(rt, call, limit, tx, outbox.pairs(rt.alloc(), many)?)?,
+) -> anyhow::Result<bool> {
+    check_bound(tx.len(), tx.capacity())?;
+    let answer = match make_other(dice, tx) {
+        Some(other) => send_by(rt, dice, call, &other, outbox)?,
+        None => send_by(rt, dice, call, tx, outbox)?,
     };
     match answer {
-        Answer::Sent(count) => {
-            outbox.settle(count, Fate::Accepted)?;
-            Ok(true)
-        }
-        Answer::Dropped => {
-            outbox.settle(1, Fate::HandedBack)?;
-            Ok(true)
-        }
+        Answer::Sent(count) => outbox.settle(count, Fate::Accepted)?,
+        Answer::Dropped(count, fate) => outbox.settle(count, fate)?,
         Answer::Closed(count) => {
             outbox.settle(count, Fate::Accepted)?;
             outbox.settle(outbox.left(), Fate::HandedBack)?;
-            Ok(false)
+            return Ok(false);
+        }
+    }
+    Ok(true)
+}
+
+// Now and then: a clone, or what a weak handle can be upgraded to.
+fn make_other<R: Wait + Copy, A: Allocator + Copy>(
+    dice: &mut Dice,
+    tx: &Sender<Message, u64, R, A>,
+) -> Option<Sender<Message, u64, R, A>> {
+    match dice.below(8) {
+        0 => tx.clone().ok(),
+        1 => tx.downgrade().ok()?.upgrade(),
+        _ => None,
+    }
+}
+
+// What came of a call.
+enum Answer {
+    // So many were sent, and the rest can be sent again.
+    Sent(u64),
+    // So many were sent before the channel was closed.
+    Closed(u64),
+    // So many have gone with their future.
+    Dropped(u64, Fate),
+}
+
+impl Answer {
+    fn new(sent: u64, is_closed: bool) -> Self {
+        if is_closed {
+            Answer::Closed(sent)
+        } else {
+            Answer::Sent(sent)
         }
     }
 }
 
-fn send_one<R, A>(
+fn send_by<R: Wait + Copy + Clock + RandomSource + AllocGlobal, A: Allocator + Copy>(
     rt: &R,
-    call: SendCall,
+    dice: &mut Dice,
+    call: Call,
+    tx: &Sender<Message, u64, R, A>,
+    outbox: &Outbox,
+) -> anyhow::Result<Answer> {
+    let limit = Duration::from_micros(dice.below(LIMIT));
+    if call.shape == Shape::One {
+        return send_one(rt, call.way, limit, tx, outbox.pair(0));
+    }
+    let count = dice.from(1, BULK).min(outbox.left());
+    let pairs = (0..count).map(|ahead| outbox.pair(ahead));
+    send_many(rt, call.way, limit, tx, pairs.collect(rt.alloc())?)
+}
+
+fn send_one<R: Wait + Copy + Clock + RandomSource + AllocGlobal, A: Allocator + Copy>(
+    rt: &R,
+    way: Way,
     limit: Duration,
     tx: &Sender<Message, u64, R, A>,
     (message, priority): Pair,
-) -> anyhow::Result<Answer>
-where
-    R: Wait + Copy + Clock + RandomSource + AllocGlobal,
-    A: Allocator + Copy,
-{
-    let is_closed = match call {
-        SendCall::Poll => match block_on(rt, poll_immediate(tx.send(message, priority)))? {
-            None => return Ok(Answer::Dropped),
+) -> anyhow::Result<Answer> {
+    let is_closed = match way {
+        Way::Try => {
+            let sent = tx.try_send(message, priority);
+            sent.err().map(|error| error.is_closed())
+        }
+        Way::Poll => match block_on(rt, poll_immediate(tx.send(message, priority)))? {
+            None => return Ok(Answer::Dropped(1, Fate::HandedBack)),
             Some(sent) => sent.err().map(|fault| fault.is_closed()),
         },
-        SendCall::Future => {
+        Way::Future => {
             let sent = block_on(rt, tx.send(message, priority))?;
             sent.err().map(|fault| fault.is_closed())
         }
-        SendCall::Blocking => {
+        Way::Blocking => {
             let sent = tx.send_blocking(message, priority);
             sent.err().map(|fault| fault.is_closed())
         }
-        SendCall::Timeout => {
+        Way::Timeout => {
             let sent = tx.send_timeout(message, priority, limit);
             sent.err().map(|error| error.is_closed())
         }
-        SendCall::Deadline => {
+        Way::Deadline => {
             let sent = tx.send_deadline(message, priority, from_now(rt, limit)?);
-            sent.err().map(|error| error.is_closed())
-        }
-        _ => {
-            let sent = tx.try_send(message, priority);
             sent.err().map(|error| error.is_closed())
         }
     };
@@ -303,37 +225,38 @@ where
     })
 }
 
-fn send_many<R, A>(
+fn send_many<R: Wait + Copy + Clock + RandomSource + AllocGlobal, A: Allocator + Copy>(
     rt: &R,
-    call: SendCall,
+    way: Way,
     limit: Duration,
     tx: &Sender<Message, u64, R, A>,
     pairs: Vec<Pair>,
-) -> anyhow::Result<Answer>
-where
-    R: Wait + Copy + Clock + RandomSource + AllocGlobal,
-    A: Allocator + Copy,
-{
+) -> anyhow::Result<Answer> {
     let all = pairs.len() as u64;
     let list = pairs.into_iter().peekable();
-    let (is_closed, left) = match call {
-        SendCall::FutureMany => match block_on(rt, tx.sendv(list))? {
-            Ok(()) => (false, 0),
-            Err(fault) => (fault.is_closed(), fault.into_inner().count()),
-        },
-        SendCall::BlockingMany => match tx.sendv_blocking(list) {
-            Ok(()) => (false, 0),
-            Err(fault) => (fault.is_closed(), fault.into_inner().count()),
-        },
-        SendCall::TimeoutMany => match tx.sendv_timeout(list, limit) {
+    let (is_closed, left) = match way {
+        Way::Try => match tx.try_sendv(list) {
             Ok(()) => (false, 0),
             Err(error) => (error.is_closed(), error.into_inner().count()),
         },
-        SendCall::DeadlineMany => match tx.sendv_deadline(list, from_now(rt, limit)?) {
+        Way::Poll => match block_on(rt, poll_immediate(tx.sendv(list)))? {
+            None => return Ok(Answer::Dropped(all, Fate::Unknown)),
+            Some(Ok(())) => (false, 0),
+            Some(Err(fault)) => (fault.is_closed(), fault.into_inner().count()),
+        },
+        Way::Future => match block_on(rt, tx.sendv(list))? {
+            Ok(()) => (false, 0),
+            Err(fault) => (fault.is_closed(), fault.into_inner().count()),
+        },
+        Way::Blocking => match tx.sendv_blocking(list) {
+            Ok(()) => (false, 0),
+            Err(fault) => (fault.is_closed(), fault.into_inner().count()),
+        },
+        Way::Timeout => match tx.sendv_timeout(list, limit) {
             Ok(()) => (false, 0),
             Err(error) => (error.is_closed(), error.into_inner().count()),
         },
-        _ => match tx.try_sendv(list) {
+        Way::Deadline => match tx.sendv_deadline(list, from_now(rt, limit)?) {
             Ok(()) => (false, 0),
             Err(error) => (error.is_closed(), error.into_inner().count()),
         },

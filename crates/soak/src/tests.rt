@@ -1,9 +1,9 @@
 //! What the account refuses, and whom the watchdog names.
 
 use crate::account::{Account, Fate, Fault, check_falling};
+use crate::call::{Call, Shape, Way};
 use crate::message::Message;
-use crate::receiving::RecvCall;
-use crate::watchdog::{Doing, Party, Watchdog, Work};
+use crate::watchdog::{Party, Watchdog, Work};
 use std::alloc::{AllocError, Global};
 use std::test::Fail;
 use std::time::Duration;
@@ -97,12 +97,16 @@ fn who_hangs_is_named(rt: HostRuntime) -> Result<(), Fail> {
     let ends = watchdog.add(rt.alloc(), Party::Alone)?;
     let hangs = watchdog.add(rt.alloc(), Party::Receiver(2))?;
     ends.report(&rt, Ok(Work::Counted(1)));
-    hangs.note(&rt, Doing::Receives(RecvCall::Iter));
+    let call = Call {
+        way: Way::Blocking,
+        shape: Shape::Each,
+    };
+    hangs.note(&rt, call);
     let Err(error) = watchdog.wait_all(&rt, Duration::from_millis(10)) else {
         return Err(Fail::from("nobody hangs"));
     };
     let told = format!(in rt.alloc(); "{error}")?;
-    assert_eq!(rt; told.as_str(), "no end of receiver 2 at Receives(Iter)");
+    assert_eq!(rt; told.as_str(), "no end of receiver 2 in Blocking of Each");
     drop(hangs);
     Ok(())
 }

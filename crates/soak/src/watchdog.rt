@@ -1,8 +1,8 @@
 //! Who waits for the parties of a round, and names those that hang.
 
+use crate::call::Call;
 use crate::message::Pair;
-use crate::receiving::RecvCall;
-use crate::sending::{Outbox, SendCall};
+use crate::sending::Outbox;
 use anyhow::{Context, bail};
 use crossbeam_channel::{Receiver, Sender, unbounded};
 use std::alloc::{AllocError, AllocGlobal, Global};
@@ -27,14 +27,6 @@ impl fmt::Display for Party {
     }
 }
 
-/// The call that a party is in, or was in last.
-#[derive(Clone, Copy, Debug, PartialEq, Eq)]
-pub enum Doing {
-    Begins,
-    Sends(SendCall),
-    Receives(RecvCall),
-}
-
 /// What a party has done by its end.
 #[derive(Drop)]
 pub enum Work {
@@ -53,13 +45,14 @@ struct Report {
 #[derive(Drop)]
 pub struct Post {
     party: Party,
-    doing: Arc<Mutex<Doing>, Global>,
+    call: Arc<Mutex<Option<Call>>, Global>,
     reports: Sender<Report, Global>,
 }
 
 impl Post {
-    pub fn note<R: Wait>(&self, rt: &R, doing: Doing) {
-        *self.doing.lock(rt) = doing;
+    /// The party makes this call now.
+    pub fn note<R: Wait>(&self, rt: &R, call: Call) {
+        *self.call.lock(rt) = Some(call);
     }
 
     /// The last that a party does, once its handles are dropped.
@@ -74,7 +67,7 @@ impl Post {
 #[derive(Drop)]
 struct Watched {
     party: Party,
-    doing: Arc<Mutex<Doing>, Global>,
+    call: Arc<Mutex<Option<Call>>, Global>,
 }
 
 #[derive(Drop)]
@@ -95,13 +88,13 @@ impl Watchdog {
     }
 
     pub fn add(&mut self, alloc: Global, party: Party) -> Result<Post, AllocError> {
-        let doing = Arc::new(alloc, Mutex::new(Doing::Begins))?;
+        let call = Arc::new(alloc, Mutex::new(None))?;
         let post = Post {
             party,
-            doing: Arc::try_clone(&doing)?,
+            call: Arc::try_clone(&call)?,
             reports: self.sender.clone()?,
         };
-        self.watched.push(Watched { party, doing })?;
+        self.watched.push(Watched { party, call })?;
         Ok(post)
     }
 
@@ -124,10 +117,12 @@ impl Watchdog {
 
     fn names_of_those_left<R: Wait + AllocGlobal>(&self, rt: &R) -> anyhow::Result<String> {
         let mut names = String::new(rt.alloc());
-        for Watched { party, doing } in &self.watched {
+        for Watched { party, call } in &self.watched {
             let comma = if names.is_empty() { "" } else { ", " };
-            let doing = *doing.lock(rt);
-            names.push_str(&format!(in rt.alloc(); "{comma}{party} at {doing:?}")?)?;
+            names.push_str(&format!(in rt.alloc(); "{comma}{party}")?)?;
+            if let Some(call) = *call.lock(rt) {
+                names.push_str(&format!(in rt.alloc(); " in {call}")?)?;
+            }
         }
         Ok(names)
     }
