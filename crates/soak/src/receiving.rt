@@ -171,7 +171,10 @@ pub fn drain<R: Wait + Copy, A: Allocator + Copy>(
     for pair in rx.try_iter() {
         drained.push(pair)?;
     }
-    ensure!(drained.len() as u64 == pending, "not all came that was left");
+    ensure!(
+        drained.len() as u64 == pending,
+        "not all came that was left"
+    );
     ensure!(rx.is_closed(), "the channel is still open");
     let counts = (rx.sender_count(), rx.receiver_count());
     ensure!(counts == (0, 1), "handles are counted that are gone");

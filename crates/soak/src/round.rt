@@ -106,7 +106,7 @@ where
     let room = dice.below(ROOM).saturating_add(1);
     match dice.below(4) {
         0 => unbounded(rt, rt.alloc()),
-        1 => bounded_reserved(rt, rt.alloc(), room),
+        1 => bounded_reserved(rt, rt.alloc(), ROOM),
         _ => bounded(rt, rt.alloc(), room),
     }
 }
