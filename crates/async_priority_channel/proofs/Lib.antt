@@ -1,3 +1,1 @@
 pub mod HandedBack
-pub mod LeftOver
-pub mod Lines

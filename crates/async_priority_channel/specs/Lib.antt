@@ -1,5 +1,2 @@
 pub mod Handles
-pub mod Lines
-pub mod Waits
-pub mod Tails
 pub mod Batches

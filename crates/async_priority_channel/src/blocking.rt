@@ -4,14 +4,14 @@ ghost use Rattle.std.specs.Iterator.Adapters.{peekable_can};
 ghost use Rattle.priority_channel_core.specs.code.Lists.{HasList};
 ghost use Rattle.priority_channel_parts.specs.Errors.{unsent};
 ghost use Rattle.priority_channel_laws.specs.Holding.{HoldsTail};
-ghost use Rattle.async_priority_channel.specs.Waits.{unsent_in_time};
+ghost use Rattle.priority_channel_waits.specs.Waits.{unsent_in_time};
 
-use crate::attempts::Receive;
 use crate::receiver::Receiver;
 use crate::sender::Sender;
-use crate::timeouts::{RecvTimeoutError, SendTimeoutError};
-use crate::until::{Deadline, Endless};
 use priority_channel_core::errors::{RecvFault, SendFault};
+use priority_channel_waits::attempts::Receive;
+use priority_channel_waits::timeouts::{RecvTimeoutError, SendTimeoutError};
+use priority_channel_waits::until::{Deadline, Endless};
 use std::alloc::Allocator;
 use std::iter::Peekable;
 use std::sync::Wait;

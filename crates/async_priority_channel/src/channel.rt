@@ -4,7 +4,8 @@ ghost use Rattle.priority_channel_core.specs.machine.State.{opening};
 
 use crate::receiver::Receiver;
 use crate::sender::Sender;
-use crate::shared::{Core, Handle};
+use crate::shared::Handle;
+use priority_channel_waits::waiter::Core;
 use std::alloc::{AllocError, Allocator, Global};
 use std::sync::Wait;
 

@@ -2,12 +2,12 @@
 ghost use Rattle.std.specs.Prelude.{◌≡◌, ◌<◌, IfSome, IfNone, None};
 ghost use Rattle.std.specs.Iterator.{at_most};
 
-use crate::attempts::Receive;
 use crate::receiver::Receiver;
 use crate::shared::Handle;
-use crate::timeouts::Ended;
-use crate::until::Endless;
-use crate::waiter::Waiter;
+use priority_channel_waits::attempts::Receive;
+use priority_channel_waits::timeouts::Ended;
+use priority_channel_waits::until::Endless;
+use priority_channel_waits::waiter::Waiter;
 use std::alloc::{Allocator, Global};
 use std::iter::FusedIterator;
 use std::sync::Wait;

@@ -224,23 +224,17 @@
 //! ```
 #![tactic(auto)]
 
-mod attempts;
 mod blocking;
 mod channel;
 mod close_on_drop;
 mod iter;
-mod line;
 mod many;
 mod parked;
 mod peek;
 mod receiver;
 mod sender;
 mod shared;
-mod spins;
 mod stream;
-mod timeouts;
-mod until;
-mod waiter;
 pub mod waiting;
 mod weak;
 
@@ -253,9 +247,9 @@ pub use priority_channel_core::errors::{
 };
 pub use priority_channel_laws::laws;
 pub use priority_channel_recorded as recorded;
+pub use priority_channel_waits::timeouts::{RecvTimeoutError, SendTimeoutError};
 pub use receiver::Receiver;
 pub use sender::Sender;
 pub use stream::{IntoStream, RecvStream};
-pub use timeouts::{RecvTimeoutError, SendTimeoutError};
 pub use waiting::{Recv, Send, Sendv};
 pub use weak::{WeakReceiver, WeakSender};

@@ -5,12 +5,12 @@ ghost use Rattle.futures.specs.Poll.{IfReady, OnPending};
 ghost use Rattle.priority_channel_parts.specs.declared.errors.RecvFault.{RecvFault};
 ghost use Rattle.async_priority_channel.specs.Batches.{Appends, IsWithin};
 
-use crate::attempts::{Outcome, Receive};
 use crate::receiver::Receiver;
 use crate::stream::Receives;
 use futures::Future;
 use futures::task::{Context, Poll};
 use priority_channel_core::errors::{RecvError, RecvFault, TryRecvManyError};
+use priority_channel_waits::attempts::{Outcome, Receive};
 use std::alloc::{Allocator, Global};
 use std::marker::Model;
 use std::sync::Wait;

@@ -3,16 +3,16 @@
 //! and sleeps until it is the first; and then the channel lists it, and it sleeps until it is
 //! handed out.
 ghost use Rattle.std.specs.Prelude.{IfErr, IfSome};
-ghost use Rattle.async_priority_channel.specs.Waits.{left_over, given_back};
+ghost use Rattle.priority_channel_waits.specs.Waits.{left_over, given_back};
 
-use crate::attempts::{Attempt, Outcome};
-use crate::line::{Lead, Line, Listing, Queued};
 use crate::shared::Handle;
-use crate::timeouts::Ended;
-use crate::until::Until;
-use crate::waiter::Waiter;
 use crossbeam_utils::Backoff;
 use priority_channel_core::side::Side;
+use priority_channel_waits::attempts::{Attempt, Outcome};
+use priority_channel_waits::line::{Lead, Line, Listing, Queued};
+use priority_channel_waits::timeouts::Ended;
+use priority_channel_waits::until::Until;
+use priority_channel_waits::waiter::Waiter;
 use std::alloc::Allocator;
 use std::sync::{Wait, WaitMethods};
 

@@ -8,20 +8,17 @@ ghost use Rattle.priority_channel_core.specs.machine.State.{opening};
 ghost use Rattle.priority_channel_core.specs.machine.OtherCalls.{capacity_told};
 ghost use Rattle.async_priority_channel.specs.Handles.{source_of};
 
-use crate::line::Line;
-use crate::spins::Spins;
-use crate::waiter::{Waiter, wake_all};
 use futures::task::{Context, Source};
 use priority_channel_core::awaitable_atomics::Wakes;
-use priority_channel_core::channel::PriorityQueueChannel;
 use priority_channel_core::side::Side;
+use priority_channel_waits::line::Line;
+use priority_channel_waits::spins::Spins;
+use priority_channel_waits::waiter::{Core, Waiter, wake_all};
 use std::alloc::{AllocError, Allocator};
 use std::marker::Model;
 use std::random::RandomSource;
 use std::sync::atomic::{AtomicBool, Ordering};
 use std::sync::{Arc, Mutex, MutexGuard, OnceLock, Wait, WaitMethods};
-
-pub type Core<T, P, A> = PriorityQueueChannel<T, P, Waiter<A>, A>;
 
 /// Where those wait who wait for the same: tasks at a source, and threads in a line.
 #[derive(Drop)]

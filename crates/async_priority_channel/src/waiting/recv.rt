@@ -6,11 +6,11 @@ ghost use Rattle.priority_channel_parts.specs.declared.errors.RecvFault.{RecvFau
 ghost use Rattle.priority_channel_laws.specs.Holding.{unpolled, done};
 
 use crate::receiver::Receiver;
-use crate::waiter::Waiter;
 use crate::waiting::RecvState;
 use futures::Future;
 use futures::task::{Context, Poll};
 use priority_channel_core::errors::RecvFault;
+use priority_channel_waits::waiter::Waiter;
 use std::alloc::{Allocator, Global};
 use std::marker::Model;
 use std::sync::Wait;

@@ -9,11 +9,11 @@ ghost use Rattle.priority_channel_laws.specs.Holding.{unpolled, done};
 ghost use Rattle.async_priority_channel.specs.Handles.{HandsBackTail};
 
 use crate::sender::Sender;
-use crate::waiter::Waiter;
 use crate::waiting::SendvState;
 use futures::Future;
 use futures::task::{Context, Poll};
 use priority_channel_core::errors::SendFault;
+use priority_channel_waits::waiter::Waiter;
 use std::alloc::{Allocator, Global};
 use std::iter::Peekable;
 use std::marker::Model;

@@ -3,11 +3,15 @@ ghost use Rattle.futures.specs.Task.{Hears, IsArmed, Keeps};
 
 use futures::task::{Context, Poll, Source, Waker};
 use priority_channel_core::awaitable_atomics::Wakes;
+use priority_channel_core::channel::PriorityQueueChannel;
 use std::alloc::{AllocError, Allocator};
 use std::marker::Model;
 use std::sync::{Arc, Mutex, Wait};
 use std::thread::Parker;
 use std::time::Duration;
+
+/// A channel's core, whose waiters are tasks and threads.
+pub type Core<T, P, A> = PriorityQueueChannel<T, P, Waiter<A>, A>;
 
 /// One task or one thread that waits, which a future or a blocking call shares with the channel's
 /// waiting list and keeps over its polls.

@@ -1,6 +1,6 @@
 use Rattle.std.proofs.Common.{◌∙◌, ◌<◌, sym}
-use Rattle.async_priority_channel.proofs.Lines.{all_behind}
-use Rattle.async_priority_channel.proofs.line.Line.move_up.Goals as goal
+use Rattle.priority_channel_waits.proofs.Lines.{all_behind}
+use Rattle.priority_channel_waits.proofs.line.Line.move_up.Goals as goal
 
 pub invariant_of-self : goal.invariant_of-self
 invariant_of-self g c =

@@ -9,10 +9,9 @@ ghost use Rattle.std.specs.Prelude.{◌≡◌, ◌≢◌, ◌↔◌, ℕ, ◌+�
 ghost use Rattle.priority_channel_parts.specs.Waiting.{without};
 ghost use Rattle.priority_channel_parts.specs.Waiters.{unlist};
 ghost use Rattle.priority_channel_core.specs.code.Channel.{IsBlocked};
-ghost use Rattle.async_priority_channel.specs.Lines.{IsFirst, Lists};
+ghost use Rattle.priority_channel_waits.specs.Lines.{IsFirst, Lists};
 
-use crate::shared::Core;
-use crate::waiter::Waiter;
+use crate::waiter::{Core, Waiter};
 use priority_channel_core::comparisons::Comparisons;
 use priority_channel_core::side::Side;
 use priority_channel_parts::waiting_list::WaitingList;
@@ -36,7 +35,7 @@ pub struct Line<A: Allocator> {
 impl<A: Allocator> Model for Line<A> {
     ghost use Rattle.std.specs.Prelude.{◌≡◌, ◌<◌, [], None};
     ghost use Rattle.std.specs.List.{All};
-    ghost use Rattle.async_priority_channel.specs.Lines.{Lined};
+    ghost use Rattle.priority_channel_waits.specs.Lines.{Lined};
 
     ghost Value = { Lined };
 

@@ -1,6 +1,6 @@
 use Rattle.std.proofs.Common.{◌==◌, ◌<◌, not, refl}
 use Rattle.std.proofs.lemmas.List.Elements.{All-filter}
-use Rattle.async_priority_channel.proofs.line.Line.leave.Goals as goal
+use Rattle.priority_channel_waits.proofs.line.Line.leave.Goals as goal
 
 pub invariant_of-self : goal.invariant_of-self
 invariant_of-self g c =

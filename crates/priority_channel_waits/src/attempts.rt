@@ -7,12 +7,11 @@ ghost use Rattle.priority_channel_core.specs.machine.Step.{Step};
 ghost use Rattle.priority_channel_core.specs.code.Calls.{Performs};
 ghost use Rattle.priority_channel_laws.specs.Holding.{HoldsTail};
 ghost use Rattle.priority_channel_core.specs.code.Replies.{waits_under};
-ghost use Rattle.async_priority_channel.specs.Waits.{left_over, given_back, outcome_of_try, recv_tried, recv_polled};
-ghost use Rattle.async_priority_channel.specs.Tails.{tail_of_itself, tail_of_tail};
+ghost use Rattle.priority_channel_waits.specs.Waits.{left_over, given_back, outcome_of_try, recv_tried, recv_polled};
+ghost use Rattle.priority_channel_waits.specs.Tails.{tail_of_itself, tail_of_tail};
 
-use crate::shared::Core;
 use crate::timeouts::Ended;
-use crate::waiter::Waiter;
+use crate::waiter::{Core, Waiter};
 use priority_channel_core::awaitable_atomics::Wakes;
 use priority_channel_core::calls::{Answer, Call, CorePoll};
 use priority_channel_core::errors::{RecvFault, TryRecvError, TrySendError};

@@ -1,8 +1,8 @@
 use Rattle.priority_channel_core.specs.code.Lists.{HasList}
 use Rattle.priority_channel_laws.specs.Holding.{HoldsTail}
-use Rattle.async_priority_channel.proofs.LeftOver.{left_of_try}
+use Rattle.priority_channel_waits.proofs.LeftOver.{left_of_try}
 use Rattle.priority_channel_laws.proofs.futures.Holdings.{refused_tail}
-use Rattle.async_priority_channel.proofs.attempts.PeekableAttempt.try_on.Goals as goal
+use Rattle.priority_channel_waits.proofs.attempts.PeekableAttempt.try_on.Goals as goal
 
 pub returns-clause-tail : goal.returns-clause-tail
 returns-clause-tail g c =

@@ -12,15 +12,15 @@ use Rattle.priority_channel_parts.specs.declared.errors.SendFault.TheVariants as
 use Rattle.priority_channel_parts.specs.declared.errors.RecvError.{RecvError}
 use Rattle.priority_channel_parts.specs.declared.errors.RecvFault.{RecvFault}
 use Rattle.priority_channel_parts.specs.declared.errors.RecvFault.TheVariants as recv_fault
-use Rattle.async_priority_channel.specs.declared.attempts.Outcome.{Outcome}
-use Rattle.async_priority_channel.specs.declared.attempts.Outcome.TheVariants.{Done, Blocked, Closed, Memory}
-use Rattle.async_priority_channel.specs.declared.attempts.Receive.{Receive}
-use Rattle.async_priority_channel.specs.declared.timeouts.Ended.{Ended}
-use Rattle.async_priority_channel.specs.declared.timeouts.Ended.TheVariants as ended
-use Rattle.async_priority_channel.specs.declared.timeouts.SendTimeoutError.{SendTimeoutError}
-use Rattle.async_priority_channel.specs.declared.timeouts.SendTimeoutError.TheVariants as send_timeout
-use Rattle.async_priority_channel.specs.declared.timeouts.RecvTimeoutError.{RecvTimeoutError}
-use Rattle.async_priority_channel.specs.declared.timeouts.RecvTimeoutError.TheVariants as recv_timeout
+use Rattle.priority_channel_waits.specs.declared.attempts.Outcome.{Outcome}
+use Rattle.priority_channel_waits.specs.declared.attempts.Outcome.TheVariants.{Done, Blocked, Closed, Memory}
+use Rattle.priority_channel_waits.specs.declared.attempts.Receive.{Receive}
+use Rattle.priority_channel_waits.specs.declared.timeouts.Ended.{Ended}
+use Rattle.priority_channel_waits.specs.declared.timeouts.Ended.TheVariants as ended
+use Rattle.priority_channel_waits.specs.declared.timeouts.SendTimeoutError.{SendTimeoutError}
+use Rattle.priority_channel_waits.specs.declared.timeouts.SendTimeoutError.TheVariants as send_timeout
+use Rattle.priority_channel_waits.specs.declared.timeouts.RecvTimeoutError.{RecvTimeoutError}
+use Rattle.priority_channel_waits.specs.declared.timeouts.RecvTimeoutError.TheVariants as recv_timeout
 
 -- what comes back of an attempt
 abbrev pub left_over : {D C : Type 0} → Outcome D C → Option C

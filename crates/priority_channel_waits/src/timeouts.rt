@@ -3,7 +3,7 @@
 //! The error of a send holds what was to be sent. `{}` and `{:?}` print nothing of that, so its
 //! type need not print.
 ghost use Rattle.std.specs.Prelude.{◌≡◌, ◌↔◌, IsTrue, Some};
-ghost use Rattle.async_priority_channel.specs.Waits.{given_back, unsent_in_time};
+ghost use Rattle.priority_channel_waits.specs.Waits.{given_back, unsent_in_time};
 
 use crate::until::Overdue;
 use priority_channel_core::errors::{RecvError, RecvFault, SendError, SendFault};
@@ -20,7 +20,7 @@ pub enum Ended<C, O> {
 
 impl<T> From<Ended<T, Infallible>> for SendFault<T> {
     ghost use Rattle.priority_channel_parts.specs.Errors.{unsent};
-    ghost use Rattle.async_priority_channel.specs.Waits.{TellsSendFault};
+    ghost use Rattle.priority_channel_waits.specs.Waits.{TellsSendFault};
 
     ghost from_gives = { λ ended fault. TellsSendFault ended fault
         × (unsent fault ≡ given_back ended) };
@@ -35,7 +35,7 @@ impl<T> From<Ended<T, Infallible>> for SendFault<T> {
 }
 
 impl<C: Drop> From<Ended<C, Infallible>> for RecvFault {
-    ghost use Rattle.async_priority_channel.specs.Waits.{TellsRecvFault};
+    ghost use Rattle.priority_channel_waits.specs.Waits.{TellsRecvFault};
 
     ghost from_gives = { TellsRecvFault };
 
@@ -127,7 +127,7 @@ impl<T> SendTimeoutError<T> {
 }
 
 impl<T> From<Ended<T, Overdue>> for SendTimeoutError<T> {
-    ghost use Rattle.async_priority_channel.specs.Waits.{TellsSendTimeout};
+    ghost use Rattle.priority_channel_waits.specs.Waits.{TellsSendTimeout};
 
     ghost from_gives = { λ ended error. TellsSendTimeout ended error
         × (unsent_in_time error ≡ given_back ended) };
@@ -142,7 +142,7 @@ impl<T> From<Ended<T, Overdue>> for SendTimeoutError<T> {
 }
 
 impl<T> From<SendFault<T>> for SendTimeoutError<T> {
-    ghost use Rattle.async_priority_channel.specs.Waits.{send_fault_in_time};
+    ghost use Rattle.priority_channel_waits.specs.Waits.{send_fault_in_time};
 
     ghost from_gives = { λ fault error. error ≡ send_fault_in_time fault };
 
@@ -155,7 +155,7 @@ impl<T> From<SendFault<T>> for SendTimeoutError<T> {
 }
 
 impl<T> fmt::Display for SendTimeoutError<T> {
-    ghost use Rattle.async_priority_channel.specs.Waits.{send_timeout_text};
+    ghost use Rattle.priority_channel_waits.specs.Waits.{send_timeout_text};
 
     ghost output = { λ error. Some (send_timeout_text error) };
 
@@ -169,7 +169,7 @@ impl<T> fmt::Display for SendTimeoutError<T> {
 }
 
 impl<T> fmt::Debug for SendTimeoutError<T> {
-    ghost use Rattle.async_priority_channel.specs.Waits.{send_timeout_debug};
+    ghost use Rattle.priority_channel_waits.specs.Waits.{send_timeout_debug};
 
     ghost debug_output = { λ error. Some (send_timeout_debug error) };
 
@@ -245,7 +245,7 @@ impl RecvTimeoutError {
 }
 
 impl<C: Drop> From<Ended<C, Overdue>> for RecvTimeoutError {
-    ghost use Rattle.async_priority_channel.specs.Waits.{TellsRecvTimeout};
+    ghost use Rattle.priority_channel_waits.specs.Waits.{TellsRecvTimeout};
 
     ghost from_gives = { TellsRecvTimeout };
 
@@ -259,7 +259,7 @@ impl<C: Drop> From<Ended<C, Overdue>> for RecvTimeoutError {
 }
 
 impl From<RecvFault> for RecvTimeoutError {
-    ghost use Rattle.async_priority_channel.specs.Waits.{recv_fault_in_time};
+    ghost use Rattle.priority_channel_waits.specs.Waits.{recv_fault_in_time};
 
     ghost from_gives = { λ fault error. error ≡ recv_fault_in_time fault };
 
@@ -272,7 +272,7 @@ impl From<RecvFault> for RecvTimeoutError {
 }
 
 impl fmt::Display for RecvTimeoutError {
-    ghost use Rattle.async_priority_channel.specs.Waits.{recv_timeout_text};
+    ghost use Rattle.priority_channel_waits.specs.Waits.{recv_timeout_text};
 
     ghost output = { λ error. Some (recv_timeout_text error) };
 

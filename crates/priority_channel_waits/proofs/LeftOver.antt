@@ -3,7 +3,7 @@ use Rattle.std.specs.Prelude.{◌≡◌, IfErr, IfSome, IsErrAnd, Result, Ok, Er
 use Rattle.priority_channel_parts.specs.declared.errors.TrySendError.{TrySendError}
 use Rattle.priority_channel_parts.specs.declared.errors.TrySendError.TheVariants.{Full, Closed, Memory}
 use Rattle.priority_channel_parts.specs.Errors.{rest_of}
-use Rattle.async_priority_channel.specs.Waits.{left_over, outcome_of_try}
+use Rattle.priority_channel_waits.specs.Waits.{left_over, outcome_of_try}
 
 module _ {C : Type 0} (Q : C → Type 0) where
   pub left_of_try : (reply : Result (Unit {0}) (TrySendError C)) → IfErr reply (λ error. Q (rest_of error)) → IfSome (left_over (outcome_of_try reply)) Q

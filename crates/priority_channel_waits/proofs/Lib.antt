@@ -1,0 +1,2 @@
+pub mod LeftOver
+pub mod Lines
