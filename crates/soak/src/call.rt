@@ -1,0 +1,71 @@
+//! The kinds of calls by which parties send and receive.
+
+use crate::dice::Dice;
+use std::fmt;
+
+/// How a call waits.
+#[derive(Clone, Copy, Debug, PartialEq, Eq)]
+pub enum Way {
+    Try,
+    /// As a future that is polled once, and dropped.
+    Poll,
+    Future,
+    Blocking,
+    Timeout,
+    Deadline,
+}
+
+/// What a call moves.
+#[derive(Clone, Copy, Debug, PartialEq, Eq)]
+pub enum Shape {
+    One,
+    Many,
+    /// By an iterator or a stream, or as `Many` where a sender has none.
+    Each,
+}
+
+#[derive(Clone, Copy, Debug, PartialEq, Eq)]
+pub struct Call {
+    pub way: Way,
+    pub shape: Shape,
+}
+
+impl Call {
+    pub fn draw(dice: &mut Dice) -> Self {
+        let way = match dice.below(6) {
+            0 => Way::Try,
+            1 => Way::Poll,
+            2 => Way::Future,
+            3 => Way::Blocking,
+            4 => Way::Timeout,
+            _ => Way::Deadline,
+        };
+        Call {
+            way,
+            shape: draw_shape(dice),
+        }
+    }
+
+    /// One that does not wait.
+    pub fn draw_at_once(dice: &mut Dice) -> Self {
+        let way = if dice.one_in(2) { Way::Try } else { Way::Poll };
+        Call {
+            way,
+            shape: draw_shape(dice),
+        }
+    }
+}
+
+fn draw_shape(dice: &mut Dice) -> Shape {
+    match dice.below(3) {
+        0 => Shape::One,
+        1 => Shape::Many,
+        _ => Shape::Each,
+    }
+}
+
+impl fmt::Display for Call {
+    fn fmt<W: fmt::Write>(&self, f: &mut fmt::Formatter<W>) -> fmt::Result {
+        write!(f, "{:?} of {:?}", self.way, self.shape)
+    }
+}

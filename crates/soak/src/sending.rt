@@ -1,0 +1,271 @@
+//! The party that sends: by which calls, and what has become of its messages.
+
+use crate::account::{Fate, check_bound};
+use crate::call::{Call, Shape, Way};
+use crate::dice::Dice;
+use crate::message::{Message, Pair};
+use crate::watchdog::Post;
+use anyhow::ensure;
+use async_priority_channel::Sender;
+use futures::executor::block_on;
+use futures::future::poll_immediate;
+use std::alloc::{AllocError, AllocGlobal, Allocator, Global};
+use std::random::RandomSource;
+use std::sync::Wait;
+use std::time::{Clock, Duration, Instant};
+
+// How many messages a bulk send has at most.
+const BULK: u64 = 6;
+
+// In microseconds: how long a call with a limit waits at most.
+const LIMIT: u64 = 500;
+
+/// The messages of a sender, in the order of their numbers: what has become of the first of them,
+/// and how many there are.
+#[derive(Drop)]
+pub struct Outbox {
+    pub sender: u64,
+    end: u64,
+    fates: Vec<Fate>,
+}
+
+impl Outbox {
+    pub fn new(alloc: Global, sender: u64, end: u64) -> Self {
+        Outbox {
+            sender,
+            end,
+            fates: Vec::new(alloc),
+        }
+    }
+
+    pub fn into_fates(self) -> Vec<Fate> {
+        let Outbox { fates, .. } = self;
+        fates
+    }
+
+    /// How many are still to be sent.
+    pub fn left(&self) -> u64 {
+        self.end.saturating_sub(self.fates.len() as u64)
+    }
+
+    fn pair(&self, ahead: u64) -> Pair {
+        let message = Message {
+            sender: self.sender,
+            number: ahead.saturating_add(self.fates.len() as u64),
+        };
+        message.pair()
+    }
+
+    fn settle(&mut self, count: u64, fate: Fate) -> Result<(), AllocError> {
+        for _ in 0..count {
+            self.fates.push(fate)?;
+        }
+        Ok(())
+    }
+}
+
+/// Who closes the channel before all is sent.
+#[derive(Clone, Copy, Debug, PartialEq, Eq)]
+pub enum Closing {
+    Nobody,
+    Another,
+    /// This sender, once it has no more than so many left.
+    Here(u64),
+}
+
+/// Sends until all are settled, and drops the handle.
+pub fn send_all<R: Wait + Copy + Clock + RandomSource + AllocGlobal>(
+    rt: &R,
+    mut dice: Dice,
+    tx: Sender<Message, u64, R>,
+    mut outbox: Outbox,
+    closing: Closing,
+    post: &Post,
+) -> anyhow::Result<Outbox> {
+    for _ in 0..u64::MAX {
+        if outbox.left() == 0 {
+            break;
+        }
+        if let Closing::Here(left) = closing {
+            if outbox.left() <= left {
+                close(&mut dice, &tx);
+            }
+        }
+        let call = Call::draw(&mut dice);
+        post.note(rt, call);
+        if !send_turn(rt, &mut dice, call, &tx, &mut outbox)? {
+            ensure!(
+                closing != Closing::Nobody,
+                "told of a close that nobody has made"
+            );
+            break;
+        }
+    }
+    Ok(outbox)
+}
+
+fn close<R: Wait + Clone>(dice: &mut Dice, tx: &Sender<Message, u64, R>) {
+    if dice.one_in(2) {
+        tx.close();
+    } else {
+        drop(tx.close_on_drop());
+    }
+}
+
+/// Sends some by one call, of the handle or of another that it makes for that. False where the
+/// channel is closed.
+pub fn send_turn<R: Wait + Copy + Clock + RandomSource + AllocGlobal, A: Allocator + Copy>(
+    rt: &R,
+    dice: &mut Dice,
+    call: Call,
+    tx: &Sender<Message, u64, R, A>,
+    outbox: &mut Outbox,
+) -> anyhow::Result<bool> {
+    check_bound(tx.len(), tx.capacity())?;
+    let answer = match make_other(dice, tx) {
+        Some(other) => send_by(rt, dice, call, &other, outbox)?,
+        None => send_by(rt, dice, call, tx, outbox)?,
+    };
+    match answer {
+        Answer::Sent(count) => outbox.settle(count, Fate::Accepted)?,
+        Answer::Dropped(count, fate) => outbox.settle(count, fate)?,
+        Answer::Closed(count) => {
+            outbox.settle(count, Fate::Accepted)?;
+            outbox.settle(outbox.left(), Fate::HandedBack)?;
+            return Ok(false);
+        }
+    }
+    Ok(true)
+}
+
+// Now and then: a clone, or what a weak handle can be upgraded to.
+fn make_other<R: Wait + Copy, A: Allocator + Copy>(
+    dice: &mut Dice,
+    tx: &Sender<Message, u64, R, A>,
+) -> Option<Sender<Message, u64, R, A>> {
+    match dice.below(8) {
+        0 => tx.clone().ok(),
+        1 => tx.downgrade().ok()?.upgrade(),
+        _ => None,
+    }
+}
+
+// What came of a call.
+enum Answer {
+    // So many were sent, and the rest can be sent again.
+    Sent(u64),
+    // So many were sent before the channel was closed.
+    Closed(u64),
+    // So many have gone with their future.
+    Dropped(u64, Fate),
+}
+
+impl Answer {
+    fn new(sent: u64, is_closed: bool) -> Self {
+        if is_closed {
+            Answer::Closed(sent)
+        } else {
+            Answer::Sent(sent)
+        }
+    }
+}
+
+fn send_by<R: Wait + Copy + Clock + RandomSource + AllocGlobal, A: Allocator + Copy>(
+    rt: &R,
+    dice: &mut Dice,
+    call: Call,
+    tx: &Sender<Message, u64, R, A>,
+    outbox: &Outbox,
+) -> anyhow::Result<Answer> {
+    let limit = Duration::from_micros(dice.below(LIMIT));
+    if call.shape == Shape::One {
+        return send_one(rt, call.way, limit, tx, outbox.pair(0));
+    }
+    let count = dice.from(1, BULK).min(outbox.left());
+    let pairs = (0..count).map(|ahead| outbox.pair(ahead));
+    send_many(rt, call.way, limit, tx, pairs.collect(rt.alloc())?)
+}
+
+fn send_one<R: Wait + Copy + Clock + RandomSource + AllocGlobal, A: Allocator + Copy>(
+    rt: &R,
+    way: Way,
+    limit: Duration,
+    tx: &Sender<Message, u64, R, A>,
+    (message, priority): Pair,
+) -> anyhow::Result<Answer> {
+    let is_closed = match way {
+        Way::Try => {
+            let sent = tx.try_send(message, priority);
+            sent.err().map(|error| error.is_closed())
+        }
+        Way::Poll => match block_on(rt, poll_immediate(tx.send(message, priority)))? {
+            None => return Ok(Answer::Dropped(1, Fate::HandedBack)),
+            Some(sent) => sent.err().map(|fault| fault.is_closed()),
+        },
+        Way::Future => {
+            let sent = block_on(rt, tx.send(message, priority))?;
+            sent.err().map(|fault| fault.is_closed())
+        }
+        Way::Blocking => {
+            let sent = tx.send_blocking(message, priority);
+            sent.err().map(|fault| fault.is_closed())
+        }
+        Way::Timeout => {
+            let sent = tx.send_timeout(message, priority, limit);
+            sent.err().map(|error| error.is_closed())
+        }
+        Way::Deadline => {
+            let sent = tx.send_deadline(message, priority, from_now(rt, limit)?);
+            sent.err().map(|error| error.is_closed())
+        }
+    };
+    Ok(match is_closed {
+        None => Answer::Sent(1),
+        Some(is_closed) => Answer::new(0, is_closed),
+    })
+}
+
+fn send_many<R: Wait + Copy + Clock + RandomSource + AllocGlobal, A: Allocator + Copy>(
+    rt: &R,
+    way: Way,
+    limit: Duration,
+    tx: &Sender<Message, u64, R, A>,
+    pairs: Vec<Pair>,
+) -> anyhow::Result<Answer> {
+    let all = pairs.len() as u64;
+    let list = pairs.into_iter().peekable();
+    let (is_closed, left) = match way {
+        Way::Try => match tx.try_sendv(list) {
+            Ok(()) => (false, 0),
+            Err(error) => (error.is_closed(), error.into_inner().count()),
+        },
+        Way::Poll => match block_on(rt, poll_immediate(tx.sendv(list)))? {
+            None => return Ok(Answer::Dropped(all, Fate::Unknown)),
+            Some(Ok(())) => (false, 0),
+            Some(Err(fault)) => (fault.is_closed(), fault.into_inner().count()),
+        },
+        Way::Future => match block_on(rt, tx.sendv(list))? {
+            Ok(()) => (false, 0),
+            Err(fault) => (fault.is_closed(), fault.into_inner().count()),
+        },
+        Way::Blocking => match tx.sendv_blocking(list) {
+            Ok(()) => (false, 0),
+            Err(fault) => (fault.is_closed(), fault.into_inner().count()),
+        },
+        Way::Timeout => match tx.sendv_timeout(list, limit) {
+            Ok(()) => (false, 0),
+            Err(error) => (error.is_closed(), error.into_inner().count()),
+        },
+        Way::Deadline => match tx.sendv_deadline(list, from_now(rt, limit)?) {
+            Ok(()) => (false, 0),
+            Err(error) => (error.is_closed(), error.into_inner().count()),
+        },
+    };
+    Ok(Answer::new(all.saturating_sub(left as u64), is_closed))
+}
+
+/// Where the clock ends before, now.
+pub fn from_now<R: Clock>(rt: &R, limit: Duration) -> anyhow::Result<Instant> {
+    let now = Instant::now(rt)?;
+    Ok(now.checked_add(limit).unwrap_or(now))
+}
