@@ -1,0 +1,5 @@
+pub mod Fronts
+pub mod Histories
+pub mod Lines
+pub mod Adding
+pub mod Accounts

@@ -1,0 +1,4 @@
+pub mod History
+pub mod Tells
+pub mod Log
+pub mod Passes
