@@ -84,12 +84,15 @@ module _ {T P W : Type 0} where
   all_saw_more passes xs ys more all =
       All-weaker (λ pass. IsPrefix pass.seen xs) (λ pass. IsPrefix pass.seen ys) (λ pass saw. prefix_trans pass.seen xs ys saw more) passes all
 
+  -- whether the entry stands under this number
+  abbrev hit : ℕ → Entry T P W → ℕ
+  hit number entry = cond (entry.who == number) 1 0
+
   calls_with : (number count : ℕ) (seen kept : List (Entry T P W)) (last : Entry T P W) → IsPrefix seen kept → count ≤ calls_of number seen
       → last.who ≡ number → count + 1 ≤ calls_of number (kept ++ last ∷ [])
   calls_with number count seen kept last front counted is =
-      let hit : Entry T P W → ℕ = λ entry. cond (entry.who == number) 1 0 in
-      let one : cond (last.who == number) 1 0 ≡ 1 = grind (arith, nat_tests) in
-      omega (arith, counted, one, sym (ap (calls_of number) front.1) ∙ sum_by-append hit seen front.0, sum_by_push hit kept last)
+      let one : hit number last ≡ 1 = grind (arith, nat_tests) in
+      omega (arith, counted, one, sym (ap (calls_of number) front.1) ∙ sum_by-append (hit number) seen front.0, sum_by_push (hit number) kept last)
 
   -- after a call a pass has seen all that was kept, and its own entry
   pub told_more : (cmp : P → P → Ordering) (is_clone : W → W → Type 0) (capacity : ℕ) (is_reserved : Bool) (old new : Carried T P W) (kept : List (Entry T P W)) (last : Entry T P W)

@@ -8,6 +8,7 @@ use Rattle.priority_channel_core.specs.machine.Run.{Operation, Run}
 use Rattle.priority_channel_core.proofs.Runs.{Run-more}
 use Rattle.priority_channel_witnessed.specs.declared.entry.Entry.{Entry}
 use Rattle.priority_channel_witnessed.specs.History.{operation_of, IsHistory, IsLegal, IsNext}
+use Rattle.priority_channel_witnessed.specs.Passes.{Carried, IsTold}
 
 module _ {T P W : Type 0} (cmp : P → P → Ordering) (is_clone : W → W → Type 0) where
   pub history_more : (capacity : ℕ) (is_reserved : Bool) (old new : State T P W) (history : List (Entry T P W)) (last : Entry T P W)
@@ -44,3 +45,9 @@ module _ {T P W : Type 0} (cmp : P → P → Ordering) (is_clone : W → W → T
   last_step capacity is_reserved before last legal =
       let k = last_of (opening capacity is_reserved) legal.state before last legal.run.leads in
       record { old = k.0; new = k.2.0; so_far = record { leads = k.1 }; step = k.2.1 }
+
+  -- what was told of is a step behind all that had been seen
+  pub told_step : (capacity : ℕ) (is_reserved : Bool) (old new : Carried T P W) (last : Entry T P W) → IsTold cmp is_clone capacity is_reserved old last new
+      → (between : List (Entry T P W)) × IsNext cmp is_clone capacity is_reserved (old.seen ++ between) last
+  told_step capacity is_reserved old new last told =
+      (told.between, last_step capacity is_reserved (old.seen ++ told.between) last (subst (λ (l : List (Entry T P W)). IsLegal cmp is_clone capacity is_reserved l) told.seen told.legal))

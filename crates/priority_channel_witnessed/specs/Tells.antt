@@ -11,6 +11,11 @@ use Rattle.priority_channel_witnessed.specs.declared.entry.Told.TheVariants.{Try
 use Rattle.priority_channel_witnessed.specs.declared.entry.Telling.{Telling}
 use Rattle.priority_channel_witnessed.specs.History.{entry}
 
+-- whom a call handed out, where it is of those that hand out
+abbrev pub handed_told : {W : Type 0} → Option (Snapshot (Handed W)) → Handed W
+handed_told None = nobody
+handed_told (Some handed) = handed.value
+
 module _ {T P W : Type 0} where
   -- the call of which this is told
   abbrev pub call_of : Told T P W → Calls T P W
@@ -44,11 +49,6 @@ module _ {T P W : Type 0} where
   answer_of (PollSend msg priority ticket waker reply) = answer.PollSend reply.value
   answer_of (PollRecv ticket waker reply) = answer.PollRecv reply.value
   answer_of (GiveUp ticket) = answer.GiveUp
-
-  -- whom it handed out, where it is of those that hand out
-  abbrev pub handed_told : Option (Snapshot (Handed W)) → Handed W
-  handed_told None = nobody
-  handed_told (Some handed) = handed.value
 
   -- the entry of what is told
   abbrev pub entry_of : ℕ → Told T P W → Option (Snapshot (Handed W)) → Entry T P W

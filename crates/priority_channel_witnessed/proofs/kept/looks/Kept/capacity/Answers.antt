@@ -1,6 +1,0 @@
-use Rattle.priority_channel_witnessed.proofs.Histories.{history_more}
-use Rattle.priority_channel_witnessed.proofs.kept.looks.Kept.capacity.Goals as goal
-
-pub ENTER : goal.ENTER
-ENTER g c =
-    history_more g.P.Ord.cmp g.W.Clone.is_clone _ _ _ _ _ _ c.self.invariant c.capacity-answer.ensures.step
