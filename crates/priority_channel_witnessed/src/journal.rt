@@ -63,7 +63,7 @@ impl<T, P: Ord, W: Clone, J: Recording> Journal<T, P, W, J> {
         log: &Log<T, P, W, J>,
         core: &PriorityQueueChannel<T, P, W, A>,
         pass: &mut Pass<T, P, W, J>,
-        told: Told<T, P, W>,
+        told: Told<T, P, W, A>,
         handed: Option<Snapshot<Wakes<W, A>>>,
     )
         requires leads { IsHistory P.cmp W.is_clone J.capacity J.is_reserved

@@ -16,6 +16,7 @@ use std::marker::Model;
 use std::snapshot::Snapshot;
 use std::sync::Wait;
 
+mod bulk;
 mod looks;
 mod polls;
 

@@ -12,7 +12,7 @@ mod log;
 mod pass;
 mod witnessed;
 
-pub use entry::Entry;
+pub use entry::{Entry, Pairs};
 pub use log::{Fresh, Recording, Seen};
 pub use pass::Pass;
 pub use witnessed::Witnessed;

@@ -1,4 +1,4 @@
-//! The channel.
+//! A channel whose calls many threads make.
 ghost use Rattle.std.specs.Prelude.{◌≡◌, ◌+◌, [], length, vec_len, All, IfOk};
 ghost use mathlib.Core.List.{IsPrefix};
 ghost use Rattle.priority_channel_core.specs.machine.State.{opening, nobody};
@@ -18,10 +18,43 @@ use std::alloc::{AllocError, Allocator, Global};
 use std::marker::PhantomData;
 use std::sync::{Mutex, Wait};
 
+mod bulk;
 mod looks;
 mod polls;
 
 /// A channel that many threads call, each with its pass.
+///
+/// Each call is one step, in one hold of the channel's lock, and hands out whom it lets go on, to be
+/// woken once the lock is free. A pass learns the history up to its own call, so what its holder has
+/// seen begins what it sees later, what it sees when it meets another, and what is told at the end.
+/// A call asks for no memory but what the core's call asks for. At 2^64 calls it waits for ever.
+///
+/// Values without `Drop` are taken too, but for bulk sends, `new` and `end`: there the compiler
+/// refuses a body that loses one.
+///
+/// ```
+/// ghost use Rattle.std.specs.Prelude.{◌≡◌, true};
+/// ghost use Rattle.priority_channel_witnessed.specs.Log.{names};
+///
+/// fn served<J: Recording, R: Wait>(rt: &R, alloc: Global, fresh: Fresh<u64, u8, ()>) -> Result<u64, AllocError>
+///     requires names { fresh ≡ names J.log J.capacity J.is_reserved J.name J.parts }
+///     requires capacity { fresh.capacity ≡ 4 }
+///     requires reserved { fresh.is_reserved ≡ true }
+///     requires passes { fresh.passes ≡ 2 }
+/// {
+///     let core = PriorityQueueChannel::bounded_reserved(alloc, 4)?;
+///     let (channel, mut passes) = Witnessed::<u64, u8, (), J>::new(alloc, fresh, core, 2)?;
+///     for pass in passes.iter_mut() {
+///         let (_sent, wakes) = channel.try_send(rt, pass, pass.number(), 0);
+///         let (_for_room, _for_message) = wakes.into_lists();
+///     }
+///     let (core, _seen) = channel.end(rt, passes);
+///     Ok(core.len())
+/// }
+///
+/// let left = served::<Brand, _>(&rt, rt.alloc(), Fresh::new(4, true, 2))?;
+/// assert_eq!(rt; left, 2);
+/// ```
 #[derive(Drop)]
 pub struct Witnessed<T, P: Ord, W: Clone, J: Recording, A: Allocator = Global> {
     log: Log<T, P, W, J>,

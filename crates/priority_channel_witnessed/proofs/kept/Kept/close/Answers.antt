@@ -6,5 +6,7 @@ use Rattle.priority_channel_witnessed.proofs.kept.Kept.close.Goals as goal
 
 pub enter-requires : goal.enter-requires
 enter-requires g c =
-    record { leads = rw c.of.ensures (history_more g.P.Ord.cmp g.W.Clone.is_clone _ _ _ _ _
-    (entry c.args.pass.now.number call.Close (answer.Close c.close-was_open.result.0) c.close-was_open.result.1) c.self.invariant c.close-was_open.ensures.step) }
+    record {
+      leads = rw c.of.ensures (history_more g.P.Ord.cmp g.W.Clone.is_clone _ _ _ _ _
+          (entry c.args.pass.now.number call.Close (answer.Close c.close-was_open.result.0) c.close-was_open.result.1) c.self.invariant c.close-was_open.ensures.step);
+    }
