@@ -7,7 +7,6 @@ use priority_channel_core::calls::CorePoll;
 use priority_channel_core::channel::PriorityQueueChannel;
 use priority_channel_core::errors::{TryRecvError, TrySendError};
 use priority_channel_witnessed::{Fresh, Recording, Witnessed};
-use refusing::Refusing;
 use std::alloc::{Allocator, Global};
 use std::marker::Brand;
 use std::sync::Wait;
