@@ -29,20 +29,20 @@ mod polls;
 /// seen begins what it sees later, what it sees when it meets another, and what is told at the end.
 /// A call asks for no memory but what the core's call asks for. At 2^64 calls it waits for ever.
 ///
-/// Values without `Drop` are taken too, but for bulk sends, `new` and `end`: there the compiler
+/// Values without `Drop` are taken too, but by bulk sends and `new`; at other calls the compiler
 /// refuses a body that loses one.
 ///
 /// ```
-/// ghost use Rattle.std.specs.Prelude.{◌≡◌, true};
+/// ghost use Rattle.std.specs.Prelude.{◌≡◌, false};
 /// ghost use Rattle.priority_channel_witnessed.specs.Log.{names};
 ///
 /// fn served<J: Recording, R: Wait>(rt: &R, alloc: Global, fresh: Fresh<u64, u8, ()>) -> Result<u64, AllocError>
 ///     requires names { fresh ≡ names J.log J.capacity J.is_reserved J.name J.parts }
 ///     requires capacity { fresh.capacity ≡ 4 }
-///     requires reserved { fresh.is_reserved ≡ true }
+///     requires reserved { fresh.is_reserved ≡ false }
 ///     requires passes { fresh.passes ≡ 2 }
 /// {
-///     let core = PriorityQueueChannel::bounded_reserved(alloc, 4)?;
+///     let core = PriorityQueueChannel::bounded(alloc, 4);
 ///     let (channel, mut passes) = Witnessed::<u64, u8, (), J>::new(alloc, fresh, core, 2)?;
 ///     for pass in passes.iter_mut() {
 ///         let (_sent, wakes) = channel.try_send(rt, pass, pass.number(), 0);
@@ -52,7 +52,7 @@ mod polls;
 ///     Ok(core.len())
 /// }
 ///
-/// let left = served::<Brand, _>(&rt, rt.alloc(), Fresh::new(4, true, 2))?;
+/// let left = served::<Brand, _>(&rt, rt.alloc(), Fresh::new(4, false, 2))?;
 /// assert_eq!(rt; left, 2);
 /// ```
 #[derive(Drop)]

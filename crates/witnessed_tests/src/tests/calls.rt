@@ -1,5 +1,5 @@
 //! What the calls answer, with one pass and with two.
-ghost use Rattle.std.specs.Prelude.{◌≡◌, true};
+ghost use Rattle.std.specs.Prelude.{◌≡◌, false};
 ghost use Rattle.priority_channel_witnessed.specs.Log.{names};
 
 use priority_channel_core::awaitable_atomics::Wakes;
@@ -22,6 +22,7 @@ fn tickets<A: Allocator>(wakes: Wakes<(), A>) -> (Option<u64>, Option<u64>) {
 }
 
 type Sent = Result<(), TrySendError<(u64, u64)>>;
+
 type Received = Result<(u64, u64), TryRecvError>;
 
 // Two sends of which the channel has room for one, a receive of it, a close, and what then comes.
@@ -32,10 +33,10 @@ fn answers<J: Recording, R: Wait>(
 ) -> Result<([Sent; 3], [Received; 2], [bool; 4], [u64; 2]), Fail>
     requires names { fresh ≡ names J.log J.capacity J.is_reserved J.name J.parts }
     requires capacity { fresh.capacity ≡ 1 }
-    requires reserved { fresh.is_reserved ≡ true }
+    requires reserved { fresh.is_reserved ≡ false }
     requires passes { fresh.passes ≡ 1 }
 {
-    let core = PriorityQueueChannel::bounded_reserved(alloc, 1)?;
+    let core = PriorityQueueChannel::bounded(alloc, 1);
     let (channel, mut passes) = Witnessed::<u64, u64, (), J>::new(alloc, fresh, core, 1)?;
     let mut pass = passes.pop().ok_or("no pass")?;
     let empty = channel.is_empty(rt, &mut pass);
@@ -67,13 +68,16 @@ fn answers<J: Recording, R: Wait>(
 
 #[test]
 fn calls_answer_as_the_core(rt: HostRuntime) -> Result<(), Fail> {
-    let fresh = Fresh::new(1, true, 1);
+    let fresh = Fresh::new(1, false, 1);
     let (sent, received, looks, numbers) = answers::<Brand, _>(&rt, rt.alloc(), fresh)?;
-    assert_eq!(rt; sent, [
-        Ok(()),
-        Err(TrySendError::Full((2, 9))),
-        Err(TrySendError::Closed((3, 3))),
-    ]);
+    assert_eq!(rt;
+        sent,
+        [
+            Ok(()),
+            Err(TrySendError::Full((2, 9))),
+            Err(TrySendError::Closed((3, 3))),
+        ]
+    );
     assert_eq!(rt; received, [Ok((1, 5)), Err(TryRecvError::Closed)]);
     assert!(rt; looks == [true; 4]);
     assert_eq!(rt; numbers, [1, 1]);
@@ -88,10 +92,10 @@ fn waits<J: Recording, R: Wait>(
 ) -> Result<[Option<u64>; 3], Fail>
     requires names { fresh ≡ names J.log J.capacity J.is_reserved J.name J.parts }
     requires capacity { fresh.capacity ≡ 1 }
-    requires reserved { fresh.is_reserved ≡ true }
+    requires reserved { fresh.is_reserved ≡ false }
     requires passes { fresh.passes ≡ 2 }
 {
-    let core = PriorityQueueChannel::bounded_reserved(alloc, 1)?;
+    let core = PriorityQueueChannel::bounded(alloc, 1);
     let (channel, mut passes) = Witnessed::<u64, u64, (), J>::new(alloc, fresh, core, 2)?;
     let mut one = passes.pop().ok_or("no pass")?;
     let mut zero = passes.pop().ok_or("no pass")?;
@@ -119,7 +123,7 @@ fn waits<J: Recording, R: Wait>(
 
 #[test]
 fn polls_hand_out_as_the_core(rt: HostRuntime) -> Result<(), Fail> {
-    let fresh = Fresh::new(1, true, 2);
+    let fresh = Fresh::new(1, false, 2);
     let [waiting, handed, nobody] = waits::<Brand, _>(&rt, rt.alloc(), fresh)?;
     assert!(rt; handed == waiting);
     assert!(rt; nobody.is_none());
