@@ -1,0 +1,6 @@
+pub mod Fronts
+pub mod Histories
+pub mod Items
+pub mod Lines
+pub mod Adding
+pub mod Accounts

@@ -1,0 +1,12 @@
+use Rattle.priority_channel_core.specs.declared.calls.Call.TheVariants as call
+use Rattle.priority_channel_core.specs.declared.calls.Answer.TheVariants as answer
+use Rattle.priority_channel_witnessed.specs.History.{entry}
+use Rattle.priority_channel_witnessed.proofs.Histories.{history_more}
+use Rattle.priority_channel_witnessed.proofs.kept.Kept.poll_recv.Goals as goal
+
+pub enter-requires : goal.enter-requires
+enter-requires g c =
+    record {
+      leads = rw (c.of.ensures, c.of-2.ensures, c.of-3.ensures) (history_more g.P.Ord.cmp g.W.Clone.is_clone _ _ _ _ _
+          (entry c.args.pass.now.number (call.PollRecv c.args.ticket c.args.waker.now) (answer.PollRecv c.poll_recv-answer.result.0) c.poll_recv-answer.result.1) c.self.invariant c.poll_recv-answer.ensures.step);
+    }

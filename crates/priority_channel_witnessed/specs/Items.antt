@@ -1,0 +1,40 @@
+-- The pairs of a bulk send, which a vector's iterator gives that may have been peeked.
+use Rattle.std.specs.Prelude.{List, [], ◌∷◌, Option, Some, None, Result, Ok, Err}
+use Rattle.std.specs.declared.vec.IntoIter.{IntoIter}
+use Rattle.std.specs.declared.iter.Ahead.{Ahead}
+use Rattle.std.specs.Vec.Iter.{into_iter_items}
+use Rattle.priority_channel_core.specs.declared.calls.CorePoll.{CorePoll}
+use Rattle.priority_channel_core.specs.declared.calls.CorePoll.TheVariants.{Ready, Pending}
+use Rattle.priority_channel_parts.specs.declared.errors.TrySendError.{TrySendError}
+use Rattle.priority_channel_parts.specs.declared.errors.TrySendError.TheVariants.{Full, Closed, Memory}
+use Rattle.priority_channel_parts.specs.declared.errors.SendFault.{SendFault}
+use Rattle.priority_channel_parts.specs.declared.errors.SendFault.TheVariants as send
+
+-- what is given where this was peeked, and these items stand behind it
+abbrev pub behind : {X : Type 0} → Option (Option X) → List X → List X
+behind None items = items
+behind (Some None) items = []
+behind (Some (Some x)) items = x ∷ items
+
+module _ {X Z : Type 0} where
+  -- all that the iterator still gives
+  abbrev pub list_in : Ahead (IntoIter X Z) X → List X
+  list_in msgs = behind msgs.peeked (into_iter_items msgs.iter)
+
+  -- the machine's reply to a bulk send, in which lists come back
+  abbrev pub listed : Result (Unit {0}) (TrySendError (Ahead (IntoIter X Z) X))
+      → Result (Unit {0}) (TrySendError (List X))
+  listed (Ok done) = Ok tt
+  listed (Err (Closed rest)) = Err (Closed (list_in rest))
+  listed (Err (Full rest)) = Err (Full (list_in rest))
+  listed (Err (Memory rest)) = Err (Memory (list_in rest))
+
+  -- and its answer to a poll
+  abbrev pub listed_poll
+      : CorePoll (Result (Unit {0}) (SendFault (Ahead (IntoIter X Z) X))) (Ahead (IntoIter X Z) X)
+      → CorePoll (Result (Unit {0}) (SendFault (List X))) (List X)
+  listed_poll (Ready (Ok done)) = Ready (Ok tt)
+  listed_poll (Ready (Err (send.Closed e))) =
+      Ready (Err (send.Closed (record { 0 = list_in e.0 })))
+  listed_poll (Ready (Err (send.Memory rest))) = Ready (Err (send.Memory (list_in rest)))
+  listed_poll (Pending rest ticket) = Pending (list_in rest) ticket

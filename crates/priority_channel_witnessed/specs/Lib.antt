@@ -1,0 +1,5 @@
+pub mod History
+pub mod Items
+pub mod Tells
+pub mod Log
+pub mod Passes

@@ -1,0 +1,60 @@
+//! A call as an entry of the history, and what its caller tells of it.
+use priority_channel_core::awaitable_atomics::Wakes;
+use priority_channel_core::calls::{Answer, Call, CorePoll};
+use priority_channel_core::errors::{RecvFault, SendFault, TryRecvError, TrySendError};
+use std::alloc::Allocator;
+use std::collections::LinkedList;
+use std::iter::Ahead;
+use std::snapshot::Snapshot;
+use std::vec::IntoIter;
+
+/// The pairs of a bulk send and what comes back of them: the `Peekable` of a vector.
+pub type Pairs<T, P, A> = Ahead<IntoIter<(T, P), A>, (T, P)>;
+
+/// A call that was made: by whom, what it answered, and whom it handed out. Only contracts have
+/// entries: no value of this type is made.
+pub struct Entry<T, P, W> {
+    pub who: u64,
+    pub call: Call<T, P, W, LinkedList<(T, P)>>,
+    pub answer: Answer<T, P, LinkedList<(T, P)>>,
+    pub handed: Wakes<W>,
+}
+
+/// What is told of a call, in snapshots, which take no memory and leave the values where they are.
+#[derive(Drop)]
+pub enum Told<T, P, W, A: Allocator> {
+    TrySend(Snapshot<T>, Snapshot<P>, Snapshot<Result<(), TrySendError<(T, P)>>>),
+    TrySendv(Snapshot<Pairs<T, P, A>>, Snapshot<Result<(), TrySendError<Pairs<T, P, A>>>>),
+    TryRecv(Snapshot<Result<(T, P), TryRecvError>>),
+    Close(bool),
+    IsClosed(bool),
+    IsEmpty(bool),
+    IsFull(bool),
+    Len(u64),
+    Capacity(Option<u64>),
+    SenderCount(usize),
+    ReceiverCount(usize),
+    PollSend(
+        Snapshot<T>,
+        Snapshot<P>,
+        Option<u64>,
+        Snapshot<W>,
+        Snapshot<CorePoll<Result<(), SendFault<(T, P)>>, (T, P)>>,
+    ),
+    PollSendv(
+        Snapshot<Pairs<T, P, A>>,
+        Option<u64>,
+        Snapshot<W>,
+        Snapshot<CorePoll<Result<(), SendFault<Pairs<T, P, A>>>, Pairs<T, P, A>>>,
+    ),
+    PollRecv(Option<u64>, Snapshot<W>, Snapshot<CorePoll<Result<(T, P), RecvFault>, ()>>),
+    GiveUp(u64),
+}
+
+/// Who made a call, what is told of it, and whom it handed out, where it is of those that hand out.
+#[derive(Drop)]
+pub struct Telling<T, P, W, A: Allocator> {
+    pub who: u64,
+    pub told: Told<T, P, W, A>,
+    pub handed: Option<Snapshot<Wakes<W, A>>>,
+}

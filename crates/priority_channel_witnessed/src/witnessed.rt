@@ -1,0 +1,209 @@
+//! A channel whose calls many threads make.
+ghost use Rattle.std.specs.Prelude.{◌≡◌, ◌+◌, [], length, vec_len, All, IfOk};
+ghost use mathlib.Core.List.{IsPrefix};
+ghost use Rattle.priority_channel_core.specs.machine.State.{opening, nobody};
+ghost use Rattle.priority_channel_witnessed.specs.History.{entry, IsHistory, IsLegal};
+ghost use Rattle.priority_channel_witnessed.specs.Log.{names};
+ghost use Rattle.priority_channel_witnessed.specs.Passes.{calls_made, AreNew, AreApart, Accounts, IsTold};
+
+use crate::journal::Journal;
+use crate::kept::Kept;
+use crate::log::{Fresh, Log, Recording, Seen};
+use crate::pass::{Pass, new_passes};
+use priority_channel_core::awaitable_atomics::Wakes;
+use priority_channel_core::calls::{Answer, Call};
+use priority_channel_core::channel::PriorityQueueChannel;
+use priority_channel_core::errors::{TryRecvError, TrySendError};
+use std::alloc::{AllocError, Allocator, Global};
+use std::marker::PhantomData;
+use std::sync::{Mutex, Wait};
+
+mod bulk;
+mod looks;
+mod polls;
+
+/// A channel that many threads call, each with its pass.
+///
+/// Each call is one step, in one hold of the channel's lock, and hands out whom it lets go on, to be
+/// woken once the lock is free. A pass learns the history up to its own call, so what its holder has
+/// seen begins what it sees later, what it sees when it meets another, and what is told at the end.
+/// A call asks for no memory but what the core's call asks for. At 2^64 calls it waits for ever.
+///
+/// Values without `Drop` are taken too, but by bulk sends and `new`; at other calls the compiler
+/// refuses a body that loses one.
+///
+/// ```
+/// ghost use Rattle.std.specs.Prelude.{◌≡◌, false};
+/// ghost use Rattle.priority_channel_witnessed.specs.Log.{names};
+///
+/// fn served<J: Recording, R: Wait>(rt: &R, alloc: Global, fresh: Fresh<u64, u8, ()>) -> Result<u64, AllocError>
+///     requires names { fresh ≡ names J.log J.capacity J.is_reserved J.name J.parts }
+///     requires capacity { fresh.capacity ≡ 4 }
+///     requires reserved { fresh.is_reserved ≡ false }
+///     requires passes { fresh.passes ≡ 2 }
+/// {
+///     let core = PriorityQueueChannel::bounded(alloc, 4);
+///     let (channel, mut passes) = Witnessed::<u64, u8, (), J>::new(alloc, fresh, core, 2)?;
+///     for pass in passes.iter_mut() {
+///         let (_sent, wakes) = channel.try_send(rt, pass, pass.number(), 0);
+///         let (_for_room, _for_message) = wakes.into_lists();
+///     }
+///     let (core, _seen) = channel.end(rt, passes);
+///     Ok(core.len())
+/// }
+///
+/// let left = served::<Brand, _>(&rt, rt.alloc(), Fresh::new(4, false, 2))?;
+/// assert_eq!(rt; left, 2);
+/// ```
+#[derive(Drop)]
+pub struct Witnessed<T, P: Ord, W: Clone, J: Recording, A: Allocator = Global> {
+    log: Log<T, P, W, J>,
+    kept: Mutex<Kept<T, P, W, J, A>>,
+}
+
+impl<T: Drop, P: Ord + Drop, W: Clone + Drop, J: Recording, A: Allocator + Copy> Witnessed<
+    T,
+    P,
+    W,
+    J,
+    A,
+> {
+    /// A channel over an open and empty core, and its passes. The error is that memory was refused
+    /// for the passes.
+    #[tactic(auto, using(crate::proofs::Lines::log_opened, crate::proofs::Lines::no_entries, crate::proofs::Histories::history_none, crate::proofs::Accounts::new_apart))]
+    pub fn new(
+        alloc: A,
+        fresh: Fresh<T, P, W>,
+        core: PriorityQueueChannel<T, P, W, A>,
+        passes: usize,
+    ) -> Result<(Self, Vec<Pass<T, P, W, J>, A>), AllocError>
+        requires opens { core.state ≡ opening fresh.capacity fresh.is_reserved }
+        requires names { fresh ≡ names J.log J.capacity J.is_reserved J.name J.parts }
+        requires passes { fresh.passes ≡ passes }
+        ensures count { IfOk result (λ made. vec_len made.1 ≡ passes) }
+        ensures new { IfOk result (λ made. AreNew made.1.items) }
+        ensures apart { IfOk result (λ made. AreApart made.1.items) }
+    {
+        let Fresh { word, seen, ledger } = fresh;
+        let (calls, mut rest) = ledger.open::<J>();
+        let none = rest.empty();
+        let seen = Seen {
+            token: seen,
+            of: PhantomData,
+        };
+        let passes = new_passes(alloc, &seen, rest, passes)?;
+        let kept = Kept {
+            core,
+            journal: Journal::new(calls, none, seen),
+        };
+        let log = Log {
+            word,
+            of: PhantomData,
+        };
+        Ok((
+            Witnessed {
+                log,
+                kept: Mutex::new(kept),
+            },
+            passes,
+        ))
+    }
+}
+
+impl<T, P: Ord, W: Clone, J: Recording, A: Allocator + Copy> Witnessed<T, P, W, J, A> {
+    /// Sends a pair, if the channel is open and has room. A pair that is refused comes back: for
+    /// `Closed` before `Full`, and for `Full` before `Memory`.
+    pub fn try_send<R: Wait>(
+        &self,
+        rt: &R,
+        pass: &mut Pass<T, P, W, J>,
+        msg: T,
+        priority: P,
+    ) -> (Result<(), TrySendError<(T, P)>>, Wakes<W, A>)
+        ensures number { pass.new.number ≡ pass.old.number }
+        ensures counted { pass.new.count ≡ pass.old.count + 1 }
+        ensures told { IsTold P.cmp W.is_clone J.capacity J.is_reserved pass.old
+            (entry pass.old.number (Call.TrySend msg priority)
+            (Answer.TrySend result.0) result.1) pass.new }
+    {
+        self.kept
+            .lock(rt)
+            .try_send(rt, &self.log, pass, msg, priority)
+    }
+
+    /// Receives the first pending pair among those that no other exceeds in priority, also from a
+    /// closed channel.
+    pub fn try_recv<R: Wait>(
+        &self,
+        rt: &R,
+        pass: &mut Pass<T, P, W, J>,
+    ) -> (Result<(T, P), TryRecvError>, Wakes<W, A>)
+        ensures number { pass.new.number ≡ pass.old.number }
+        ensures counted { pass.new.count ≡ pass.old.count + 1 }
+        ensures told { IsTold P.cmp W.is_clone J.capacity J.is_reserved pass.old
+            (entry pass.old.number Call.TryRecv (Answer.TryRecv result.0) result.1) pass.new }
+    {
+        self.kept.lock(rt).try_recv(rt, &self.log, pass)
+    }
+
+    /// Closes the channel for good, and answers whether it was open. What is pending can still be
+    /// received.
+    pub fn close<R: Wait>(&self, rt: &R, pass: &mut Pass<T, P, W, J>) -> (bool, Wakes<W, A>)
+        ensures number { pass.new.number ≡ pass.old.number }
+        ensures counted { pass.new.count ≡ pass.old.count + 1 }
+        ensures told { IsTold P.cmp W.is_clone J.capacity J.is_reserved pass.old
+            (entry pass.old.number Call.Close (Answer.Close result.0) result.1) pass.new }
+    {
+        self.kept.lock(rt).close(rt, &self.log, pass)
+    }
+
+    /// Lets both passes see what either has seen, and the history as it is. It takes no lock and
+    /// waits for nobody.
+    pub fn meet(&self, one: &mut Pass<T, P, W, J>, other: &mut Pass<T, P, W, J>)
+        ensures one_number { one.new.number ≡ one.old.number }
+        ensures one_count { one.new.count ≡ one.old.count }
+        ensures one_begins { IsPrefix one.old.seen one.new.seen }
+        ensures other_number { other.new.number ≡ other.old.number }
+        ensures other_count { other.new.count ≡ other.old.count }
+        ensures other_begins { IsPrefix other.old.seen other.new.seen }
+        ensures same { one.new.seen ≡ other.new.seen }
+        ensures legal { IsLegal P.cmp W.is_clone J.capacity J.is_reserved one.new.seen }
+    {
+        let seen = self.see_all(&one.seen, &other.seen);
+        one.seen = seen.again();
+        other.seen = seen;
+    }
+
+    // What either has seen, and the history as it is.
+    #[tactic(auto, using(crate::proofs::Fronts::prefix_trans))]
+    fn see_all(&self, one: &Seen<T, P, W, J>, other: &Seen<T, P, W, J>) -> Seen<T, P, W, J>
+        ensures this { IsPrefix one.now result }
+        ensures that { IsPrefix other.now result }
+        ensures legal { IsLegal P.cmp W.is_clone J.capacity J.is_reserved result }
+    {
+        let mut seen = one.again();
+        seen.learn(other);
+        let _length = seen.look(&self.log);
+        seen
+    }
+
+    /// Ends the channel, once all passes have come back. It gives the core back, and the history of
+    /// all calls, which nothing shows before. So no pass may be lost.
+    pub fn end<R: Wait>(
+        self,
+        rt: &R,
+        passes: Vec<Pass<T, P, W, J>, A>,
+    ) -> (PriorityQueueChannel<T, P, W, A>, Seen<T, P, W, J>)
+        requires all { vec_len passes ≡ J.parts }
+        ensures leads { IsHistory P.cmp W.is_clone J.capacity J.is_reserved result.1
+            result.0.state }
+        ensures length { length result.1 ≡ calls_made passes.items }
+        ensures seen { All (λ pass. IsPrefix pass.seen result.1) passes.items }
+        ensures accounts { AreApart passes.items → Accounts passes.items result.1 }
+    {
+        let Witnessed { log, kept } = self;
+        let Kept { core, journal } = kept.into_inner();
+        let seen = journal.end(rt, &log, passes);
+        (core, seen)
+    }
+}

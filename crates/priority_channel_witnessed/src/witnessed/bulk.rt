@@ -1,0 +1,63 @@
+//! Sending many pairs in one step.
+ghost use Rattle.std.specs.Prelude.{◌≡◌, ◌+◌};
+ghost use Rattle.priority_channel_witnessed.specs.History.{entry};
+ghost use Rattle.priority_channel_witnessed.specs.Items.{list_in, listed, listed_poll};
+ghost use Rattle.priority_channel_witnessed.specs.Passes.{IsTold};
+
+use crate::entry::Pairs;
+use crate::log::Recording;
+use crate::pass::Pass;
+use crate::witnessed::Witnessed;
+use priority_channel_core::awaitable_atomics::Wakes;
+use priority_channel_core::calls::{Answer, Call, CorePoll};
+use priority_channel_core::errors::{SendFault, TrySendError};
+use std::alloc::Allocator;
+use std::sync::Wait;
+
+impl<T: Drop, P: Ord + Drop, W: Clone, J: Recording, A: Allocator + Copy> Witnessed<T, P, W, J, A> {
+    /// Sends the pairs of a vector, in order, as far as there is room, in one step. What was accepted
+    /// stays, and what was not comes back, to be sent again.
+    ///
+    /// ```
+    /// let (sent, wakes) = channel.try_sendv(rt, pass, jobs.into_iter().peekable());
+    /// ```
+    pub fn try_sendv<R: Wait>(
+        &self,
+        rt: &R,
+        pass: &mut Pass<T, P, W, J>,
+        msgs: Pairs<T, P, A>,
+    ) -> (Result<(), TrySendError<Pairs<T, P, A>>>, Wakes<W, A>)
+        ensures number { pass.new.number ≡ pass.old.number }
+        ensures counted { pass.new.count ≡ pass.old.count + 1 }
+        ensures told { IsTold P.cmp W.is_clone J.capacity J.is_reserved pass.old
+            (entry pass.old.number (Call.TrySendv (list_in msgs))
+            (Answer.TrySendv (listed result.0)) result.1) pass.new }
+    {
+        self.kept.lock(rt).try_sendv(rt, &self.log, pass, msgs)
+    }
+
+    /// Sends what there is room for, and waits for room with the rest, which is handed back for the
+    /// next poll. What was sent stays sent, also where the answer is `Memory`. Tickets and wakers are
+    /// treated as by `poll_recv`.
+    pub fn poll_sendv<R: Wait>(
+        &self,
+        rt: &R,
+        pass: &mut Pass<T, P, W, J>,
+        msgs: Pairs<T, P, A>,
+        ticket: Option<u64>,
+        waker: &W,
+    ) -> (
+        CorePoll<Result<(), SendFault<Pairs<T, P, A>>>, Pairs<T, P, A>>,
+        Wakes<W, A>,
+    )
+        ensures number { pass.new.number ≡ pass.old.number }
+        ensures counted { pass.new.count ≡ pass.old.count + 1 }
+        ensures told { IsTold P.cmp W.is_clone J.capacity J.is_reserved pass.old
+            (entry pass.old.number (Call.PollSendv (list_in msgs) ticket waker.now)
+            (Answer.PollSendv (listed_poll result.0)) result.1) pass.new }
+    {
+        self.kept
+            .lock(rt)
+            .poll_sendv(rt, &self.log, pass, msgs, ticket, waker)
+    }
+}

@@ -1,0 +1,69 @@
+//! Calls that wait, and the end of a wait.
+ghost use Rattle.std.specs.Prelude.{◌≡◌, ◌+◌};
+ghost use Rattle.priority_channel_core.specs.machine.State.{nobody};
+ghost use Rattle.priority_channel_witnessed.specs.History.{entry};
+ghost use Rattle.priority_channel_witnessed.specs.Passes.{IsTold};
+
+use crate::log::Recording;
+use crate::pass::Pass;
+use crate::witnessed::Witnessed;
+use priority_channel_core::awaitable_atomics::Wakes;
+use priority_channel_core::calls::{Answer, Call, CorePoll};
+use priority_channel_core::errors::{RecvFault, SendFault};
+use std::alloc::Allocator;
+use std::sync::Wait;
+
+impl<T, P: Ord, W: Clone, J: Recording, A: Allocator + Copy> Witnessed<T, P, W, J, A> {
+    /// Receives, or waits for a message under the answered ticket. The first poll gives no ticket,
+    /// and each further one that of the poll before, which stays listed with a clone of the newest
+    /// waker. A ready answer leaves the given ticket in neither waiting list.
+    pub fn poll_recv<R: Wait>(
+        &self,
+        rt: &R,
+        pass: &mut Pass<T, P, W, J>,
+        ticket: Option<u64>,
+        waker: &W,
+    ) -> (CorePoll<Result<(T, P), RecvFault>, ()>, Wakes<W, A>)
+        ensures number { pass.new.number ≡ pass.old.number }
+        ensures counted { pass.new.count ≡ pass.old.count + 1 }
+        ensures told { IsTold P.cmp W.is_clone J.capacity J.is_reserved pass.old
+            (entry pass.old.number (Call.PollRecv ticket waker.now)
+            (Answer.PollRecv result.0) result.1) pass.new }
+    {
+        self.kept
+            .lock(rt)
+            .poll_recv(rt, &self.log, pass, ticket, waker)
+    }
+
+    /// Sends a pair, or waits for room under the answered ticket and hands the pair back for the
+    /// next poll. Tickets and wakers are treated as by `poll_recv`.
+    pub fn poll_send<R: Wait>(
+        &self,
+        rt: &R,
+        pass: &mut Pass<T, P, W, J>,
+        msg: T,
+        priority: P,
+        ticket: Option<u64>,
+        waker: &W,
+    ) -> (CorePoll<Result<(), SendFault<(T, P)>>, (T, P)>, Wakes<W, A>)
+        ensures number { pass.new.number ≡ pass.old.number }
+        ensures counted { pass.new.count ≡ pass.old.count + 1 }
+        ensures told { IsTold P.cmp W.is_clone J.capacity J.is_reserved pass.old
+            (entry pass.old.number (Call.PollSend msg priority ticket waker.now)
+            (Answer.PollSend result.0) result.1) pass.new }
+    {
+        self.kept
+            .lock(rt)
+            .poll_send(rt, &self.log, pass, msg, priority, ticket, waker)
+    }
+
+    /// The party of this ticket waits no more. A ticket that is not listed changes nothing.
+    pub fn give_up<R: Wait>(&self, rt: &R, pass: &mut Pass<T, P, W, J>, ticket: u64)
+        ensures number { pass.new.number ≡ pass.old.number }
+        ensures counted { pass.new.count ≡ pass.old.count + 1 }
+        ensures told { IsTold P.cmp W.is_clone J.capacity J.is_reserved pass.old
+            (entry pass.old.number (Call.GiveUp ticket) Answer.GiveUp nobody) pass.new }
+    {
+        self.kept.lock(rt).give_up(rt, &self.log, pass, ticket);
+    }
+}

@@ -1,0 +1,5 @@
+//! Tests of witnessed channels: what no contract says.
+#![tactic(auto)]
+
+#[cfg(test)]
+mod tests;
