@@ -1,0 +1,29 @@
+-- What a caller knows of its own call, whatever others do.
+use Rattle.std.specs.Prelude.{◌≡◌, ℕ, false, Bool, List, [], ◌∷◌, ◌++◌}
+use Rattle.std.specs.declared.cmp.Ordering.{Ordering}
+use mathlib.Core.List.{IsPrefix}
+use Rattle.priority_channel_parts.specs.Greatest.{TakesGreatest}
+use Rattle.priority_channel_core.specs.machine.State.{State, room}
+use Rattle.priority_channel_witnessed.specs.declared.entry.Entry.{Entry}
+use Rattle.priority_channel_witnessed.specs.History.{IsHistory}
+
+module _ {T P W : Type 0} (cmp : P → P → Ordering) (is_clone : W → W → Type 0) (capacity : ℕ)
+    (is_reserved : Bool) where
+  -- the channel came to this state behind all that had been seen
+  pub record Reaches (seen : List (Entry T P W)) (state : State T P W) : Type 0 where
+    pub between : List (Entry T P W)
+    pub history : IsHistory cmp is_clone capacity is_reserved (seen ++ between) state
+
+  -- the pair was the first among the most urgent that were pending
+  pub record WasMostUrgent (seen : List (Entry T P W)) (pair : T × P) : Type 0 where
+    pub state : State T P W
+    pub reached : Reaches seen state
+    pub rest : List (T × P)
+    pub takes : TakesGreatest cmp state.pending pair rest
+
+  -- the channel was open, and had no room
+  pub record WasFull (seen : List (Entry T P W)) : Type 0 where
+    pub state : State T P W
+    pub reached : Reaches seen state
+    pub opened : state.is_closed ≡ false
+    pub no_room : room state ≡ 0

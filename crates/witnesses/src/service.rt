@@ -1,0 +1,25 @@
+//! A service that takes requests in as long as there is room.
+ghost use Rattle.std.specs.Prelude.{◌≡◌};
+ghost use Rattle.priority_channel_core.specs.code.Replies.{OnFull};
+ghost use Rattle.witnesses.specs.Witness.{WasFull};
+
+use priority_channel_core::errors::TrySendError;
+use priority_channel_witnessed::{Pass, Recording, Witnessed};
+use std::alloc::Allocator;
+use std::sync::Wait;
+
+/// Takes a request in. `Full` is answered only where there was no room.
+pub fn accept<T, P: Ord, W: Clone + Drop, J: Recording, A: Allocator + Copy, R: Wait>(
+    rt: &R,
+    requests: &Witnessed<T, P, W, J, A>,
+    pass: &mut Pass<T, P, W, J>,
+    request: T,
+    urgency: P,
+) -> Result<(), TrySendError<(T, P)>>
+    ensures busy { OnFull result
+        (WasFull P.cmp W.is_clone J.capacity J.is_reserved pass.old.seen) }
+{
+    let (answer, wakes) = requests.try_send(rt, pass, request, urgency);
+    let (_for_room, _for_message) = wakes.into_lists();
+    answer
+}

@@ -1,0 +1,22 @@
+//! A worker that takes the most urgent job.
+ghost use Rattle.std.specs.Prelude.{◌≡◌, IfOk};
+ghost use Rattle.witnesses.specs.Witness.{WasMostUrgent};
+
+use priority_channel_core::errors::TryRecvError;
+use priority_channel_witnessed::{Pass, Recording, Witnessed};
+use std::alloc::Allocator;
+use std::sync::Wait;
+
+/// Takes a job. When it was taken, it was the first among the most urgent that were pending.
+pub fn take<T, P: Ord, W: Clone + Drop, J: Recording, A: Allocator + Copy, R: Wait>(
+    rt: &R,
+    jobs: &Witnessed<T, P, W, J, A>,
+    pass: &mut Pass<T, P, W, J>,
+) -> Result<(T, P), TryRecvError>
+    ensures urgent { IfOk result
+        (WasMostUrgent P.cmp W.is_clone J.capacity J.is_reserved pass.old.seen) }
+{
+    let (job, wakes) = jobs.try_recv(rt, pass);
+    let (_for_room, _for_message) = wakes.into_lists();
+    job
+}
