@@ -2,4 +2,4 @@ use Rattle.witnesses.proofs.Steps.{full}
 use Rattle.witnesses.proofs.service.accept.Goals as goal
 
 pub returns : goal.returns
-returns g c = full g.P.Ord.cmp g.W.Clone.is_clone _ _ _ _ _ _ _ _ _ c.try_send-answer.ensures.told
+returns g c = record { busy = full g.P.Ord.cmp g.W.Clone.is_clone _ _ _ _ _ _ _ _ _ c.try_send-answer.ensures.told }
