@@ -1,4 +1,7 @@
 //! Handles, futures and their states.
+use std::fmt::Debug;
+use std::process::Abort;
+
 mod counts;
 mod joined;
 mod states;
@@ -6,3 +9,18 @@ mod threads;
 mod tries;
 mod waits;
 mod wakes;
+
+/// `assert_eq!`, proved once: each one in place takes seconds of the check.
+fn expect_equal<X: PartialEq + Debug + Drop>(rt: &impl Abort, got: X, wanted: X) {
+    assert_eq!(rt; got, wanted);
+}
+
+/// The same in one round of a loop, which it names where the two differ.
+fn expect_equal_at<N: Debug + Drop, X: PartialEq + Debug + Drop>(
+    rt: &impl Abort,
+    round: N,
+    got: X,
+    wanted: X,
+) {
+    assert_eq!(rt; got, wanted, "at {round:?}");
+}

@@ -3,6 +3,8 @@ use priority_channel_core::awaitable_atomics::Wakes;
 use priority_channel_core::channel::PriorityQueueChannel;
 use priority_channel_core::errors::{TryRecvError, TrySendError};
 use std::alloc::{Allocator, Global};
+use std::fmt::Debug;
+use std::process::Abort;
 
 mod bag;
 mod batches;
@@ -50,4 +52,19 @@ fn close<T: Drop, A: Allocator + Copy>(core: &mut Core<T, A>) -> bool {
     let (was_open, wakes) = core.close();
     spend(wakes);
     was_open
+}
+
+/// `assert_eq!`, proved once: each one in place takes seconds of the check.
+fn expect_equal<X: PartialEq + Debug + Drop>(rt: &impl Abort, got: X, wanted: X) {
+    assert_eq!(rt; got, wanted);
+}
+
+/// The same in one round of a loop, which it names where the two differ.
+fn expect_equal_at<N: Debug + Drop, X: PartialEq + Debug + Drop>(
+    rt: &impl Abort,
+    round: N,
+    got: X,
+    wanted: X,
+) {
+    assert_eq!(rt; got, wanted, "at {round:?}");
 }

@@ -1,4 +1,7 @@
 //! Weak handles, guards, streams, peeks, wakers, batches, and handles as messages.
+use std::fmt::Debug;
+use std::process::Abort;
+
 mod batches;
 mod guards;
 mod nested;
@@ -6,3 +9,18 @@ mod peeks;
 mod streams;
 mod wakers;
 mod weak;
+
+/// `assert_eq!`, proved once: each one in place takes seconds of the check.
+fn expect_equal<X: PartialEq + Debug + Drop>(rt: &impl Abort, got: X, wanted: X) {
+    assert_eq!(rt; got, wanted);
+}
+
+/// The same in one round of a loop, which it names where the two differ.
+fn expect_equal_at<N: Debug + Drop, X: PartialEq + Debug + Drop>(
+    rt: &impl Abort,
+    round: N,
+    got: X,
+    wanted: X,
+) {
+    assert_eq!(rt; got, wanted, "at {round:?}");
+}

@@ -1,4 +1,5 @@
 //! Two futures in one task do not wake each other.
+use super::expect_equal;
 use async_priority_channel::bounded;
 use futures::Future;
 use futures::executor::block_on;
@@ -51,7 +52,7 @@ fn two_receives_in_one_task_rest_while_they_wait(rt: HostRuntime) -> Result<(), 
         polls: &polls,
     };
     let received = block_on(&rt, join(first, second))?;
-    assert_eq!(rt; received, (Ok((1, 1)), Ok((2, 2))));
+    expect_equal(&rt, received, (Ok((1, 1)), Ok((2, 2))));
     assert!(rt; sending.join(&rt));
     assert!(rt; polls.load(Ordering::SeqCst) < 10);
     Ok(())

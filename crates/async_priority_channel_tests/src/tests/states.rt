@@ -1,4 +1,5 @@
 //! States polled in turn on one core. Here a waker is a number.
+use super::{expect_equal, expect_equal_at};
 use async_priority_channel::waiting::{RecvState, SendState, SendvState};
 use futures::task::Poll;
 use priority_channel_core::awaitable_atomics::Wakes;
@@ -52,21 +53,21 @@ fn a_bulk_send_goes_on_as_room_comes(rt: HostRuntime) -> Result<(), AllocError> 
     let pairs = vec![in rt.alloc(); ("a", 1), ("b", 2), ("c", 3), ("d", 4), ("e", 5)]?;
     let mut state = SendvState::new(pairs.into_iter().peekable());
     assert!(rt; waits(state.poll_on(&mut core, &7)));
-    assert_eq!(rt; state.ticket(), Some(0));
-    assert_eq!(rt; core.len(), 2);
+    expect_equal(&rt, state.ticket(), Some(0));
+    expect_equal(&rt, core.len(), 2);
 
     let (reply, handed) = receive(&mut core);
     assert!(rt; matches!(reply, Ok(("b", 2))));
-    assert_eq!(rt; handed.0.as_slice(), [(0, 7)].as_slice());
+    expect_equal(&rt, handed.0.as_slice(), [(0, 7)].as_slice());
     assert!(rt; handed.1.is_empty());
 
     assert!(rt; waits(state.poll_on(&mut core, &8)));
-    assert_eq!(rt; state.ticket(), Some(1));
-    assert_eq!(rt; core.len(), 2);
+    expect_equal(&rt, state.ticket(), Some(1));
+    expect_equal(&rt, core.len(), 2);
 
     let (reply, handed) = receive(&mut core);
     assert!(rt; matches!(reply, Ok(("c", 3))));
-    assert_eq!(rt; handed.0.as_slice(), [(1, 8)].as_slice());
+    expect_equal(&rt, handed.0.as_slice(), [(1, 8)].as_slice());
 
     let (was_open, handed) = close(&mut core);
     assert!(rt; was_open);
@@ -74,9 +75,9 @@ fn a_bulk_send_goes_on_as_room_comes(rt: HostRuntime) -> Result<(), AllocError> 
 
     let (poll, wakes) = state.poll_on(&mut core, &9);
     assert!(rt; is_nobody(&wakes.into_lists()));
-    assert_eq!(rt; closed_with(poll), Some(2));
+    expect_equal(&rt, closed_with(poll), Some(2));
     assert!(rt; state.is_done());
-    assert_eq!(rt; state.ticket(), None);
+    expect_equal(&rt, state.ticket(), None);
 
     let (reply, _) = receive(&mut core);
     assert!(rt; matches!(reply, Ok(("a", 1))));
@@ -95,19 +96,19 @@ fn a_bulk_send_of_nothing_waits_for_room(rt: HostRuntime) {
     let nothing: Vec<(&str, u64)> = Vec::new(rt.alloc());
     let mut state = SendvState::new(nothing.into_iter().peekable());
     assert!(rt; waits(state.poll_on(&mut core, &1)));
-    assert_eq!(rt; state.ticket(), Some(0));
+    expect_equal(&rt, state.ticket(), Some(0));
 
     let (was_open, handed) = close(&mut core);
     assert!(rt; was_open);
-    assert_eq!(rt; handed.0.as_slice(), [(0, 1)].as_slice());
+    expect_equal(&rt, handed.0.as_slice(), [(0, 1)].as_slice());
 
     let (poll, wakes) = state.poll_on(&mut core, &1);
     assert!(rt; is_nobody(&wakes.into_lists()));
-    assert_eq!(rt; closed_with(poll), Some(0));
+    expect_equal(&rt, closed_with(poll), Some(0));
 
     assert!(rt; waits(state.poll_on(&mut core, &1)));
     assert!(rt; state.is_done());
-    assert_eq!(rt; core.len(), 1);
+    expect_equal(&rt, core.len(), 1);
 }
 
 #[test]
@@ -115,12 +116,12 @@ fn what_a_bulk_send_sent_stays(rt: HostRuntime) {
     let mut core: Core<&str> = Core::bounded(rt.alloc(), 1);
     let mut state = SendvState::new([("a", 1), ("b", 2)].into_iter().peekable());
     assert!(rt; waits(state.poll_on(&mut core, &1)));
-    assert_eq!(rt; core.len(), 1);
+    expect_equal(&rt, core.len(), 1);
     let left = match state.give_up_on(&mut core) {
         Some(rest) => Some(rest.count()),
         None => None,
     };
-    assert_eq!(rt; left, Some(1));
+    expect_equal(&rt, left, Some(1));
     assert!(rt; state.is_done());
 
     let (reply, handed) = receive(&mut core);
@@ -141,25 +142,25 @@ fn a_send_is_given_up(rt: HostRuntime) {
     let mut second = SendState::new(3, 3);
     assert!(rt; waits(first.poll_on(&mut core, &1)));
     assert!(rt; waits(second.poll_on(&mut core, &2)));
-    assert_eq!(rt; first.ticket(), Some(0));
-    assert_eq!(rt; second.ticket(), Some(1));
+    expect_equal(&rt, first.ticket(), Some(0));
+    expect_equal(&rt, second.ticket(), Some(1));
 
     let (reply, handed) = receive(&mut core);
     assert!(rt; matches!(reply, Ok((1, 1))));
-    assert_eq!(rt; handed.0.as_slice(), [(0, 1), (1, 2)].as_slice());
+    expect_equal(&rt, handed.0.as_slice(), [(0, 1), (1, 2)].as_slice());
 
     let (poll, wakes) = second.poll_on(&mut core, &2);
     assert!(rt; is_nobody(&wakes.into_lists()));
     assert!(rt; matches!(poll, Poll::Ready(Ok(()))));
     assert!(rt; waits(first.poll_on(&mut core, &1)));
-    assert_eq!(rt; first.ticket(), Some(2));
+    expect_equal(&rt, first.ticket(), Some(2));
 
-    assert_eq!(rt; first.give_up_on(&mut core), Some((2, 2)));
+    expect_equal(&rt, first.give_up_on(&mut core), Some((2, 2)));
     assert!(rt; first.is_done());
     assert!(rt; waits(first.poll_on(&mut core, &1)));
     assert!(rt; first.is_done());
-    assert_eq!(rt; core.len(), 1);
-    assert_eq!(rt; first.give_up_on(&mut core), None);
+    expect_equal(&rt, core.len(), 1);
+    expect_equal(&rt, first.give_up_on(&mut core), None);
 
     let (reply, handed) = receive(&mut core);
     assert!(rt; matches!(reply, Ok((3, 3))));
@@ -174,22 +175,22 @@ fn a_receive_is_given_up(rt: HostRuntime) {
     let polled: (Poll<Result<(u64, u64), RecvFault>>, Wakes<u64>) = first.poll_on(&mut core, &1);
     assert!(rt; waits(polled));
     assert!(rt; waits(second.poll_on(&mut core, &2)));
-    assert_eq!(rt; first.ticket(), Some(0));
-    assert_eq!(rt; second.ticket(), Some(1));
+    expect_equal(&rt, first.ticket(), Some(0));
+    expect_equal(&rt, second.ticket(), Some(1));
 
     let (reply, wakes) = core.try_sendv([(1, 1), (2, 2)].into_iter().peekable());
     assert!(rt; reply.is_ok());
     let (room, message) = wakes.into_lists();
     assert!(rt; room.is_empty());
-    assert_eq!(rt; message.as_slice(), [(0, 1), (1, 2)].as_slice());
+    expect_equal(&rt, message.as_slice(), [(0, 1), (1, 2)].as_slice());
 
-    assert_eq!(rt; first.give_up_on(&mut core), Some(()));
+    expect_equal(&rt, first.give_up_on(&mut core), Some(()));
     assert!(rt; first.is_done());
     let (poll, wakes) = second.poll_on(&mut core, &2);
     assert!(rt; is_nobody(&wakes.into_lists()));
     assert!(rt; matches!(poll, Poll::Ready(Ok((2, 2)))));
     assert!(rt; second.is_done());
-    assert_eq!(rt; core.len(), 1);
+    expect_equal(&rt, core.len(), 1);
 }
 
 // Sends 1, 2, 4, 8 and 16 by a bulk send into a channel for two, and receives after each poll that
@@ -230,8 +231,8 @@ fn a_refused_bulk_send_loses_nothing(rt: HostRuntime) -> Result<(), Fail> {
         let (count, sum, is_refused) = send_five(&alloc);
         let met_none = alloc.refuse_none();
         // Each once: no other five of them have this sum.
-        assert_eq!(rt; (count, sum), (5, 31), "at {n}");
-        assert_eq!(rt; is_refused, !met_none, "at {n}");
+        expect_equal_at(&rt, n, (count, sum), (5, 31));
+        expect_equal_at(&rt, n, is_refused, !met_none);
         if met_none {
             // For the messages, and for an entry in the waiting list at each poll that waits.
             assert!(rt; n > 4);

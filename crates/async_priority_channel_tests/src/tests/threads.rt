@@ -1,4 +1,5 @@
 //! Handles on many threads.
+use super::expect_equal;
 use async_priority_channel::{Ends, Receiver, RecvError, RecvFault, Sender, bounded, unbounded};
 use futures::executor::block_on;
 use std::alloc::{AllocError, AllocGlobal, Global};
@@ -95,42 +96,42 @@ where
 #[test]
 fn one_to_one_unbounded(rt: HostRuntime) -> Result<(), Fail> {
     let relayed = relay(rt, unbounded(&rt, rt.alloc())?, 1, 1000, 1)?;
-    assert_eq!(rt; relayed, (true, 1000, 1000, 499_500));
+    expect_equal(&rt, relayed, (true, 1000, 1000, 499_500));
     Ok(())
 }
 
 #[test]
 fn one_to_one_bounded(rt: HostRuntime) -> Result<(), Fail> {
     let relayed = relay(rt, bounded(&rt, rt.alloc(), 10)?, 1, 1000, 1)?;
-    assert_eq!(rt; relayed, (true, 1000, 1000, 499_500));
+    expect_equal(&rt, relayed, (true, 1000, 1000, 499_500));
     Ok(())
 }
 
 #[test]
 fn ten_to_one_unbounded(rt: HostRuntime) -> Result<(), Fail> {
     let relayed = relay(rt, unbounded(&rt, rt.alloc())?, 10, 500, 1)?;
-    assert_eq!(rt; relayed, (true, 5000, 5000, 12_497_500));
+    expect_equal(&rt, relayed, (true, 5000, 5000, 12_497_500));
     Ok(())
 }
 
 #[test]
 fn ten_to_one_bounded(rt: HostRuntime) -> Result<(), Fail> {
     let relayed = relay(rt, bounded(&rt, rt.alloc(), 10)?, 10, 500, 1)?;
-    assert_eq!(rt; relayed, (true, 5000, 5000, 12_497_500));
+    expect_equal(&rt, relayed, (true, 5000, 5000, 12_497_500));
     Ok(())
 }
 
 #[test]
 fn ten_to_ten_unbounded(rt: HostRuntime) -> Result<(), Fail> {
     let relayed = relay(rt, unbounded(&rt, rt.alloc())?, 10, 500, 10)?;
-    assert_eq!(rt; relayed, (true, 5000, 5000, 12_497_500));
+    expect_equal(&rt, relayed, (true, 5000, 5000, 12_497_500));
     Ok(())
 }
 
 #[test]
 fn ten_to_ten_bounded(rt: HostRuntime) -> Result<(), Fail> {
     let relayed = relay(rt, bounded(&rt, rt.alloc(), 10)?, 10, 500, 10)?;
-    assert_eq!(rt; relayed, (true, 5000, 5000, 12_497_500));
+    expect_equal(&rt, relayed, (true, 5000, 5000, 12_497_500));
     Ok(())
 }
 
@@ -140,7 +141,7 @@ fn a_bulk_send_goes_on_as_room_comes(rt: HostRuntime) -> Result<(), Fail> {
     let sending = thread::spawn(&rt, move || send_many(&rt, &tx, 100))?;
     let (received, sum) = receive_all(&rt, &rx);
     assert!(rt; sending.join(&rt));
-    assert_eq!(rt; (received, sum), (100, 4950));
+    expect_equal(&rt, (received, sum), (100, 4950));
     Ok(())
 }
 
@@ -165,7 +166,7 @@ fn one_close_is_the_first(rt: HostRuntime) -> Result<(), Fail> {
     for thread in closing {
         first = first.wrapping_add(thread.join(&rt) as u64);
     }
-    assert_eq!(rt; first, 1);
+    expect_equal(&rt, first, 1);
     assert!(rt; rx.is_closed());
     Ok(())
 }
@@ -198,7 +199,7 @@ fn what_was_pending_comes_beside_a_close(rt: HostRuntime) -> Result<(), Fail> {
     assert!(rt; closing.join(&rt));
     let (all_came, last) = receiving.join(&rt);
     assert!(rt; all_came);
-    assert_eq!(rt; last?, Err(RecvFault::Closed(RecvError)));
+    expect_equal(&rt, last?, Err(RecvFault::Closed(RecvError)));
     Ok(())
 }
 

@@ -1,4 +1,5 @@
 //! Calls that answer at once.
+use super::expect_equal;
 use async_priority_channel::{
     Sender, TryRecvError, TrySendError, bounded, bounded_reserved, unbounded,
 };
@@ -21,45 +22,45 @@ fn sendv<T: Drop, R: Wait + Clone>(
 #[test]
 fn the_greatest_priority_comes_first(rt: HostRuntime) -> Result<(), AllocError> {
     let (tx, rx) = unbounded(&rt, rt.alloc())?;
-    assert_eq!(rt; tx.try_send("Foo", 0u64), Ok(()));
-    assert_eq!(rt; tx.try_send("Bar", 2), Ok(()));
-    assert_eq!(rt; tx.try_send("Baz", 1), Ok(()));
-    assert_eq!(rt; rx.try_recv(), Ok(("Bar", 2)));
+    expect_equal(&rt, tx.try_send("Foo", 0u64), Ok(()));
+    expect_equal(&rt, tx.try_send("Bar", 2), Ok(()));
+    expect_equal(&rt, tx.try_send("Baz", 1), Ok(()));
+    expect_equal(&rt, rx.try_recv(), Ok(("Bar", 2)));
     Ok(())
 }
 
 #[test]
 fn a_message_comes_out(rt: HostRuntime) -> Result<(), AllocError> {
     let (tx, rx) = bounded(&rt, rt.alloc(), 1)?;
-    assert_eq!(rt; tx.try_send("Foo", 0u64), Ok(()));
-    assert_eq!(rt; rx.try_recv(), Ok(("Foo", 0)));
+    expect_equal(&rt, tx.try_send("Foo", 0u64), Ok(()));
+    expect_equal(&rt, rx.try_recv(), Ok(("Foo", 0)));
     Ok(())
 }
 
 #[test]
 fn comes_out_in_falling_order(rt: HostRuntime) -> Result<(), AllocError> {
     let (tx, rx) = unbounded(&rt, rt.alloc())?;
-    assert_eq!(rt; tx.try_send(1u64, 1u64), Ok(()));
-    assert_eq!(rt; tx.try_send(3, 3), Ok(()));
-    assert_eq!(rt; tx.try_send(2, 2), Ok(()));
-    assert_eq!(rt; rx.try_recv(), Ok((3, 3)));
-    assert_eq!(rt; rx.try_recv(), Ok((2, 2)));
-    assert_eq!(rt; rx.try_recv(), Ok((1, 1)));
+    expect_equal(&rt, tx.try_send(1u64, 1u64), Ok(()));
+    expect_equal(&rt, tx.try_send(3, 3), Ok(()));
+    expect_equal(&rt, tx.try_send(2, 2), Ok(()));
+    expect_equal(&rt, rx.try_recv(), Ok((3, 3)));
+    expect_equal(&rt, rx.try_recv(), Ok((2, 2)));
+    expect_equal(&rt, rx.try_recv(), Ok((1, 1)));
     Ok(())
 }
 
 #[test]
 fn closed_is_told_before_full(rt: HostRuntime) -> Result<(), AllocError> {
     let (tx, rx) = bounded(&rt, rt.alloc(), 3)?;
-    assert_eq!(rt; tx.try_send(1u64, 1u64), Ok(()));
-    assert_eq!(rt; tx.try_send(3, 3), Ok(()));
-    assert_eq!(rt; tx.try_send(2, 2), Ok(()));
+    expect_equal(&rt, tx.try_send(1u64, 1u64), Ok(()));
+    expect_equal(&rt, tx.try_send(3, 3), Ok(()));
+    expect_equal(&rt, tx.try_send(2, 2), Ok(()));
     assert!(rt; tx.close());
-    assert_eq!(rt; tx.try_send(4, 4), Err(TrySendError::Closed((4, 4))));
-    assert_eq!(rt; rx.try_recv(), Ok((3, 3)));
-    assert_eq!(rt; rx.try_recv(), Ok((2, 2)));
-    assert_eq!(rt; rx.try_recv(), Ok((1, 1)));
-    assert_eq!(rt; rx.try_recv(), Err(TryRecvError::Closed));
+    expect_equal(&rt, tx.try_send(4, 4), Err(TrySendError::Closed((4, 4))));
+    expect_equal(&rt, rx.try_recv(), Ok((3, 3)));
+    expect_equal(&rt, rx.try_recv(), Ok((2, 2)));
+    expect_equal(&rt, rx.try_recv(), Ok((1, 1)));
+    expect_equal(&rt, rx.try_recv(), Err(TryRecvError::Closed));
     Ok(())
 }
 
@@ -67,8 +68,12 @@ fn closed_is_told_before_full(rt: HostRuntime) -> Result<(), AllocError> {
 fn a_closed_channel_takes_nothing(rt: HostRuntime) -> Result<(), AllocError> {
     let (tx, rx) = bounded(&rt, rt.alloc(), 2)?;
     assert!(rt; rx.close());
-    assert_eq!(rt; tx.try_send(4u64, 4u64), Err(TrySendError::Closed((4, 4))));
-    assert_eq!(rt; rx.try_recv(), Err(TryRecvError::Closed));
+    expect_equal(
+        &rt,
+        tx.try_send(4u64, 4u64),
+        Err(TrySendError::Closed((4, 4))),
+    );
+    expect_equal(&rt, rx.try_recv(), Err(TryRecvError::Closed));
     Ok(())
 }
 
@@ -76,62 +81,96 @@ fn a_closed_channel_takes_nothing(rt: HostRuntime) -> Result<(), AllocError> {
 fn tells_its_capacity(rt: HostRuntime) -> Result<(), AllocError> {
     for cap in 1..10u64 {
         let (tx, rx) = bounded::<(), (), _, _>(&rt, rt.alloc(), cap)?;
-        assert_eq!(rt; (tx.capacity(), rx.capacity()), (Some(cap), Some(cap)));
+        expect_equal(&rt, (tx.capacity(), rx.capacity()), (Some(cap), Some(cap)));
     }
     let (tx, rx) = bounded::<(), (), _, _>(&rt, rt.alloc(), u64::MAX)?;
-    assert_eq!(rt; (tx.capacity(), rx.capacity()), (None, None));
+    expect_equal(&rt, (tx.capacity(), rx.capacity()), (None, None));
     let (tx, rx) = bounded::<(), (), _, _>(&rt, rt.alloc(), 1 << 63)?;
-    assert_eq!(rt; tx.capacity(), Some(9223372036854775808));
-    assert_eq!(rt; rx.capacity(), Some(9223372036854775808));
+    expect_equal(&rt, tx.capacity(), Some(9223372036854775808));
+    expect_equal(&rt, rx.capacity(), Some(9223372036854775808));
     let (tx, _rx) = unbounded::<(), (), _, _>(&rt, rt.alloc())?;
-    assert_eq!(rt; tx.capacity(), None);
+    expect_equal(&rt, tx.capacity(), None);
     Ok(())
 }
 
 #[test]
 fn tells_how_full_it_is(rt: HostRuntime) -> Result<(), AllocError> {
     let (tx, rx) = bounded(&rt, rt.alloc(), 2)?;
-    assert_eq!(rt; (tx.len(), tx.is_empty(), tx.is_full()), (0, true, false));
-    assert_eq!(rt; (rx.len(), rx.is_empty(), rx.is_full()), (0, true, false));
-    assert_eq!(rt; tx.try_send((), 0u64), Ok(()));
-    assert_eq!(rt; (tx.len(), tx.is_empty(), tx.is_full()), (1, false, false));
-    assert_eq!(rt; (rx.len(), rx.is_empty(), rx.is_full()), (1, false, false));
-    assert_eq!(rt; tx.try_send((), 0), Ok(()));
-    assert_eq!(rt; (tx.len(), tx.is_empty(), tx.is_full()), (2, false, true));
-    assert_eq!(rt; (rx.len(), rx.is_empty(), rx.is_full()), (2, false, true));
-    assert_eq!(rt; rx.try_recv(), Ok(((), 0)));
-    assert_eq!(rt; (tx.len(), tx.is_empty(), tx.is_full()), (1, false, false));
-    assert_eq!(rt; (rx.len(), rx.is_empty(), rx.is_full()), (1, false, false));
+    expect_equal(
+        &rt,
+        (tx.len(), tx.is_empty(), tx.is_full()),
+        (0, true, false),
+    );
+    expect_equal(
+        &rt,
+        (rx.len(), rx.is_empty(), rx.is_full()),
+        (0, true, false),
+    );
+    expect_equal(&rt, tx.try_send((), 0u64), Ok(()));
+    expect_equal(
+        &rt,
+        (tx.len(), tx.is_empty(), tx.is_full()),
+        (1, false, false),
+    );
+    expect_equal(
+        &rt,
+        (rx.len(), rx.is_empty(), rx.is_full()),
+        (1, false, false),
+    );
+    expect_equal(&rt, tx.try_send((), 0), Ok(()));
+    expect_equal(
+        &rt,
+        (tx.len(), tx.is_empty(), tx.is_full()),
+        (2, false, true),
+    );
+    expect_equal(
+        &rt,
+        (rx.len(), rx.is_empty(), rx.is_full()),
+        (2, false, true),
+    );
+    expect_equal(&rt, rx.try_recv(), Ok(((), 0)));
+    expect_equal(
+        &rt,
+        (tx.len(), tx.is_empty(), tx.is_full()),
+        (1, false, false),
+    );
+    expect_equal(
+        &rt,
+        (rx.len(), rx.is_empty(), rx.is_full()),
+        (1, false, false),
+    );
     Ok(())
 }
 
 #[test]
 fn sends_as_far_as_there_is_room(rt: HostRuntime) -> Result<(), AllocError> {
     let (tx, rx) = bounded(&rt, rt.alloc(), 10)?;
-    assert_eq!(rt;
+    expect_equal(
+        &rt,
         sendv(&tx, vec![in rt.alloc(); ("a", 0), ("b", 1)]?),
-        Ok(())
+        Ok(()),
     );
-    assert_eq!(rt; rx.try_recv(), Ok(("b", 1)));
-    assert_eq!(rt; rx.try_recv(), Ok(("a", 0)));
+    expect_equal(&rt, rx.try_recv(), Ok(("b", 1)));
+    expect_equal(&rt, rx.try_recv(), Ok(("a", 0)));
     let mut many = Vec::new(rt.alloc());
     for _ in 0..100 {
         many.push(("a", 0))?;
     }
-    assert_eq!(rt; sendv(&tx, many), Err(TrySendError::Full(90)));
-    assert_eq!(rt; rx.len(), 10);
+    expect_equal(&rt, sendv(&tx, many), Err(TrySendError::Full(90)));
+    expect_equal(&rt, rx.len(), 10);
     Ok(())
 }
 
 #[test]
 fn sends_nothing_into_a_closed_channel(rt: HostRuntime) -> Result<(), AllocError> {
     let (tx, rx) = bounded(&rt, rt.alloc(), 10)?;
-    assert_eq!(rt; (tx.is_closed(), rx.is_closed()), (false, false));
+    expect_equal(&rt, (tx.is_closed(), rx.is_closed()), (false, false));
     assert!(rt; tx.close());
-    assert_eq!(rt; (tx.is_closed(), rx.is_closed()), (true, true));
-    assert_eq!(rt;
+    expect_equal(&rt, (tx.is_closed(), rx.is_closed()), (true, true));
+    expect_equal(
+        &rt,
         sendv(&tx, vec![in rt.alloc(); ("a", 0), ("b", 1)]?),
-        Err(TrySendError::Closed(2))
+        Err(TrySendError::Closed(2)),
     );
     Ok(())
 }
@@ -139,9 +178,10 @@ fn sends_nothing_into_a_closed_channel(rt: HostRuntime) -> Result<(), AllocError
 #[test]
 fn just_filling_is_no_refusal(rt: HostRuntime) -> Result<(), AllocError> {
     let (tx, _rx) = bounded(&rt, rt.alloc(), 2)?;
-    assert_eq!(rt;
+    expect_equal(
+        &rt,
         sendv(&tx, vec![in rt.alloc(); ("a", 0), ("b", 1)]?),
-        Ok(())
+        Ok(()),
     );
     Ok(())
 }
@@ -153,10 +193,10 @@ fn a_greater_priority_is_refused_all_the_same(rt: HostRuntime) -> Result<(), All
         bounded_reserved(&rt, rt.alloc(), 1)?,
     ] {
         let (tx, rx) = ends;
-        assert_eq!(rt; tx.try_send("x", 5u64), Ok(()));
-        assert_eq!(rt; tx.try_send("y", 9), Err(TrySendError::Full(("y", 9))));
-        assert_eq!(rt; rx.try_recv(), Ok(("x", 5)));
-        assert_eq!(rt; rx.try_recv(), Err(TryRecvError::Empty));
+        expect_equal(&rt, tx.try_send("x", 5u64), Ok(()));
+        expect_equal(&rt, tx.try_send("y", 9), Err(TrySendError::Full(("y", 9))));
+        expect_equal(&rt, rx.try_recv(), Ok(("x", 5)));
+        expect_equal(&rt, rx.try_recv(), Err(TryRecvError::Empty));
     }
     Ok(())
 }
@@ -164,15 +204,17 @@ fn a_greater_priority_is_refused_all_the_same(rt: HostRuntime) -> Result<(), All
 #[test]
 fn an_empty_list_is_refused_where_a_pair_would_be(rt: HostRuntime) -> Result<(), AllocError> {
     let (tx, rx) = bounded(&rt, rt.alloc(), 1)?;
-    assert_eq!(rt; tx.try_send("x", 5u64), Ok(()));
-    assert_eq!(rt;
+    expect_equal(&rt, tx.try_send("x", 5u64), Ok(()));
+    expect_equal(
+        &rt,
         sendv(&tx, Vec::new(rt.alloc())),
-        Err(TrySendError::Full(0))
+        Err(TrySendError::Full(0)),
     );
     assert!(rt; rx.close());
-    assert_eq!(rt;
+    expect_equal(
+        &rt,
         sendv(&tx, Vec::new(rt.alloc())),
-        Err(TrySendError::Closed(0))
+        Err(TrySendError::Closed(0)),
     );
     assert!(rt; !tx.close());
     Ok(())

@@ -1,4 +1,5 @@
 //! Sends and receives by futures, on one thread.
+use super::expect_equal;
 use async_priority_channel::{
     RecvError, RecvFault, SendError, SendFault, Sender, TryRecvError, bounded, unbounded,
 };
@@ -30,38 +31,40 @@ fn sendv<T: Drop, R: Wait + Clone + RandomSource + AllocGlobal>(
 #[test]
 fn the_greatest_priority_comes_first(rt: HostRuntime) -> Result<(), Fail> {
     let (tx, rx) = unbounded(&rt, rt.alloc())?;
-    assert_eq!(rt; block_on(&rt, tx.send("Foo", 0u64))?, Ok(()));
-    assert_eq!(rt; block_on(&rt, tx.send("Bar", 2))?, Ok(()));
-    assert_eq!(rt; block_on(&rt, tx.send("Baz", 1))?, Ok(()));
-    assert_eq!(rt; block_on(&rt, rx.recv())?, Ok(("Bar", 2)));
+    expect_equal(&rt, block_on(&rt, tx.send("Foo", 0u64))?, Ok(()));
+    expect_equal(&rt, block_on(&rt, tx.send("Bar", 2))?, Ok(()));
+    expect_equal(&rt, block_on(&rt, tx.send("Baz", 1))?, Ok(()));
+    expect_equal(&rt, block_on(&rt, rx.recv())?, Ok(("Bar", 2)));
     Ok(())
 }
 
 #[test]
 fn a_message_comes_out(rt: HostRuntime) -> Result<(), Fail> {
     let (tx, rx) = bounded(&rt, rt.alloc(), 1)?;
-    assert_eq!(rt; block_on(&rt, tx.send("Foo", 0u64))?, Ok(()));
-    assert_eq!(rt; block_on(&rt, rx.recv())?, Ok(("Foo", 0)));
+    expect_equal(&rt, block_on(&rt, tx.send("Foo", 0u64))?, Ok(()));
+    expect_equal(&rt, block_on(&rt, rx.recv())?, Ok(("Foo", 0)));
     Ok(())
 }
 
 #[test]
 fn a_closed_channel_gives_what_is_pending(rt: HostRuntime) -> Result<(), Fail> {
     let (tx, rx) = bounded(&rt, rt.alloc(), 3)?;
-    assert_eq!(rt; block_on(&rt, tx.send(1u64, 1u64))?, Ok(()));
-    assert_eq!(rt; block_on(&rt, tx.send(3, 3))?, Ok(()));
-    assert_eq!(rt; block_on(&rt, tx.send(2, 2))?, Ok(()));
+    expect_equal(&rt, block_on(&rt, tx.send(1u64, 1u64))?, Ok(()));
+    expect_equal(&rt, block_on(&rt, tx.send(3, 3))?, Ok(()));
+    expect_equal(&rt, block_on(&rt, tx.send(2, 2))?, Ok(()));
     assert!(rt; tx.close());
-    assert_eq!(rt;
+    expect_equal(
+        &rt,
         block_on(&rt, tx.send(4, 4))?,
-        Err(SendFault::Closed(SendError((4, 4))))
+        Err(SendFault::Closed(SendError((4, 4)))),
     );
-    assert_eq!(rt; block_on(&rt, rx.recv())?, Ok((3, 3)));
-    assert_eq!(rt; block_on(&rt, rx.recv())?, Ok((2, 2)));
-    assert_eq!(rt; block_on(&rt, rx.recv())?, Ok((1, 1)));
-    assert_eq!(rt;
+    expect_equal(&rt, block_on(&rt, rx.recv())?, Ok((3, 3)));
+    expect_equal(&rt, block_on(&rt, rx.recv())?, Ok((2, 2)));
+    expect_equal(&rt, block_on(&rt, rx.recv())?, Ok((1, 1)));
+    expect_equal(
+        &rt,
         block_on(&rt, rx.recv())?,
-        Err(RecvFault::Closed(RecvError))
+        Err(RecvFault::Closed(RecvError)),
     );
     Ok(())
 }
@@ -69,20 +72,23 @@ fn a_closed_channel_gives_what_is_pending(rt: HostRuntime) -> Result<(), Fail> {
 #[test]
 fn sends_many(rt: HostRuntime) -> Result<(), Fail> {
     let (tx, rx) = bounded(&rt, rt.alloc(), 10)?;
-    assert_eq!(rt;
+    expect_equal(
+        &rt,
         sendv(&rt, &tx, vec![in rt.alloc(); ("a", 0), ("b", 1)]?)?,
-        Ok(())
+        Ok(()),
     );
-    assert_eq!(rt; block_on(&rt, rx.recv())?, Ok(("b", 1)));
-    assert_eq!(rt; block_on(&rt, rx.recv())?, Ok(("a", 0)));
+    expect_equal(&rt, block_on(&rt, rx.recv())?, Ok(("b", 1)));
+    expect_equal(&rt, block_on(&rt, rx.recv())?, Ok(("a", 0)));
     assert!(rt; rx.close());
-    assert_eq!(rt;
+    expect_equal(
+        &rt,
         sendv(&rt, &tx, vec![in rt.alloc(); ("a", 0), ("b", 1)]?)?,
-        Err(SendFault::Closed(SendError(2)))
+        Err(SendFault::Closed(SendError(2))),
     );
-    assert_eq!(rt;
+    expect_equal(
+        &rt,
         sendv(&rt, &tx, Vec::new(rt.alloc()))?,
-        Err(SendFault::Closed(SendError(0)))
+        Err(SendFault::Closed(SendError(0))),
     );
     Ok(())
 }
@@ -90,12 +96,13 @@ fn sends_many(rt: HostRuntime) -> Result<(), Fail> {
 #[test]
 fn the_last_sender_closes(rt: HostRuntime) -> Result<(), Fail> {
     let (tx, rx) = bounded(&rt, rt.alloc(), 2)?;
-    assert_eq!(rt; block_on(&rt, tx.send(1u64, 1u64))?, Ok(()));
+    expect_equal(&rt, block_on(&rt, tx.send(1u64, 1u64))?, Ok(()));
     drop(tx);
-    assert_eq!(rt; block_on(&rt, rx.recv())?, Ok((1, 1)));
-    assert_eq!(rt;
+    expect_equal(&rt, block_on(&rt, rx.recv())?, Ok((1, 1)));
+    expect_equal(
+        &rt,
         block_on(&rt, rx.recv())?,
-        Err(RecvFault::Closed(RecvError))
+        Err(RecvFault::Closed(RecvError)),
     );
     Ok(())
 }
@@ -103,10 +110,10 @@ fn the_last_sender_closes(rt: HostRuntime) -> Result<(), Fail> {
 #[test]
 fn a_dropped_send_sends_nothing(rt: HostRuntime) -> Result<(), Fail> {
     let (tx, rx) = bounded(&rt, rt.alloc(), 1)?;
-    assert_eq!(rt; tx.try_send("x", 1u64), Ok(()));
-    assert_eq!(rt; block_on(&rt, poll_immediate(tx.send("y", 2)))?, None);
-    assert_eq!(rt; rx.try_recv(), Ok(("x", 1)));
-    assert_eq!(rt; rx.try_recv(), Err(TryRecvError::Empty));
+    expect_equal(&rt, tx.try_send("x", 1u64), Ok(()));
+    expect_equal(&rt, block_on(&rt, poll_immediate(tx.send("y", 2)))?, None);
+    expect_equal(&rt, rx.try_recv(), Ok(("x", 1)));
+    expect_equal(&rt, rx.try_recv(), Err(TryRecvError::Empty));
     Ok(())
 }
 
@@ -115,18 +122,18 @@ fn what_a_dropped_bulk_send_sent_stays(rt: HostRuntime) -> Result<(), Fail> {
     let (tx, rx) = bounded(&rt, rt.alloc(), 1)?;
     let sending = tx.sendv([("a", 1u64), ("b", 2)].into_iter().peekable());
     assert!(rt; block_on(&rt, poll_immediate(sending))?.is_none());
-    assert_eq!(rt; rx.len(), 1);
-    assert_eq!(rt; rx.try_recv(), Ok(("a", 1)));
-    assert_eq!(rt; rx.try_recv(), Err(TryRecvError::Empty));
+    expect_equal(&rt, rx.len(), 1);
+    expect_equal(&rt, rx.try_recv(), Ok(("a", 1)));
+    expect_equal(&rt, rx.try_recv(), Err(TryRecvError::Empty));
     Ok(())
 }
 
 #[test]
 fn a_dropped_receive_takes_nothing(rt: HostRuntime) -> Result<(), Fail> {
     let (tx, rx) = bounded(&rt, rt.alloc(), 1)?;
-    assert_eq!(rt; block_on(&rt, poll_immediate(rx.recv()))?, None);
-    assert_eq!(rt; tx.try_send("x", 1u64), Ok(()));
-    assert_eq!(rt; rx.len(), 1);
+    expect_equal(&rt, block_on(&rt, poll_immediate(rx.recv()))?, None);
+    expect_equal(&rt, tx.try_send("x", 1u64), Ok(()));
+    expect_equal(&rt, rx.len(), 1);
     Ok(())
 }
 
@@ -139,8 +146,8 @@ fn a_send_that_is_done_sends_no_more(rt: HostRuntime) -> Result<(), Fail> {
     let mut sending = tx.send(1, 1);
     assert!(rt; matches!(task.poll(&mut sending), Poll::Ready(Ok(()))));
     assert!(rt; matches!(task.poll(&mut sending), Poll::Pending));
-    assert_eq!(rt; rx.try_recv(), Ok((1, 1)));
-    assert_eq!(rt; rx.try_recv(), Err(TryRecvError::Empty));
+    expect_equal(&rt, rx.try_recv(), Ok((1, 1)));
+    expect_equal(&rt, rx.try_recv(), Err(TryRecvError::Empty));
     Ok(())
 }
 
@@ -151,22 +158,22 @@ fn a_bulk_send_that_is_done_sends_no_more(rt: HostRuntime) -> Result<(), Fail> {
     let mut sending = tx.sendv([(1, 1), (2, 2)].into_iter().peekable());
     assert!(rt; matches!(task.poll(&mut sending), Poll::Ready(Ok(()))));
     assert!(rt; matches!(task.poll(&mut sending), Poll::Pending));
-    assert_eq!(rt; rx.try_recv(), Ok((2, 2)));
-    assert_eq!(rt; rx.try_recv(), Ok((1, 1)));
-    assert_eq!(rt; rx.try_recv(), Err(TryRecvError::Empty));
+    expect_equal(&rt, rx.try_recv(), Ok((2, 2)));
+    expect_equal(&rt, rx.try_recv(), Ok((1, 1)));
+    expect_equal(&rt, rx.try_recv(), Err(TryRecvError::Empty));
     Ok(())
 }
 
 #[test]
 fn a_receive_that_is_done_takes_no_more(rt: HostRuntime) -> Result<(), Fail> {
     let (tx, rx) = bounded(&rt, rt.alloc(), 4)?;
-    assert_eq!(rt; tx.try_send(1, 1), Ok(()));
-    assert_eq!(rt; tx.try_send(2, 2), Ok(()));
+    expect_equal(&rt, tx.try_send(1, 1), Ok(()));
+    expect_equal(&rt, tx.try_send(2, 2), Ok(()));
     let task = MockTask::new(&rt)?;
     let mut receiving = rx.recv();
     assert!(rt; matches!(task.poll(&mut receiving), Poll::Ready(Ok((2, 2)))));
     assert!(rt; matches!(task.poll(&mut receiving), Poll::Pending));
-    assert_eq!(rt; rx.try_recv(), Ok((1, 1)));
-    assert_eq!(rt; rx.try_recv(), Err(TryRecvError::Empty));
+    expect_equal(&rt, rx.try_recv(), Ok((1, 1)));
+    expect_equal(&rt, rx.try_recv(), Err(TryRecvError::Empty));
     Ok(())
 }

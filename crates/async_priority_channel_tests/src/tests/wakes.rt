@@ -1,4 +1,5 @@
 //! Each call that lets another party go on wakes it.
+use super::expect_equal;
 use async_priority_channel::{RecvError, RecvFault, SendError, SendFault, bounded};
 use futures::executor::block_on;
 use std::sync::Wait;
@@ -16,8 +17,8 @@ fn a_try_wakes_a_receiver(rt: HostRuntime) -> Result<(), Fail> {
     let (tx, rx) = bounded(&rt, rt.alloc(), 2)?;
     let receiving = thread::spawn(&rt, move || block_on(&rt, rx.recv()))?;
     let_others_wait(&rt);
-    assert_eq!(rt; tx.try_send(1u64, 1u64), Ok(()));
-    assert_eq!(rt; receiving.join(&rt)?, Ok((1, 1)));
+    expect_equal(&rt, tx.try_send(1u64, 1u64), Ok(()));
+    expect_equal(&rt, receiving.join(&rt)?, Ok((1, 1)));
     Ok(())
 }
 
@@ -27,7 +28,7 @@ fn a_bulk_try_wakes_a_receiver(rt: HostRuntime) -> Result<(), Fail> {
     let receiving = thread::spawn(&rt, move || block_on(&rt, rx.recv()))?;
     let_others_wait(&rt);
     assert!(rt; tx.try_sendv([(1u64, 1u64)].into_iter().peekable()).is_ok());
-    assert_eq!(rt; receiving.join(&rt)?, Ok((1, 1)));
+    expect_equal(&rt, receiving.join(&rt)?, Ok((1, 1)));
     Ok(())
 }
 
@@ -36,8 +37,8 @@ fn a_send_wakes_a_receiver(rt: HostRuntime) -> Result<(), Fail> {
     let (tx, rx) = bounded(&rt, rt.alloc(), 2)?;
     let receiving = thread::spawn(&rt, move || block_on(&rt, rx.recv()))?;
     let_others_wait(&rt);
-    assert_eq!(rt; block_on(&rt, tx.send(1u64, 1u64))?, Ok(()));
-    assert_eq!(rt; receiving.join(&rt)?, Ok((1, 1)));
+    expect_equal(&rt, block_on(&rt, tx.send(1u64, 1u64))?, Ok(()));
+    expect_equal(&rt, receiving.join(&rt)?, Ok((1, 1)));
     Ok(())
 }
 
@@ -47,42 +48,42 @@ fn a_bulk_send_wakes_a_receiver(rt: HostRuntime) -> Result<(), Fail> {
     let receiving = thread::spawn(&rt, move || block_on(&rt, rx.recv()))?;
     let_others_wait(&rt);
     assert!(rt; block_on(&rt, tx.sendv([(1u64, 1u64)].into_iter().peekable()))?.is_ok());
-    assert_eq!(rt; receiving.join(&rt)?, Ok((1, 1)));
+    expect_equal(&rt, receiving.join(&rt)?, Ok((1, 1)));
     Ok(())
 }
 
 #[test]
 fn a_try_recv_wakes_a_sender(rt: HostRuntime) -> Result<(), Fail> {
     let (tx, rx) = bounded(&rt, rt.alloc(), 1)?;
-    assert_eq!(rt; tx.try_send(1u64, 1u64), Ok(()));
+    expect_equal(&rt, tx.try_send(1u64, 1u64), Ok(()));
     let sending = thread::spawn(&rt, move || block_on(&rt, tx.send(2, 2)))?;
     let_others_wait(&rt);
-    assert_eq!(rt; rx.try_recv(), Ok((1, 1)));
-    assert_eq!(rt; sending.join(&rt)?, Ok(()));
+    expect_equal(&rt, rx.try_recv(), Ok((1, 1)));
+    expect_equal(&rt, sending.join(&rt)?, Ok(()));
     Ok(())
 }
 
 #[test]
 fn a_recv_wakes_a_sender(rt: HostRuntime) -> Result<(), Fail> {
     let (tx, rx) = bounded(&rt, rt.alloc(), 1)?;
-    assert_eq!(rt; tx.try_send(1u64, 1u64), Ok(()));
+    expect_equal(&rt, tx.try_send(1u64, 1u64), Ok(()));
     let sending = thread::spawn(&rt, move || block_on(&rt, tx.send(2, 2)))?;
     let_others_wait(&rt);
-    assert_eq!(rt; block_on(&rt, rx.recv())?, Ok((1, 1)));
-    assert_eq!(rt; block_on(&rt, rx.recv())?, Ok((2, 2)));
-    assert_eq!(rt; sending.join(&rt)?, Ok(()));
+    expect_equal(&rt, block_on(&rt, rx.recv())?, Ok((1, 1)));
+    expect_equal(&rt, block_on(&rt, rx.recv())?, Ok((2, 2)));
+    expect_equal(&rt, sending.join(&rt)?, Ok(()));
     Ok(())
 }
 
 #[test]
 fn a_close_wakes_a_sender(rt: HostRuntime) -> Result<(), Fail> {
     let (tx, rx) = bounded(&rt, rt.alloc(), 1)?;
-    assert_eq!(rt; tx.try_send(1u64, 1u64), Ok(()));
+    expect_equal(&rt, tx.try_send(1u64, 1u64), Ok(()));
     let sending = thread::spawn(&rt, move || block_on(&rt, tx.send(2, 2)))?;
     let_others_wait(&rt);
     assert!(rt; rx.close());
     let unsent = SendFault::Closed(SendError((2, 2)));
-    assert_eq!(rt; sending.join(&rt)?, Err(unsent));
+    expect_equal(&rt, sending.join(&rt)?, Err(unsent));
     Ok(())
 }
 
@@ -98,7 +99,7 @@ fn a_close_wakes_ten_receivers(rt: HostRuntime) -> Result<(), Fail> {
     let closing = thread::spawn(&rt, move || tx.close())?;
     assert!(rt; closing.join(&rt));
     for thread in receiving {
-        assert_eq!(rt; thread.join(&rt)?, Err(RecvFault::Closed(RecvError)));
+        expect_equal(&rt, thread.join(&rt)?, Err(RecvFault::Closed(RecvError)));
     }
     Ok(())
 }
@@ -109,18 +110,18 @@ fn the_drop_of_the_last_sender_wakes_a_receiver(rt: HostRuntime) -> Result<(), F
     let receiving = thread::spawn(&rt, move || block_on(&rt, rx.recv()))?;
     let_others_wait(&rt);
     drop(tx);
-    assert_eq!(rt; receiving.join(&rt)?, Err(RecvFault::Closed(RecvError)));
+    expect_equal(&rt, receiving.join(&rt)?, Err(RecvFault::Closed(RecvError)));
     Ok(())
 }
 
 #[test]
 fn the_drop_of_the_last_receiver_wakes_a_sender(rt: HostRuntime) -> Result<(), Fail> {
     let (tx, rx) = bounded(&rt, rt.alloc(), 1)?;
-    assert_eq!(rt; tx.try_send(1u64, 1u64), Ok(()));
+    expect_equal(&rt, tx.try_send(1u64, 1u64), Ok(()));
     let sending = thread::spawn(&rt, move || block_on(&rt, tx.send(2, 2)))?;
     let_others_wait(&rt);
     drop(rx);
     let unsent = SendFault::Closed(SendError((2, 2)));
-    assert_eq!(rt; sending.join(&rt)?, Err(unsent));
+    expect_equal(&rt, sending.join(&rt)?, Err(unsent));
     Ok(())
 }

@@ -4,6 +4,7 @@ use super::calls::{
     RECEIVING, SENDING, TIMED_RECEIVING, TIMED_SENDING, let_others_wait, long, receive, send,
     send_all, short,
 };
+use super::{expect_equal, expect_equal_at};
 use async_priority_channel::{
     Receiver, RecvTimeoutError, SendTimeoutError, Sender, TryRecvError, bounded,
 };
@@ -54,7 +55,7 @@ fn a_wait_for_a_message_ends(rt: HostRuntime) -> Result<(), Fail> {
                 End::Partner => Ok((7, 3)),
                 _ => Err(RecvTimeoutError::Closed),
             };
-            assert_eq!(rt; received, wanted, "{by:?} by {end:?}");
+            expect_equal_at(&rt, (by, end), received, wanted);
             assert!(rt; ending.join(&rt));
             assert!(rt; rx.is_empty());
             drop(kept);
@@ -67,15 +68,16 @@ fn a_wait_for_a_message_ends(rt: HostRuntime) -> Result<(), Fail> {
 fn a_limit_ends_a_wait_for_a_message(rt: HostRuntime) -> Result<(), Fail> {
     for by in TIMED_RECEIVING {
         let (tx, rx) = bounded(&rt, rt.alloc(), 2)?;
-        assert_eq!(rt;
+        expect_equal(
+            &rt,
             receive(&rt, &rx, by, short())?,
-            Err(RecvTimeoutError::Timeout)
+            Err(RecvTimeoutError::Timeout),
         );
         assert!(rt; tx.is_empty() && !tx.is_closed());
         // Who has given up takes nothing that comes later.
-        assert_eq!(rt; tx.try_send(7, 3), Ok(()));
-        assert_eq!(rt; rx.len(), 1);
-        assert_eq!(rt; receive(&rt, &rx, by, short())?, Ok((7, 3)));
+        expect_equal(&rt, tx.try_send(7, 3), Ok(()));
+        expect_equal(&rt, rx.len(), 1);
+        expect_equal(&rt, receive(&rt, &rx, by, short())?, Ok((7, 3)));
     }
     Ok(())
 }
@@ -98,7 +100,7 @@ fn a_wait_for_room_ends(rt: HostRuntime) -> Result<(), Fail> {
     for by in SENDING {
         for end in ENDS {
             let (tx, rx) = bounded(&rt, rt.alloc(), 1)?;
-            assert_eq!(rt; tx.try_send(1, 1), Ok(()));
+            expect_equal(&rt, tx.try_send(1, 1), Ok(()));
             let kept = match end {
                 End::Drop => None,
                 _ => Some(rx.clone()?),
@@ -109,10 +111,10 @@ fn a_wait_for_room_ends(rt: HostRuntime) -> Result<(), Fail> {
                 End::Partner => Ok(()),
                 _ => Err(SendTimeoutError::Closed((7, 3))),
             };
-            assert_eq!(rt; sent, wanted, "{by:?} by {end:?}");
+            expect_equal_at(&rt, (by, end), sent, wanted);
             assert!(rt; ending.join(&rt));
             // The one that was sent, or the one before it.
-            assert_eq!(rt; tx.len(), 1);
+            expect_equal(&rt, tx.len(), 1);
             drop(kept);
         }
     }
@@ -123,16 +125,17 @@ fn a_wait_for_room_ends(rt: HostRuntime) -> Result<(), Fail> {
 fn a_limit_ends_a_wait_for_room(rt: HostRuntime) -> Result<(), Fail> {
     for by in TIMED_SENDING {
         let (tx, rx) = bounded(&rt, rt.alloc(), 1)?;
-        assert_eq!(rt; tx.try_send(1, 1), Ok(()));
-        assert_eq!(rt;
+        expect_equal(&rt, tx.try_send(1, 1), Ok(()));
+        expect_equal(
+            &rt,
             send(&rt, &tx, (7, 3), by, short())?,
-            Err(SendTimeoutError::Timeout((7, 3)))
+            Err(SendTimeoutError::Timeout((7, 3))),
         );
         assert!(rt; tx.is_full() && !tx.is_closed());
         // What was given up is not sent once there is room.
-        assert_eq!(rt; rx.try_recv(), Ok((1, 1)));
-        assert_eq!(rt; rx.try_recv(), Err(TryRecvError::Empty));
-        assert_eq!(rt; send(&rt, &tx, (7, 3), by, short())?, Ok(()));
+        expect_equal(&rt, rx.try_recv(), Ok((1, 1)));
+        expect_equal(&rt, rx.try_recv(), Err(TryRecvError::Empty));
+        expect_equal(&rt, send(&rt, &tx, (7, 3), by, short())?, Ok(()));
     }
     Ok(())
 }
@@ -161,7 +164,7 @@ fn a_wait_for_much_room_ends(rt: HostRuntime) -> Result<(), Fail> {
     for by in SENDING {
         for end in ENDS {
             let (tx, rx) = bounded(&rt, rt.alloc(), 2)?;
-            assert_eq!(rt; tx.try_send(1, 1), Ok(()));
+            expect_equal(&rt, tx.try_send(1, 1), Ok(()));
             let kept = match end {
                 End::Drop => None,
                 _ => Some(rx.clone()?),
@@ -172,9 +175,9 @@ fn a_wait_for_much_room_ends(rt: HostRuntime) -> Result<(), Fail> {
                 End::Partner => Ok(()),
                 _ => Err(SendTimeoutError::Closed((2, Some(3)))),
             };
-            assert_eq!(rt; sent, wanted, "{by:?} by {end:?}");
+            expect_equal_at(&rt, (by, end), sent, wanted);
             assert!(rt; ending.join(&rt));
-            assert_eq!(rt; tx.len(), 2);
+            expect_equal(&rt, tx.len(), 2);
             drop(kept);
         }
     }
@@ -185,16 +188,17 @@ fn a_wait_for_much_room_ends(rt: HostRuntime) -> Result<(), Fail> {
 fn a_limit_ends_a_wait_for_much_room(rt: HostRuntime) -> Result<(), Fail> {
     for by in TIMED_SENDING {
         let (tx, rx) = bounded(&rt, rt.alloc(), 2)?;
-        assert_eq!(rt; tx.try_send(1, 1), Ok(()));
-        assert_eq!(rt;
+        expect_equal(&rt, tx.try_send(1, 1), Ok(()));
+        expect_equal_at(
+            &rt,
+            by,
             send_all(&rt, &tx, 2, 5, by, short())?,
             Err(SendTimeoutError::Timeout((2, Some(3)))),
-            "{by:?}"
         );
         // What was sent stays sent.
-        assert_eq!(rt; rx.try_recv(), Ok((2, 2)));
-        assert_eq!(rt; rx.try_recv(), Ok((1, 1)));
-        assert_eq!(rt; rx.try_recv(), Err(TryRecvError::Empty));
+        expect_equal(&rt, rx.try_recv(), Ok((2, 2)));
+        expect_equal(&rt, rx.try_recv(), Ok((1, 1)));
+        expect_equal(&rt, rx.try_recv(), Err(TryRecvError::Empty));
     }
     Ok(())
 }
@@ -247,7 +251,7 @@ fn each_send_wakes_a_thread(rt: HostRuntime) -> Result<(), Fail> {
     for by in BRINGING {
         let lent = tx.clone()?;
         let bringing = thread::spawn(&rt, move || bring(&rt, &lent, by))?;
-        assert_eq!(rt; rx.recv_timeout(long()), Ok((7, 3)), "{by:?}");
+        expect_equal_at(&rt, by, rx.recv_timeout(long()), Ok((7, 3)));
         assert!(rt; bringing.join(&rt), "{by:?}");
     }
     Ok(())
@@ -292,12 +296,12 @@ where
 fn each_receive_wakes_a_thread(rt: HostRuntime) -> Result<(), Fail> {
     let (tx, rx) = bounded(&rt, rt.alloc(), 1)?;
     for by in TAKING {
-        assert_eq!(rt; tx.try_send(1, 1), Ok(()));
+        expect_equal(&rt, tx.try_send(1, 1), Ok(()));
         let lent = rx.clone()?;
         let taking = thread::spawn(&rt, move || take(&rt, &lent, by))?;
-        assert_eq!(rt; tx.send_timeout(7, 3, long()), Ok(()), "{by:?}");
+        expect_equal_at(&rt, by, tx.send_timeout(7, 3, long()), Ok(()));
         assert!(rt; taking.join(&rt), "{by:?}");
-        assert_eq!(rt; rx.try_recv(), Ok((7, 3)));
+        expect_equal(&rt, rx.try_recv(), Ok((7, 3)));
     }
     Ok(())
 }
@@ -330,7 +334,7 @@ fn a_task_and_a_thread_wait_for_a_message(rt: HostRuntime) -> Result<(), Fail> {
 #[test]
 fn a_task_and_a_thread_wait_for_room(rt: HostRuntime) -> Result<(), Fail> {
     let (tx, rx) = bounded(&rt, rt.alloc(), 1)?;
-    assert_eq!(rt; tx.try_send(1u64, 1u64), Ok(()));
+    expect_equal(&rt, tx.try_send(1u64, 1u64), Ok(()));
     let other = tx.clone()?;
     let task = thread::spawn(
         &rt,
@@ -343,10 +347,10 @@ fn a_task_and_a_thread_wait_for_room(rt: HostRuntime) -> Result<(), Fail> {
         let second = rx.try_recv();
         (first, second, rx)
     })?;
-    assert_eq!(rt; tx.send_timeout(3, 3, long()), Ok(()));
+    expect_equal(&rt, tx.send_timeout(3, 3, long()), Ok(()));
     assert!(rt; task.join(&rt));
     let (first, second, rx) = receiving.join(&rt);
-    assert_eq!(rt; first, Ok((1, 1)));
+    expect_equal(&rt, first, Ok((1, 1)));
     let (number, _) = second?;
     let (last, _) = rx.try_recv()?;
     assert!(rt; [(2, 3), (3, 2)].contains(&(number, last)));
@@ -365,14 +369,14 @@ fn many_threads_wait(rt: HostRuntime) -> Result<(), Fail> {
     }
     let_others_wait(&rt);
     for i in 1..=10u64 {
-        assert_eq!(rt; tx.try_send(i, i), Ok(()));
+        expect_equal(&rt, tx.try_send(i, i), Ok(()));
     }
     let mut sum = 0u64;
     for thread in receiving {
         let (number, _) = thread.join(&rt)?;
         sum = sum.wrapping_add(number);
     }
-    assert_eq!(rt; sum, 55);
+    expect_equal(&rt, sum, 55);
     assert!(rt; rx.is_empty());
     Ok(())
 }
@@ -380,7 +384,7 @@ fn many_threads_wait(rt: HostRuntime) -> Result<(), Fail> {
 #[test]
 fn a_close_ends_the_waits_of_many_threads(rt: HostRuntime) -> Result<(), Fail> {
     let (tx, rx) = bounded(&rt, rt.alloc(), 1)?;
-    assert_eq!(rt; tx.try_send(1u64, 1u64), Ok(()));
+    expect_equal(&rt, tx.try_send(1u64, 1u64), Ok(()));
     let mut sending = Vec::new(rt.alloc());
     for i in 0..10u64 {
         let tx = tx.clone()?;
@@ -395,7 +399,7 @@ fn a_close_ends_the_waits_of_many_threads(rt: HostRuntime) -> Result<(), Fail> {
         };
         sum = sum.wrapping_add(number);
     }
-    assert_eq!(rt; sum, 45);
-    assert_eq!(rt; rx.len(), 1);
+    expect_equal(&rt, sum, 45);
+    expect_equal(&rt, rx.len(), 1);
     Ok(())
 }

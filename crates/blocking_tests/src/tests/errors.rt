@@ -1,4 +1,5 @@
 //! What the errors of the timed calls tell and print.
+use super::{expect_equal, expect_equal_at};
 use async_priority_channel::{
     RecvError, RecvFault, RecvTimeoutError, SendError, SendFault, SendTimeoutError, bounded,
 };
@@ -30,8 +31,8 @@ fn a_send_prints_why_it_has_not_sent(rt: HostRuntime) -> Result<(), Fail> {
             "Memory(..)",
         ),
     ] {
-        assert_eq!(rt; format!(in rt.alloc(); "{error}")?.as_str(), text);
-        assert_eq!(rt; format!(in rt.alloc(); "{error:?}")?.as_str(), debug);
+        expect_equal(&rt, format!(in rt.alloc(); "{error}")?.as_str(), text);
+        expect_equal(&rt, format!(in rt.alloc(); "{error:?}")?.as_str(), debug);
     }
     Ok(())
 }
@@ -51,8 +52,8 @@ fn a_receive_prints_why_it_has_no_message(rt: HostRuntime) -> Result<(), Fail> {
         ),
         (RecvTimeoutError::Memory, "no memory for waiting", "Memory"),
     ] {
-        assert_eq!(rt; format!(in rt.alloc(); "{error}")?.as_str(), text);
-        assert_eq!(rt; format!(in rt.alloc(); "{error:?}")?.as_str(), debug);
+        expect_equal(&rt, format!(in rt.alloc(); "{error}")?.as_str(), text);
+        expect_equal(&rt, format!(in rt.alloc(); "{error:?}")?.as_str(), debug);
     }
     Ok(())
 }
@@ -65,8 +66,8 @@ fn a_send_tells_one_reason_and_gives_back(rt: HostRuntime) {
         (SendTimeoutError::Memory(("x", 3)), [false, false, true]),
     ] {
         let tells = [error.is_timeout(), error.is_closed(), error.is_memory()];
-        assert_eq!(rt; tells, told, "of {error:?}");
-        assert_eq!(rt; error.into_inner(), ("x", 3));
+        expect_equal_at(&rt, error, tells, told);
+        expect_equal(&rt, error.into_inner(), ("x", 3));
     }
 }
 
@@ -78,7 +79,7 @@ fn a_receive_tells_one_reason(rt: HostRuntime) {
         (RecvTimeoutError::Memory, [false, false, true]),
     ] {
         let tells = [error.is_timeout(), error.is_closed(), error.is_memory()];
-        assert_eq!(rt; tells, told, "of {error}");
+        expect_equal_at(&rt, error, tells, told);
     }
 }
 
@@ -97,33 +98,37 @@ fn errors_are_equal_for_one_reason_and_one_message(rt: HostRuntime) {
     ];
     for (i, one) in sends.iter().enumerate() {
         for (k, other) in sends.iter().enumerate() {
-            assert_eq!(rt; *one == *other, i == k, "{i} and {k}");
+            expect_equal_at(&rt, (i, k), *one == *other, i == k);
         }
     }
     for (i, one) in receives.iter().enumerate() {
         for (k, other) in receives.iter().enumerate() {
-            assert_eq!(rt; *one == *other, i == k, "{i} and {k}");
+            expect_equal_at(&rt, (i, k), *one == *other, i == k);
         }
     }
 }
 
 #[test]
 fn a_fault_is_a_reason_too(rt: HostRuntime) {
-    assert_eq!(rt;
+    expect_equal(
+        &rt,
         SendTimeoutError::from(SendFault::Closed(SendError(("x", 3u64)))),
-        SendTimeoutError::Closed(("x", 3))
+        SendTimeoutError::Closed(("x", 3)),
     );
-    assert_eq!(rt;
+    expect_equal(
+        &rt,
         SendTimeoutError::from(SendFault::Memory(("x", 3u64))),
-        SendTimeoutError::Memory(("x", 3))
+        SendTimeoutError::Memory(("x", 3)),
     );
-    assert_eq!(rt;
+    expect_equal(
+        &rt,
         RecvTimeoutError::from(RecvFault::Closed(RecvError)),
-        RecvTimeoutError::Closed
+        RecvTimeoutError::Closed,
     );
-    assert_eq!(rt;
+    expect_equal(
+        &rt,
         RecvTimeoutError::from(RecvFault::Memory),
-        RecvTimeoutError::Memory
+        RecvTimeoutError::Memory,
     );
 }
 
@@ -139,15 +144,17 @@ fn received_in_any_time(received: Result<u64, RecvFault>) -> Result<u64, RecvTim
 
 #[test]
 fn a_fault_goes_up_as_a_reason(rt: HostRuntime) {
-    assert_eq!(rt; sent_in_any_time(Ok(())), Ok(()));
-    assert_eq!(rt;
+    expect_equal(&rt, sent_in_any_time(Ok(())), Ok(()));
+    expect_equal(
+        &rt,
         sent_in_any_time(Err(SendFault::Memory(3))),
-        Err(SendTimeoutError::Memory(3))
+        Err(SendTimeoutError::Memory(3)),
     );
-    assert_eq!(rt; received_in_any_time(Ok(3)), Ok(3));
-    assert_eq!(rt;
+    expect_equal(&rt, received_in_any_time(Ok(3)), Ok(3));
+    expect_equal(
+        &rt,
         received_in_any_time(Err(RecvFault::Memory)),
-        Err(RecvTimeoutError::Memory)
+        Err(RecvTimeoutError::Memory),
     );
 }
 
@@ -169,16 +176,18 @@ fn a_program_hands_them_on(rt: HostRuntime) -> Result<(), Fail> {
     let Err(of_send) = wait_for_room(&rt) else {
         return Err(Fail::from("there was room"));
     };
-    assert_eq!(rt;
+    expect_equal(
+        &rt,
         format!(in rt.alloc(); "{of_send}")?.as_str(),
-        "sending into a full channel timed out"
+        "sending into a full channel timed out",
     );
     let Err(of_receive) = wait_for_a_message(&rt) else {
         return Err(Fail::from("there was a message"));
     };
-    assert_eq!(rt;
+    expect_equal(
+        &rt,
         format!(in rt.alloc(); "{of_receive}")?.as_str(),
-        "receiving from an empty channel timed out"
+        "receiving from an empty channel timed out",
     );
     Ok(())
 }

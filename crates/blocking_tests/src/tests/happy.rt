@@ -1,5 +1,6 @@
 //! Each call that waits, where it need not wait, and where it has to.
 use super::calls::{RECEIVING, SENDING, let_others_wait, long, receive, send, send_all};
+use super::{expect_equal, expect_equal_at};
 use async_priority_channel::{Receiver, Sender, bounded};
 use std::sync::Wait;
 use std::test::Fail;
@@ -9,10 +10,10 @@ use std::thread;
 fn what_is_there_is_received(rt: HostRuntime) -> Result<(), Fail> {
     for by in RECEIVING {
         let (tx, rx) = bounded(&rt, rt.alloc(), 2)?;
-        assert_eq!(rt; tx.try_send(10u64, 1u64), Ok(()));
-        assert_eq!(rt; tx.try_send(20, 2), Ok(()));
-        assert_eq!(rt; receive(&rt, &rx, by, long())?, Ok((20, 2)), "{by:?}");
-        assert_eq!(rt; receive(&rt, &rx, by, long())?, Ok((10, 1)), "{by:?}");
+        expect_equal(&rt, tx.try_send(10u64, 1u64), Ok(()));
+        expect_equal(&rt, tx.try_send(20, 2), Ok(()));
+        expect_equal_at(&rt, by, receive(&rt, &rx, by, long())?, Ok((20, 2)));
+        expect_equal_at(&rt, by, receive(&rt, &rx, by, long())?, Ok((10, 1)));
         assert!(rt; rx.is_empty());
     }
     Ok(())
@@ -28,9 +29,9 @@ fn a_message_is_waited_for(rt: HostRuntime) -> Result<(), Fail> {
             let sent = tx.try_send(10u64, 1u64);
             (sent, tx)
         })?;
-        assert_eq!(rt; receive(&rt, &rx, by, long())?, Ok((10, 1)), "{by:?}");
+        expect_equal_at(&rt, by, receive(&rt, &rx, by, long())?, Ok((10, 1)));
         let (sent, tx) = sending.join(&rt);
-        assert_eq!(rt; sent, Ok(()));
+        expect_equal(&rt, sent, Ok(()));
         assert!(rt; tx.is_empty() && !tx.is_closed());
     }
     Ok(())
@@ -40,18 +41,18 @@ fn a_message_is_waited_for(rt: HostRuntime) -> Result<(), Fail> {
 fn what_has_room_is_sent(rt: HostRuntime) -> Result<(), Fail> {
     for by in SENDING {
         let (tx, rx) = bounded(&rt, rt.alloc(), 5)?;
-        assert_eq!(rt; send(&rt, &tx, (10, 1), by, long())?, Ok(()), "{by:?}");
-        assert_eq!(rt; send(&rt, &tx, (20, 9), by, long())?, Ok(()), "{by:?}");
-        assert_eq!(rt; send_all(&rt, &tx, 3, 6, by, long())?, Ok(()), "{by:?}");
+        expect_equal_at(&rt, by, send(&rt, &tx, (10, 1), by, long())?, Ok(()));
+        expect_equal_at(&rt, by, send(&rt, &tx, (20, 9), by, long())?, Ok(()));
+        expect_equal_at(&rt, by, send_all(&rt, &tx, 3, 6, by, long())?, Ok(()));
         assert!(rt; tx.is_full());
         for pair in [(20, 9), (5, 5), (4, 4), (3, 3), (10, 1)] {
-            assert_eq!(rt; rx.try_recv(), Ok(pair), "{by:?}");
+            expect_equal_at(&rt, by, rx.try_recv(), Ok(pair));
         }
         assert!(rt; rx.is_empty());
         // To send nothing takes room, and no message.
-        assert_eq!(rt; send_all(&rt, &tx, 0, 4, by, long())?, Ok(()), "{by:?}");
-        assert_eq!(rt; send_all(&rt, &tx, 4, 4, by, long())?, Ok(()), "{by:?}");
-        assert_eq!(rt; rx.len(), 4);
+        expect_equal_at(&rt, by, send_all(&rt, &tx, 0, 4, by, long())?, Ok(()));
+        expect_equal_at(&rt, by, send_all(&rt, &tx, 4, 4, by, long())?, Ok(()));
+        expect_equal(&rt, rx.len(), 4);
     }
     Ok(())
 }
@@ -60,17 +61,17 @@ fn what_has_room_is_sent(rt: HostRuntime) -> Result<(), Fail> {
 fn room_is_waited_for(rt: HostRuntime) -> Result<(), Fail> {
     for by in SENDING {
         let (tx, rx) = bounded(&rt, rt.alloc(), 1)?;
-        assert_eq!(rt; tx.try_send(10u64, 1u64), Ok(()));
+        expect_equal(&rt, tx.try_send(10u64, 1u64), Ok(()));
         let receiving = thread::spawn(&rt, move || {
             let_others_wait(&rt);
             // The receiver comes back, so that no drop of it ends the wait.
             let received = rx.try_recv();
             (received, rx)
         })?;
-        assert_eq!(rt; send(&rt, &tx, (20, 2), by, long())?, Ok(()), "{by:?}");
+        expect_equal_at(&rt, by, send(&rt, &tx, (20, 2), by, long())?, Ok(()));
         let (received, rx) = receiving.join(&rt);
-        assert_eq!(rt; received, Ok((10, 1)));
-        assert_eq!(rt; rx.try_recv(), Ok((20, 2)));
+        expect_equal(&rt, received, Ok((10, 1)));
+        expect_equal(&rt, rx.try_recv(), Ok((20, 2)));
         assert!(rt; rx.is_empty() && !rx.is_closed());
     }
     Ok(())
@@ -97,9 +98,9 @@ fn room_for_all_is_waited_for(rt: HostRuntime) -> Result<(), Fail> {
     for by in SENDING {
         let (tx, rx) = bounded::<u64, u64, _, _>(&rt, rt.alloc(), 2)?;
         let receiving = thread::spawn(&rt, move || receive_some(rx, 100))?;
-        assert_eq!(rt; send_all(&rt, &tx, 0, 100, by, long())?, Ok(()), "{by:?}");
+        expect_equal_at(&rt, by, send_all(&rt, &tx, 0, 100, by, long())?, Ok(()));
         let (sum, rx) = receiving.join(&rt);
-        assert_eq!(rt; sum, 4950);
+        expect_equal(&rt, sum, 4950);
         assert!(rt; rx.is_empty());
     }
     Ok(())
@@ -129,7 +130,7 @@ fn two_threads_take_turns(rt: HostRuntime) -> Result<(), Fail> {
         sum = sum.wrapping_add(number);
     }
     drop(tx);
-    assert_eq!(rt; echoing.join(&rt), 200);
-    assert_eq!(rt; sum, 19_900);
+    expect_equal(&rt, echoing.join(&rt), 200);
+    expect_equal(&rt, sum, 19_900);
     Ok(())
 }

@@ -2,6 +2,7 @@
 use super::calls::{
     TIMED_RECEIVING, TIMED_SENDING, let_others_wait, long, receive, send, send_all, short,
 };
+use super::{expect_equal, expect_equal_at};
 use async_priority_channel::{RecvTimeoutError, SendTimeoutError, TryRecvError, bounded};
 use std::sync::Wait;
 use std::sync::atomic::{AtomicBool, AtomicU64, Ordering};
@@ -18,20 +19,22 @@ fn a_receive_without_time_is_a_try(rt: HostRuntime) -> Result<(), Fail> {
         let limit = Duration::from_nanos(nanos);
         for by in TIMED_RECEIVING {
             let (tx, rx) = bounded(&rt, rt.alloc(), 2)?;
-            assert_eq!(rt;
+            expect_equal_at(
+                &rt,
+                by,
                 receive(&rt, &rx, by, limit)?,
                 Err(RecvTimeoutError::Timeout),
-                "{by:?}"
             );
-            assert_eq!(rt; tx.try_send(1, 1), Ok(()));
-            assert_eq!(rt; tx.try_send(2, 2), Ok(()));
-            assert_eq!(rt; receive(&rt, &rx, by, limit)?, Ok((2, 2)), "{by:?}");
+            expect_equal(&rt, tx.try_send(1, 1), Ok(()));
+            expect_equal(&rt, tx.try_send(2, 2), Ok(()));
+            expect_equal_at(&rt, by, receive(&rt, &rx, by, limit)?, Ok((2, 2)));
             tx.close();
-            assert_eq!(rt; receive(&rt, &rx, by, limit)?, Ok((1, 1)), "{by:?}");
-            assert_eq!(rt;
+            expect_equal_at(&rt, by, receive(&rt, &rx, by, limit)?, Ok((1, 1)));
+            expect_equal_at(
+                &rt,
+                by,
                 receive(&rt, &rx, by, limit)?,
                 Err(RecvTimeoutError::Closed),
-                "{by:?}"
             );
         }
     }
@@ -44,20 +47,22 @@ fn a_send_without_time_is_a_try(rt: HostRuntime) -> Result<(), Fail> {
         let limit = Duration::from_nanos(nanos);
         for by in TIMED_SENDING {
             let (tx, rx) = bounded(&rt, rt.alloc(), 1)?;
-            assert_eq!(rt; send(&rt, &tx, (1, 1), by, limit)?, Ok(()), "{by:?}");
-            assert_eq!(rt;
+            expect_equal_at(&rt, by, send(&rt, &tx, (1, 1), by, limit)?, Ok(()));
+            expect_equal_at(
+                &rt,
+                by,
                 send(&rt, &tx, (2, 2), by, limit)?,
                 Err(SendTimeoutError::Timeout((2, 2))),
-                "{by:?}"
             );
-            assert_eq!(rt; rx.try_recv(), Ok((1, 1)));
+            expect_equal(&rt, rx.try_recv(), Ok((1, 1)));
             rx.close();
-            assert_eq!(rt;
+            expect_equal_at(
+                &rt,
+                by,
                 send(&rt, &tx, (3, 3), by, limit)?,
                 Err(SendTimeoutError::Closed((3, 3))),
-                "{by:?}"
             );
-            assert_eq!(rt; rx.try_recv(), Err(TryRecvError::Closed));
+            expect_equal(&rt, rx.try_recv(), Err(TryRecvError::Closed));
         }
     }
     Ok(())
@@ -69,27 +74,30 @@ fn a_bulk_send_without_time_is_a_try(rt: HostRuntime) -> Result<(), Fail> {
         let limit = Duration::from_nanos(nanos);
         for by in TIMED_SENDING {
             let (tx, rx) = bounded(&rt, rt.alloc(), 2)?;
-            assert_eq!(rt;
+            expect_equal_at(
+                &rt,
+                by,
                 send_all(&rt, &tx, 1, 5, by, limit)?,
                 Err(SendTimeoutError::Timeout((2, Some(3)))),
-                "{by:?}"
             );
             // In a full channel, to send nothing waits for room too.
-            assert_eq!(rt;
+            expect_equal_at(
+                &rt,
+                by,
                 send_all(&rt, &tx, 3, 3, by, limit)?,
                 Err(SendTimeoutError::Timeout((0, None))),
-                "{by:?}"
             );
-            assert_eq!(rt; rx.try_recv(), Ok((2, 2)));
-            assert_eq!(rt; rx.try_recv(), Ok((1, 1)));
-            assert_eq!(rt; send_all(&rt, &tx, 3, 5, by, limit)?, Ok(()), "{by:?}");
+            expect_equal(&rt, rx.try_recv(), Ok((2, 2)));
+            expect_equal(&rt, rx.try_recv(), Ok((1, 1)));
+            expect_equal_at(&rt, by, send_all(&rt, &tx, 3, 5, by, limit)?, Ok(()));
             rx.close();
-            assert_eq!(rt;
+            expect_equal_at(
+                &rt,
+                by,
                 send_all(&rt, &tx, 5, 8, by, limit)?,
                 Err(SendTimeoutError::Closed((3, Some(5)))),
-                "{by:?}"
             );
-            assert_eq!(rt; rx.len(), 2);
+            expect_equal(&rt, rx.len(), 2);
         }
     }
     Ok(())
@@ -100,13 +108,14 @@ fn a_deadline_may_be_past(rt: HostRuntime) -> Result<(), Fail> {
     let past = Instant::now(&rt)?;
     thread::sleep(&rt, Duration::from_millis(1));
     let (tx, rx) = bounded(&rt, rt.alloc(), 1)?;
-    assert_eq!(rt; rx.recv_deadline(past), Err(RecvTimeoutError::Timeout));
-    assert_eq!(rt; tx.send_deadline(1, 1, past), Ok(()));
-    assert_eq!(rt;
+    expect_equal(&rt, rx.recv_deadline(past), Err(RecvTimeoutError::Timeout));
+    expect_equal(&rt, tx.send_deadline(1, 1, past), Ok(()));
+    expect_equal(
+        &rt,
         tx.send_deadline(2, 2, past),
-        Err(SendTimeoutError::Timeout((2, 2)))
+        Err(SendTimeoutError::Timeout((2, 2))),
     );
-    assert_eq!(rt; rx.recv_deadline(past), Ok((1, 1)));
+    expect_equal(&rt, rx.recv_deadline(past), Ok((1, 1)));
     assert!(rt;
         tx.sendv_deadline([(3, 3)].into_iter().peekable(), past)
             .is_ok()
@@ -117,10 +126,10 @@ fn a_deadline_may_be_past(rt: HostRuntime) -> Result<(), Fail> {
     ) else {
         return Err(Fail::from("there was room"));
     };
-    assert_eq!(rt; rest.count(), 1);
+    expect_equal(&rt, rest.count(), 1);
     tx.close();
-    assert_eq!(rt; rx.recv_deadline(past), Ok((3, 3)));
-    assert_eq!(rt; rx.recv_deadline(past), Err(RecvTimeoutError::Closed));
+    expect_equal(&rt, rx.recv_deadline(past), Ok((3, 3)));
+    expect_equal(&rt, rx.recv_deadline(past), Err(RecvTimeoutError::Closed));
     Ok(())
 }
 
@@ -129,9 +138,10 @@ fn a_receive_waits_as_long_as_it_may(rt: HostRuntime) -> Result<(), Fail> {
     let (tx, rx) = bounded::<u64, u64, _, _>(&rt, rt.alloc(), 1)?;
     for by in TIMED_RECEIVING {
         let start = Instant::now(&rt)?;
-        assert_eq!(rt;
+        expect_equal(
+            &rt,
             receive(&rt, &rx, by, short())?,
-            Err(RecvTimeoutError::Timeout)
+            Err(RecvTimeoutError::Timeout),
         );
         assert!(rt; start.elapsed(&rt)? >= short(), "{by:?}");
     }
@@ -142,7 +152,7 @@ fn a_receive_waits_as_long_as_it_may(rt: HostRuntime) -> Result<(), Fail> {
 #[test]
 fn a_send_waits_as_long_as_it_may(rt: HostRuntime) -> Result<(), Fail> {
     let (tx, rx) = bounded(&rt, rt.alloc(), 1)?;
-    assert_eq!(rt; tx.try_send(1u64, 1u64), Ok(()));
+    expect_equal(&rt, tx.try_send(1u64, 1u64), Ok(()));
     for by in TIMED_SENDING {
         let start = Instant::now(&rt)?;
         assert!(rt; send(&rt, &tx, (2, 2), by, short())?.is_err());
@@ -151,7 +161,7 @@ fn a_send_waits_as_long_as_it_may(rt: HostRuntime) -> Result<(), Fail> {
         assert!(rt; send_all(&rt, &tx, 2, 4, by, short())?.is_err());
         assert!(rt; start.elapsed(&rt)? >= short(), "all {by:?}");
     }
-    assert_eq!(rt; rx.len(), 1);
+    expect_equal(&rt, rx.len(), 1);
     Ok(())
 }
 
@@ -166,10 +176,11 @@ fn a_receive_may_wait_for_ever(rt: HostRuntime) -> Result<(), Fail> {
         let_others_wait(&rt);
         (sent && tx.close(), tx)
     })?;
-    assert_eq!(rt; rx.recv_timeout(Duration::MAX), Ok((1, 1)));
-    assert_eq!(rt;
+    expect_equal(&rt, rx.recv_timeout(Duration::MAX), Ok((1, 1)));
+    expect_equal(
+        &rt,
         rx.recv_timeout(Duration::MAX),
-        Err(RecvTimeoutError::Closed)
+        Err(RecvTimeoutError::Closed),
     );
     let (sent_and_closed, _tx) = sending.join(&rt);
     assert!(rt; sent_and_closed);
@@ -179,22 +190,23 @@ fn a_receive_may_wait_for_ever(rt: HostRuntime) -> Result<(), Fail> {
 #[test]
 fn a_send_may_wait_for_ever(rt: HostRuntime) -> Result<(), Fail> {
     let (tx, rx) = bounded(&rt, rt.alloc(), 1)?;
-    assert_eq!(rt; tx.send_timeout(1u64, 1u64, Duration::MAX), Ok(()));
+    expect_equal(&rt, tx.send_timeout(1u64, 1u64, Duration::MAX), Ok(()));
     let receiving = thread::spawn(&rt, move || {
         let_others_wait(&rt);
         let received = rx.try_recv();
         let_others_wait(&rt);
         (received, rx.close(), rx)
     })?;
-    assert_eq!(rt; tx.send_timeout(2, 2, Duration::MAX), Ok(()));
-    assert_eq!(rt;
+    expect_equal(&rt, tx.send_timeout(2, 2, Duration::MAX), Ok(()));
+    expect_equal(
+        &rt,
         tx.send_timeout(3, 3, Duration::MAX),
-        Err(SendTimeoutError::Closed((3, 3)))
+        Err(SendTimeoutError::Closed((3, 3))),
     );
     let (received, was_open, rx) = receiving.join(&rt);
-    assert_eq!(rt; received, Ok((1, 1)));
+    expect_equal(&rt, received, Ok((1, 1)));
     assert!(rt; was_open);
-    assert_eq!(rt; rx.try_recv(), Ok((2, 2)));
+    expect_equal(&rt, rx.try_recv(), Ok((2, 2)));
     Ok(())
 }
 
@@ -204,7 +216,7 @@ fn a_send_may_wait_for_ever(rt: HostRuntime) -> Result<(), Fail> {
 #[test]
 fn a_limit_passes_under_the_lock_of_a_full_channel(rt: HostRuntime) -> Result<(), Fail> {
     let (tx, rx) = bounded(&rt, rt.alloc(), 1)?;
-    assert_eq!(rt; tx.try_send(1u64, 1u64), Ok(()));
+    expect_equal(&rt, tx.try_send(1u64, 1u64), Ok(()));
     let holder = rx.clone()?;
     let holding = thread::spawn(&rt, move || {
         holder.peek_with(|msg, _| {
@@ -213,16 +225,21 @@ fn a_limit_passes_under_the_lock_of_a_full_channel(rt: HostRuntime) -> Result<()
         })
     })?;
     let start = Instant::now(&rt)?;
-    assert_eq!(rt;
+    expect_equal(
+        &rt,
         tx.send_timeout(2, 2, Duration::from_millis(80)),
-        Err(SendTimeoutError::Timeout((2, 2)))
+        Err(SendTimeoutError::Timeout((2, 2))),
     );
     assert!(rt; start.elapsed(&rt)? >= Duration::from_millis(80));
-    assert_eq!(rt; holding.join(&rt), Some(1));
-    assert_eq!(rt; rx.try_recv(), Ok((1, 1)));
-    assert_eq!(rt; rx.try_recv(), Err(TryRecvError::Empty));
-    assert_eq!(rt; tx.send_timeout(3, 3, Duration::from_millis(80)), Ok(()));
-    assert_eq!(rt; rx.try_recv(), Ok((3, 3)));
+    expect_equal(&rt, holding.join(&rt), Some(1));
+    expect_equal(&rt, rx.try_recv(), Ok((1, 1)));
+    expect_equal(&rt, rx.try_recv(), Err(TryRecvError::Empty));
+    expect_equal(
+        &rt,
+        tx.send_timeout(3, 3, Duration::from_millis(80)),
+        Ok(()),
+    );
+    expect_equal(&rt, rx.try_recv(), Ok((3, 3)));
     Ok(())
 }
 
@@ -232,7 +249,7 @@ fn a_limit_passes_under_the_lock_of_a_full_channel(rt: HostRuntime) -> Result<()
 fn a_limit_passes_as_room_comes(rt: HostRuntime) -> Result<(), Fail> {
     for millis in 25..35u64 {
         let (tx, rx) = bounded(&rt, rt.alloc(), 1)?;
-        assert_eq!(rt; tx.try_send(1u64, 1u64), Ok(()));
+        expect_equal(&rt, tx.try_send(1u64, 1u64), Ok(()));
         let other = rx.clone()?;
         let receiving = thread::spawn(&rt, move || {
             thread::sleep(&rt, Duration::from_millis(10));
@@ -241,14 +258,14 @@ fn a_limit_passes_as_room_comes(rt: HostRuntime) -> Result<(), Fail> {
         })?;
         let sent = tx.send_timeout(2, 2, Duration::from_millis(millis));
         let received = receiving.join(&rt);
-        assert_eq!(rt; received, Ok((1, 1)));
+        expect_equal(&rt, received, Ok((1, 1)));
         match sent {
-            Ok(()) => assert_eq!(rt; rx.try_recv(), Ok((2, 2))),
-            late => assert_eq!(rt; late, Err(SendTimeoutError::Timeout((2, 2)))),
+            Ok(()) => expect_equal(&rt, rx.try_recv(), Ok((2, 2))),
+            late => expect_equal(&rt, late, Err(SendTimeoutError::Timeout((2, 2)))),
         }
-        assert_eq!(rt; rx.try_recv(), Err(TryRecvError::Empty));
-        assert_eq!(rt; tx.try_send(3, 3), Ok(()));
-        assert_eq!(rt; rx.try_recv(), Ok((3, 3)));
+        expect_equal(&rt, rx.try_recv(), Err(TryRecvError::Empty));
+        expect_equal(&rt, tx.try_send(3, 3), Ok(()));
+        expect_equal(&rt, rx.try_recv(), Ok((3, 3)));
     }
     Ok(())
 }
@@ -267,17 +284,17 @@ fn a_limit_passes_as_a_message_comes(rt: HostRuntime) -> Result<(), Fail> {
         })?;
         let received = rx.recv_timeout(Duration::from_millis(millis));
         let (sent, tx) = sending.join(&rt);
-        assert_eq!(rt; sent, Ok(()));
+        expect_equal(&rt, sent, Ok(()));
         match received {
-            Ok(pair) => assert_eq!(rt; pair, (1, 1)),
+            Ok(pair) => expect_equal(&rt, pair, (1, 1)),
             Err(late) => {
-                assert_eq!(rt; late, RecvTimeoutError::Timeout);
-                assert_eq!(rt; rx.try_recv(), Ok((1, 1)));
+                expect_equal(&rt, late, RecvTimeoutError::Timeout);
+                expect_equal(&rt, rx.try_recv(), Ok((1, 1)));
             }
         }
-        assert_eq!(rt; rx.try_recv(), Err(TryRecvError::Empty));
-        assert_eq!(rt; tx.try_send(2, 2), Ok(()));
-        assert_eq!(rt; rx.try_recv(), Ok((2, 2)));
+        expect_equal(&rt, rx.try_recv(), Err(TryRecvError::Empty));
+        expect_equal(&rt, tx.try_send(2, 2), Ok(()));
+        expect_equal(&rt, rx.try_recv(), Ok((2, 2)));
     }
     Ok(())
 }
@@ -305,17 +322,21 @@ fn without_a_clock_a_limit_is_over(rt: HostRuntime) -> Result<(), Fail> {
     let future = Instant::now(&rt)?.checked_add(long()).ok_or("too late")?;
     let (tx, rx) = bounded(&clockless, rt.alloc(), 1)?;
     for limit in [Duration::ZERO, long(), Duration::MAX] {
-        assert_eq!(rt; rx.recv_timeout(limit), Err(RecvTimeoutError::Timeout));
-        assert_eq!(rt; rx.recv_deadline(future), Err(RecvTimeoutError::Timeout));
+        expect_equal(&rt, rx.recv_timeout(limit), Err(RecvTimeoutError::Timeout));
+        expect_equal(
+            &rt,
+            rx.recv_deadline(future),
+            Err(RecvTimeoutError::Timeout),
+        );
         // What can be done at once is done.
-        assert_eq!(rt; tx.send_timeout(1u64, 1u64, limit), Ok(()));
+        expect_equal(&rt, tx.send_timeout(1u64, 1u64, limit), Ok(()));
         let late = Err(SendTimeoutError::Timeout((2, 2)));
-        assert_eq!(rt; tx.send_timeout(2, 2, limit), late);
-        assert_eq!(rt; tx.send_deadline(2, 2, future), late);
-        assert_eq!(rt; rx.recv_timeout(limit), Ok((1, 1)));
+        expect_equal(&rt, tx.send_timeout(2, 2, limit), late);
+        expect_equal(&rt, tx.send_deadline(2, 2, future), late);
+        expect_equal(&rt, rx.recv_timeout(limit), Ok((1, 1)));
     }
     assert!(rt; tx.close());
-    assert_eq!(rt; rx.recv_timeout(long()), Err(RecvTimeoutError::Closed));
+    expect_equal(&rt, rx.recv_timeout(long()), Err(RecvTimeoutError::Closed));
     Ok(())
 }
 
@@ -414,7 +435,7 @@ fn a_message_may_come_at_the_last_moment(rt: HostRuntime) -> Result<(), Fail> {
             Last::Close => Err(RecvTimeoutError::Closed),
             Last::Nothing => Err(RecvTimeoutError::Timeout),
         };
-        assert_eq!(rt; received, wanted, "{last:?}");
+        expect_equal_at(&rt, last, received, wanted);
         assert!(rt; rx.is_empty());
     }
     Ok(())
@@ -429,7 +450,7 @@ fn room_may_come_at_the_last_moment(rt: HostRuntime) -> Result<(), Fail> {
             moment: &moment,
         };
         let (tx, rx) = bounded::<u64, u64, _, _>(&brink, rt.alloc(), 1)?;
-        assert_eq!(rt; tx.try_send(1, 1), Ok(()));
+        expect_equal(&rt, tx.try_send(1, 1), Ok(()));
         let (sent, has_come) = thread::join(
             &rt,
             || tx.send_timeout(7, 3, Duration::from_secs(1)),
@@ -450,8 +471,8 @@ fn room_may_come_at_the_last_moment(rt: HostRuntime) -> Result<(), Fail> {
             Last::Close => (Err(SendTimeoutError::Closed((7, 3))), (1, 1)),
             Last::Nothing => (Err(SendTimeoutError::Timeout((7, 3))), (1, 1)),
         };
-        assert_eq!(rt; sent, wanted, "{last:?}");
-        assert_eq!(rt; rx.try_recv(), Ok(pending), "{last:?}");
+        expect_equal_at(&rt, last, sent, wanted);
+        expect_equal_at(&rt, last, rx.try_recv(), Ok(pending));
         assert!(rt; rx.is_empty());
     }
     Ok(())

@@ -1,5 +1,6 @@
 //! Threads that wait for the same in a line: whoever leaves it, and however, those behind go on.
 use super::calls::{let_others_wait, long, short};
+use super::expect_equal;
 use async_priority_channel::{
     Receiver, RecvFault, RecvTimeoutError, SendFault, SendTimeoutError, Sender, bounded,
 };
@@ -72,7 +73,7 @@ fn each_receives_where_all_comes_at_once(rt: HostRuntime) -> Result<(), Fail> {
         all.push((number, 0u64))?;
     }
     tx.try_sendv(all.into_iter().peekable())?;
-    assert_eq!(rt; count_received(&rt, waiting), PARTIES);
+    expect_equal(&rt, count_received(&rt, waiting), PARTIES);
     assert!(rt; rx.is_empty());
     Ok(())
 }
@@ -85,7 +86,7 @@ fn each_receives_where_one_comes_after_another(rt: HostRuntime) -> Result<(), Fa
         tx.try_send(number, 0)?;
         let_others_wait(&rt);
     }
-    assert_eq!(rt; count_received(&rt, waiting), PARTIES);
+    expect_equal(&rt, count_received(&rt, waiting), PARTIES);
     Ok(())
 }
 
@@ -94,7 +95,7 @@ fn a_close_frees_all_who_wait_for_a_message(rt: HostRuntime) -> Result<(), Fail>
     let (tx, rx) = bounded(&rt, rt.alloc(), 1)?;
     let waiting = begin_receives(&rt, &rx, PARTIES)?;
     tx.close();
-    assert_eq!(rt; count_received(&rt, waiting), 0);
+    expect_equal(&rt, count_received(&rt, waiting), 0);
     Ok(())
 }
 
@@ -108,11 +109,11 @@ fn a_close_frees_all_who_wait_for_room(rt: HostRuntime) -> Result<(), Fail> {
     for thread in waiting {
         number = number.wrapping_add(1);
         match thread.join(&rt) {
-            Err(SendFault::Closed(error)) => assert_eq!(rt; error.into_inner(), (number, 0)),
+            Err(SendFault::Closed(error)) => expect_equal(&rt, error.into_inner(), (number, 0)),
             _ => return Err(Fail::from("not refused")),
         }
     }
-    assert_eq!(rt; rx.try_recv(), Ok((0, 0)));
+    expect_equal(&rt, rx.try_recv(), Ok((0, 0)));
     Ok(())
 }
 
@@ -128,7 +129,7 @@ fn each_sends_where_room_comes(rt: HostRuntime) -> Result<(), Fail> {
     for thread in waiting {
         assert!(rt; thread.join(&rt).is_ok());
     }
-    assert_eq!(rt; sum, PARTIES * (PARTIES + 1) / 2);
+    expect_equal(&rt, sum, PARTIES * (PARTIES + 1) / 2);
     assert!(rt; rx.is_empty());
     Ok(())
 }
@@ -139,17 +140,21 @@ fn those_behind_one_whose_time_is_over_receive(rt: HostRuntime) -> Result<(), Fa
     for before in 0..3u64 {
         let (tx, rx) = bounded(&rt, rt.alloc(), 4)?;
         let mut waiting = begin_receives(&rt, &rx, before)?;
-        assert_eq!(rt; rx.recv_timeout(short()), Err(RecvTimeoutError::Timeout));
+        expect_equal(
+            &rt,
+            rx.recv_timeout(short()),
+            Err(RecvTimeoutError::Timeout),
+        );
         let late = rx.clone()?;
         let leaving = thread::spawn(&rt, move || late.recv_timeout(short()))?;
         for thread in begin_receives(&rt, &rx, 2 - before)? {
             waiting.push(thread)?;
         }
-        assert_eq!(rt; leaving.join(&rt), Err(RecvTimeoutError::Timeout));
+        expect_equal(&rt, leaving.join(&rt), Err(RecvTimeoutError::Timeout));
         for number in 0..2u64 {
             tx.try_send(number, number)?;
         }
-        assert_eq!(rt; count_received(&rt, waiting), 2);
+        expect_equal(&rt, count_received(&rt, waiting), 2);
         assert!(rt; rx.is_empty());
     }
     Ok(())
@@ -166,7 +171,11 @@ fn those_behind_one_whose_time_is_over_send(rt: HostRuntime) -> Result<(), Fail>
         for thread in begin_sends(&rt, &tx, before.saturating_add(1), 2 - before)? {
             waiting.push(thread)?;
         }
-        assert_eq!(rt; leaving.join(&rt), Err(SendTimeoutError::Timeout((9, 9))));
+        expect_equal(
+            &rt,
+            leaving.join(&rt),
+            Err(SendTimeoutError::Timeout((9, 9))),
+        );
         let mut sum = 0u64;
         for _ in 0..3u32 {
             sum = sum.wrapping_add(rx.recv_timeout(long())?.0);
@@ -174,7 +183,7 @@ fn those_behind_one_whose_time_is_over_send(rt: HostRuntime) -> Result<(), Fail>
         for thread in waiting {
             assert!(rt; thread.join(&rt).is_ok());
         }
-        assert_eq!(rt; sum, 3);
+        expect_equal(&rt, sum, 3);
     }
     Ok(())
 }
@@ -203,7 +212,7 @@ fn a_number_at_a_time_reaches_one_of_many(rt: HostRuntime) -> Result<(), Fail> {
     }
     for number in 0..20_000u64 {
         tx.send_timeout(number, 0, long())?;
-        assert_eq!(rt; rx.recv_timeout(long()), Ok((number, 0)));
+        expect_equal(&rt, rx.recv_timeout(long()), Ok((number, 0)));
         if number % 1000 == 0 {
             let_others_wait(&rt);
         }

@@ -1,5 +1,6 @@
 //! Loops over a receiver.
 use super::calls::let_others_wait;
+use super::expect_equal;
 use async_priority_channel::{Receiver, Sender, TrySendError, bounded, unbounded};
 use std::sync::Wait;
 use std::test::Fail;
@@ -28,8 +29,8 @@ fn a_loop_over_a_lent_receiver_is_in_order(rt: HostRuntime) -> Result<(), Fail> 
     for pair in &rx {
         got.push(pair)?;
     }
-    assert_eq!(rt; got.as_slice(), IN_ORDER.as_slice());
-    assert_eq!(rt; rx.receiver_count(), 1);
+    expect_equal(&rt, got.as_slice(), IN_ORDER.as_slice());
+    expect_equal(&rt, rx.receiver_count(), 1);
     Ok(())
 }
 
@@ -42,7 +43,7 @@ fn an_iterator_is_in_order(rt: HostRuntime) -> Result<(), Fail> {
     for pair in rx.iter() {
         got.push(pair)?;
     }
-    assert_eq!(rt; got.as_slice(), IN_ORDER.as_slice());
+    expect_equal(&rt, got.as_slice(), IN_ORDER.as_slice());
     Ok(())
 }
 
@@ -54,7 +55,7 @@ fn a_loop_over_what_is_there_is_in_order(rt: HostRuntime) -> Result<(), Fail> {
     for pair in rx.try_iter() {
         got.push(pair)?;
     }
-    assert_eq!(rt; got.as_slice(), IN_ORDER.as_slice());
+    expect_equal(&rt, got.as_slice(), IN_ORDER.as_slice());
     // It has ended where the channel was empty, and still open.
     assert!(rt; tx.is_empty() && !tx.is_closed());
     Ok(())
@@ -68,12 +69,12 @@ fn a_loop_takes_its_receiver_with_it(rt: HostRuntime) -> Result<(), Fail> {
     for pair in rx {
         got.push(pair)?;
         if got.len() == 7 {
-            assert_eq!(rt; tx.receiver_count(), 1);
+            expect_equal(&rt, tx.receiver_count(), 1);
             assert!(rt; tx.close());
         }
     }
-    assert_eq!(rt; got.as_slice(), IN_ORDER.as_slice());
-    assert_eq!(rt; tx.receiver_count(), 0);
+    expect_equal(&rt, got.as_slice(), IN_ORDER.as_slice());
+    expect_equal(&rt, tx.receiver_count(), 0);
     Ok(())
 }
 
@@ -86,10 +87,10 @@ fn a_loop_that_is_left_takes_its_receiver_with_it(rt: HostRuntime) -> Result<(),
         got = Some(pair);
         break;
     }
-    assert_eq!(rt; got, Some((2, 9)));
-    assert_eq!(rt; tx.receiver_count(), 0);
+    expect_equal(&rt, got, Some((2, 9)));
+    expect_equal(&rt, tx.receiver_count(), 0);
     assert!(rt; tx.is_closed());
-    assert_eq!(rt; tx.len(), 6);
+    expect_equal(&rt, tx.len(), 6);
     Ok(())
 }
 
@@ -104,26 +105,30 @@ fn a_loop_leaves_what_it_has_not_received(rt: HostRuntime) -> Result<(), Fail> {
     for pair in rx.try_iter().take(2) {
         got.push(pair)?;
     }
-    assert_eq!(rt; got.as_slice(), [(2, 9), (5, 9), (7, 7), (1, 5)].as_slice());
-    assert_eq!(rt; rx.len(), 3);
-    assert_eq!(rt; rx.try_recv(), Ok((3, 5)));
+    expect_equal(
+        &rt,
+        got.as_slice(),
+        [(2, 9), (5, 9), (7, 7), (1, 5)].as_slice(),
+    );
+    expect_equal(&rt, rx.len(), 3);
+    expect_equal(&rt, rx.try_recv(), Ok((3, 5)));
     Ok(())
 }
 
 #[test]
 fn an_iterator_stays_ended(rt: HostRuntime) -> Result<(), Fail> {
     let (tx, rx) = bounded(&rt, rt.alloc(), 2)?;
-    assert_eq!(rt; tx.try_send(1u64, 1u64), Ok(()));
+    expect_equal(&rt, tx.try_send(1u64, 1u64), Ok(()));
     assert!(rt; tx.close());
     let mut pairs = rx.iter();
-    assert_eq!(rt; pairs.next(), Some((1, 1)));
+    expect_equal(&rt, pairs.next(), Some((1, 1)));
     for _ in 0..3 {
-        assert_eq!(rt; pairs.next(), None);
+        expect_equal(&rt, pairs.next(), None);
     }
     drop(pairs);
     let mut pairs = rx.into_iter();
     for _ in 0..3 {
-        assert_eq!(rt; pairs.next(), None);
+        expect_equal(&rt, pairs.next(), None);
     }
     Ok(())
 }
@@ -131,18 +136,18 @@ fn an_iterator_stays_ended(rt: HostRuntime) -> Result<(), Fail> {
 #[test]
 fn an_iterator_over_what_is_there_stays_ended(rt: HostRuntime) -> Result<(), Fail> {
     let (tx, rx) = bounded(&rt, rt.alloc(), 2)?;
-    assert_eq!(rt; tx.try_send(1u64, 1u64), Ok(()));
+    expect_equal(&rt, tx.try_send(1u64, 1u64), Ok(()));
     let mut pairs = rx.try_iter();
-    assert_eq!(rt; pairs.next(), Some((1, 1)));
-    assert_eq!(rt; pairs.next(), None);
-    assert_eq!(rt; tx.try_send(2, 2), Ok(()));
-    assert_eq!(rt; pairs.next(), None);
+    expect_equal(&rt, pairs.next(), Some((1, 1)));
+    expect_equal(&rt, pairs.next(), None);
+    expect_equal(&rt, tx.try_send(2, 2), Ok(()));
+    expect_equal(&rt, pairs.next(), None);
     drop(pairs);
     // What it has not taken is still there, also for the next one.
-    assert_eq!(rt; rx.len(), 1);
-    assert_eq!(rt; rx.try_iter().next(), Some((2, 2)));
+    expect_equal(&rt, rx.len(), 1);
+    expect_equal(&rt, rx.try_iter().next(), Some((2, 2)));
     assert!(rt; tx.close());
-    assert_eq!(rt; rx.try_iter().next(), None);
+    expect_equal(&rt, rx.try_iter().next(), None);
     Ok(())
 }
 
@@ -167,7 +172,7 @@ fn a_loop_waits_in_each_turn(rt: HostRuntime) -> Result<(), Fail> {
     for (number, _) in &rx {
         got.push(number)?;
     }
-    assert_eq!(rt; got.as_slice(), [30, 20, 10].as_slice());
+    expect_equal(&rt, got.as_slice(), [30, 20, 10].as_slice());
     assert!(rt; sending.join(&rt));
     Ok(())
 }
@@ -180,7 +185,7 @@ fn a_loop_with_its_receiver_waits_in_each_turn(rt: HostRuntime) -> Result<(), Fa
     for (number, _) in rx {
         got.push(number)?;
     }
-    assert_eq!(rt; got.as_slice(), [30, 20, 10].as_slice());
+    expect_equal(&rt, got.as_slice(), [30, 20, 10].as_slice());
     assert!(rt; sending.join(&rt));
     Ok(())
 }
@@ -214,6 +219,6 @@ fn loops_share_the_messages(rt: HostRuntime) -> Result<(), Fail> {
         count = count.wrapping_add(part);
         sum = sum.wrapping_add(part_sum);
     }
-    assert_eq!(rt; (count, sum), (1000, 499_500));
+    expect_equal(&rt, (count, sum), (1000, 499_500));
     Ok(())
 }

@@ -1,6 +1,7 @@
 //! Where memory for waiting is refused, and how much of it a wait asks for.
 //!
 //! The allocator that refuses is for one thread, so no wait here is ended by another party.
+use super::{expect_equal, expect_equal_at};
 use async_priority_channel::{
     RecvFault, RecvTimeoutError, SendFault, SendTimeoutError, TryRecvError, bounded,
     bounded_reserved,
@@ -34,18 +35,18 @@ fn a_wait_for_a_message_may_be_refused(rt: HostRuntime) -> Result<(), Fail> {
         alloc.refuse_nth(n);
         let received = rx.recv_timeout(a_while());
         let met_none = alloc.refuse_none();
-        assert_eq!(rt; met_none, n == NOT_MET, "at {n}");
+        expect_equal_at(&rt, n, met_none, n == NOT_MET);
         let wanted = if met_none {
             RecvTimeoutError::Timeout
         } else {
             RecvTimeoutError::Memory
         };
-        assert_eq!(rt; received, Err(wanted), "at {n}");
+        expect_equal_at(&rt, n, received, Err(wanted));
         // Nobody waits any more, and all goes on.
-        assert_eq!(rt; (rx.sender_count(), rx.receiver_count()), (1, 1));
-        assert_eq!(rt; tx.try_send("x", 1u64), Ok(()), "at {n}");
-        assert_eq!(rt; rx.len(), 1);
-        assert_eq!(rt; rx.recv_timeout(a_while()), Ok(("x", 1)), "at {n}");
+        expect_equal(&rt, (rx.sender_count(), rx.receiver_count()), (1, 1));
+        expect_equal_at(&rt, n, tx.try_send("x", 1u64), Ok(()));
+        expect_equal(&rt, rx.len(), 1);
+        expect_equal_at(&rt, n, rx.recv_timeout(a_while()), Ok(("x", 1)));
     }
     Ok(())
 }
@@ -56,22 +57,22 @@ fn a_wait_for_room_may_be_refused(rt: HostRuntime) -> Result<(), Fail> {
     for round in alloc.rounds() {
         let n = round?;
         let (tx, rx) = bounded(&rt, &alloc, 1)?;
-        assert_eq!(rt; tx.try_send("x", 1u64), Ok(()));
+        expect_equal(&rt, tx.try_send("x", 1u64), Ok(()));
         alloc.refuse_nth(n);
         let sent = tx.send_timeout("y", 2, a_while());
         let met_none = alloc.refuse_none();
-        assert_eq!(rt; met_none, n == NOT_MET, "at {n}");
+        expect_equal_at(&rt, n, met_none, n == NOT_MET);
         let wanted = if met_none {
             SendTimeoutError::Timeout(("y", 2))
         } else {
             SendTimeoutError::Memory(("y", 2))
         };
-        assert_eq!(rt; sent, Err(wanted), "at {n}");
-        assert_eq!(rt; (tx.sender_count(), tx.receiver_count()), (1, 1));
-        assert_eq!(rt; rx.try_recv(), Ok(("x", 1)));
-        assert_eq!(rt; rx.try_recv(), Err(TryRecvError::Empty), "at {n}");
-        assert_eq!(rt; tx.send_timeout("y", 2, a_while()), Ok(()), "at {n}");
-        assert_eq!(rt; rx.try_recv(), Ok(("y", 2)));
+        expect_equal_at(&rt, n, sent, Err(wanted));
+        expect_equal(&rt, (tx.sender_count(), tx.receiver_count()), (1, 1));
+        expect_equal(&rt, rx.try_recv(), Ok(("x", 1)));
+        expect_equal_at(&rt, n, rx.try_recv(), Err(TryRecvError::Empty));
+        expect_equal_at(&rt, n, tx.send_timeout("y", 2, a_while()), Ok(()));
+        expect_equal(&rt, rx.try_recv(), Ok(("y", 2)));
     }
     Ok(())
 }
@@ -86,19 +87,19 @@ fn a_wait_for_much_room_may_be_refused(rt: HostRuntime) -> Result<(), Fail> {
         let msgs = [("x", 1u64), ("y", 2), ("z", 3), ("w", 4)];
         let sent = tx.sendv_timeout(msgs.into_iter().peekable(), a_while());
         let met_none = alloc.refuse_none();
-        assert_eq!(rt; met_none, n == NOT_MET, "at {n}");
+        expect_equal_at(&rt, n, met_none, n == NOT_MET);
         let Err(error) = sent else {
             return Err(Fail::from("there was room"));
         };
-        assert_eq!(rt; error.is_timeout(), met_none, "at {n}");
-        assert_eq!(rt; error.is_memory(), !met_none, "at {n}");
+        expect_equal_at(&rt, n, error.is_timeout(), met_none);
+        expect_equal_at(&rt, n, error.is_memory(), !met_none);
         // What was sent stays sent, and the tail can be sent again.
-        assert_eq!(rt; rx.try_recv(), Ok(("y", 2)));
-        assert_eq!(rt; rx.try_recv(), Ok(("x", 1)));
-        assert_eq!(rt; rx.try_recv(), Err(TryRecvError::Empty));
+        expect_equal(&rt, rx.try_recv(), Ok(("y", 2)));
+        expect_equal(&rt, rx.try_recv(), Ok(("x", 1)));
+        expect_equal(&rt, rx.try_recv(), Err(TryRecvError::Empty));
         assert!(rt; tx.try_sendv(error.into_inner()).is_ok());
-        assert_eq!(rt; rx.try_recv(), Ok(("w", 4)));
-        assert_eq!(rt; rx.try_recv(), Ok(("z", 3)));
+        expect_equal(&rt, rx.try_recv(), Ok(("w", 4)));
+        expect_equal(&rt, rx.try_recv(), Ok(("z", 3)));
     }
     Ok(())
 }
@@ -111,19 +112,20 @@ fn a_wait_without_a_limit_may_be_refused(rt: HostRuntime) -> Result<(), Fail> {
         let alloc = Refusing::new(rt.alloc());
         let (tx, rx) = bounded_reserved(&rt, &alloc, 1)?;
         alloc.refuse_nth(n);
-        assert_eq!(rt; rx.recv_blocking(), Err(RecvFault::Memory), "at {n}");
-        assert_eq!(rt; tx.try_send("x", 1u64), Ok(()));
+        expect_equal_at(&rt, n, rx.recv_blocking(), Err(RecvFault::Memory));
+        expect_equal(&rt, tx.try_send("x", 1u64), Ok(()));
 
         let alloc = Refusing::new(rt.alloc());
         let (tx, rx) = bounded_reserved(&rt, &alloc, 1)?;
-        assert_eq!(rt; tx.try_send("x", 1u64), Ok(()));
+        expect_equal(&rt, tx.try_send("x", 1u64), Ok(()));
         alloc.refuse_nth(n);
-        assert_eq!(rt;
+        expect_equal_at(
+            &rt,
+            n,
             tx.send_blocking("y", 2),
             Err(SendFault::Memory(("y", 2))),
-            "at {n}"
         );
-        assert_eq!(rt; rx.try_recv(), Ok(("x", 1)));
+        expect_equal(&rt, rx.try_recv(), Ok(("x", 1)));
 
         let alloc = Refusing::new(rt.alloc());
         let (tx, rx) = bounded_reserved(&rt, &alloc, 1)?;
@@ -133,9 +135,9 @@ fn a_wait_without_a_limit_may_be_refused(rt: HostRuntime) -> Result<(), Fail> {
         ) else {
             return Err(Fail::from("it was not refused"));
         };
-        assert_eq!(rt; rx.try_recv(), Ok(("x", 1)));
+        expect_equal(&rt, rx.try_recv(), Ok(("x", 1)));
         assert!(rt; tx.try_sendv(rest).is_ok());
-        assert_eq!(rt; rx.try_recv(), Ok(("y", 2)));
+        expect_equal(&rt, rx.try_recv(), Ok(("y", 2)));
     }
     Ok(())
 }
@@ -146,14 +148,16 @@ fn memory_for_a_message_is_not_waited_for(rt: HostRuntime) -> Result<(), Fail> {
     let alloc = Refusing::new(rt.alloc());
     let (tx, rx) = bounded(&rt, &alloc, 1)?;
     alloc.refuse_all();
-    assert_eq!(rt;
+    expect_equal(
+        &rt,
         tx.send_blocking("x", 1u64),
-        Err(SendFault::Memory(("x", 1)))
+        Err(SendFault::Memory(("x", 1))),
     );
     for limit in [Duration::ZERO, a_while(), Duration::MAX] {
-        assert_eq!(rt;
+        expect_equal(
+            &rt,
             tx.send_timeout("x", 1, limit),
-            Err(SendTimeoutError::Memory(("x", 1)))
+            Err(SendTimeoutError::Memory(("x", 1))),
         );
     }
     assert!(rt; rx.is_empty());
@@ -167,25 +171,30 @@ fn what_need_not_wait_asks_for_nothing(rt: HostRuntime) -> Result<(), Fail> {
     let alloc = Refusing::new(rt.alloc());
     let (tx, rx) = bounded_reserved(&rt, &alloc, 3)?;
     alloc.refuse_nth(1);
-    assert_eq!(rt; tx.send_blocking("x", 1u64), Ok(()));
-    assert_eq!(rt; tx.send_timeout("y", 2, a_while()), Ok(()));
+    expect_equal(&rt, tx.send_blocking("x", 1u64), Ok(()));
+    expect_equal(&rt, tx.send_timeout("y", 2, a_while()), Ok(()));
     assert!(rt; tx.sendv_blocking([("z", 3)].into_iter().peekable()).is_ok());
-    assert_eq!(rt; rx.recv_blocking(), Ok(("z", 3)));
-    assert_eq!(rt; rx.recv_timeout(a_while()), Ok(("y", 2)));
+    expect_equal(&rt, rx.recv_blocking(), Ok(("z", 3)));
+    expect_equal(&rt, rx.recv_timeout(a_while()), Ok(("y", 2)));
     assert!(rt;
         tx.sendv_timeout([("z", 3)].into_iter().peekable(), a_while())
             .is_ok()
     );
-    assert_eq!(rt; rx.iter().next(), Some(("z", 3)));
-    assert_eq!(rt; rx.try_iter().next(), Some(("x", 1)));
-    assert_eq!(rt; rx.try_iter().next(), None);
+    expect_equal(&rt, rx.iter().next(), Some(("z", 3)));
+    expect_equal(&rt, rx.try_iter().next(), Some(("x", 1)));
+    expect_equal(&rt, rx.try_iter().next(), None);
     assert!(rt; tx.close());
-    assert_eq!(rt;
+    expect_equal(
+        &rt,
         tx.send_timeout("x", 1, a_while()),
-        Err(SendTimeoutError::Closed(("x", 1)))
+        Err(SendTimeoutError::Closed(("x", 1))),
     );
-    assert_eq!(rt; rx.recv_timeout(a_while()), Err(RecvTimeoutError::Closed));
-    assert_eq!(rt; rx.iter().next(), None);
+    expect_equal(
+        &rt,
+        rx.recv_timeout(a_while()),
+        Err(RecvTimeoutError::Closed),
+    );
+    expect_equal(&rt, rx.iter().next(), None);
     assert!(rt; alloc.refuse_none());
     Ok(())
 }
@@ -196,14 +205,16 @@ fn a_call_without_time_asks_for_nothing(rt: HostRuntime) -> Result<(), Fail> {
     let alloc = Refusing::new(rt.alloc());
     let (tx, rx) = bounded_reserved(&rt, &alloc, 1)?;
     alloc.refuse_nth(1);
-    assert_eq!(rt;
+    expect_equal(
+        &rt,
         rx.recv_timeout(Duration::ZERO),
-        Err(RecvTimeoutError::Timeout)
+        Err(RecvTimeoutError::Timeout),
     );
-    assert_eq!(rt; tx.send_timeout("x", 1u64, Duration::ZERO), Ok(()));
-    assert_eq!(rt;
+    expect_equal(&rt, tx.send_timeout("x", 1u64, Duration::ZERO), Ok(()));
+    expect_equal(
+        &rt,
         tx.send_timeout("y", 2, Duration::ZERO),
-        Err(SendTimeoutError::Timeout(("y", 2)))
+        Err(SendTimeoutError::Timeout(("y", 2))),
     );
     assert!(rt; alloc.refuse_none());
     Ok(())
@@ -216,15 +227,23 @@ fn a_call_without_time_asks_for_nothing(rt: HostRuntime) -> Result<(), Fail> {
 fn a_thousand_receives_leave_nothing(rt: HostRuntime) -> Result<(), Fail> {
     let alloc = Refusing::new(rt.alloc());
     let (tx, rx) = bounded::<u64, u64, _, _>(&rt, &alloc, 1)?;
-    assert_eq!(rt; rx.recv_timeout(a_while()), Err(RecvTimeoutError::Timeout));
+    expect_equal(
+        &rt,
+        rx.recv_timeout(a_while()),
+        Err(RecvTimeoutError::Timeout),
+    );
     for _ in 0..1000 {
         alloc.refuse_nth(2);
-        assert_eq!(rt; rx.recv_timeout(a_moment()), Err(RecvTimeoutError::Timeout));
+        expect_equal(
+            &rt,
+            rx.recv_timeout(a_moment()),
+            Err(RecvTimeoutError::Timeout),
+        );
         assert!(rt; alloc.refuse_none());
     }
-    assert_eq!(rt; (tx.sender_count(), tx.receiver_count()), (1, 1));
-    assert_eq!(rt; tx.try_send(1, 1), Ok(()));
-    assert_eq!(rt; rx.recv_timeout(a_moment()), Ok((1, 1)));
+    expect_equal(&rt, (tx.sender_count(), tx.receiver_count()), (1, 1));
+    expect_equal(&rt, tx.try_send(1, 1), Ok(()));
+    expect_equal(&rt, rx.recv_timeout(a_moment()), Ok((1, 1)));
     Ok(())
 }
 
@@ -232,19 +251,20 @@ fn a_thousand_receives_leave_nothing(rt: HostRuntime) -> Result<(), Fail> {
 fn a_thousand_sends_leave_nothing(rt: HostRuntime) -> Result<(), Fail> {
     let alloc = Refusing::new(rt.alloc());
     let (tx, rx) = bounded(&rt, &alloc, 1)?;
-    assert_eq!(rt; tx.try_send("x", 1u64), Ok(()));
+    expect_equal(&rt, tx.try_send("x", 1u64), Ok(()));
     assert!(rt; tx.send_timeout("y", 2, a_while()).is_err());
     for _ in 0..1000 {
         alloc.refuse_nth(2);
-        assert_eq!(rt;
+        expect_equal(
+            &rt,
             tx.send_timeout("y", 2, a_moment()),
-            Err(SendTimeoutError::Timeout(("y", 2)))
+            Err(SendTimeoutError::Timeout(("y", 2))),
         );
         assert!(rt; alloc.refuse_none());
     }
-    assert_eq!(rt; (tx.sender_count(), tx.receiver_count()), (1, 1));
-    assert_eq!(rt; rx.try_recv(), Ok(("x", 1)));
-    assert_eq!(rt; rx.try_recv(), Err(TryRecvError::Empty));
+    expect_equal(&rt, (tx.sender_count(), tx.receiver_count()), (1, 1));
+    expect_equal(&rt, rx.try_recv(), Ok(("x", 1)));
+    expect_equal(&rt, rx.try_recv(), Err(TryRecvError::Empty));
     Ok(())
 }
 
@@ -252,7 +272,7 @@ fn a_thousand_sends_leave_nothing(rt: HostRuntime) -> Result<(), Fail> {
 fn a_thousand_bulk_sends_leave_nothing(rt: HostRuntime) -> Result<(), Fail> {
     let alloc = Refusing::new(rt.alloc());
     let (tx, rx) = bounded(&rt, &alloc, 1)?;
-    assert_eq!(rt; tx.try_send("x", 1u64), Ok(()));
+    expect_equal(&rt, tx.try_send("x", 1u64), Ok(()));
     let more = [("y", 2u64)];
     assert!(rt;
         tx.sendv_timeout(more.into_iter().peekable(), a_while())
@@ -266,9 +286,9 @@ fn a_thousand_bulk_sends_leave_nothing(rt: HostRuntime) -> Result<(), Fail> {
         assert!(rt; error.is_timeout());
         assert!(rt; alloc.refuse_none());
     }
-    assert_eq!(rt; (tx.sender_count(), tx.receiver_count()), (1, 1));
-    assert_eq!(rt; rx.try_recv(), Ok(("x", 1)));
-    assert_eq!(rt; rx.try_recv(), Err(TryRecvError::Empty));
+    expect_equal(&rt, (tx.sender_count(), tx.receiver_count()), (1, 1));
+    expect_equal(&rt, rx.try_recv(), Ok(("x", 1)));
+    expect_equal(&rt, rx.try_recv(), Err(TryRecvError::Empty));
     Ok(())
 }
 
@@ -277,7 +297,7 @@ fn loops_go_on_without_memory(rt: HostRuntime) -> Result<(), Fail> {
     let alloc = Refusing::new(rt.alloc());
     let (tx, rx) = bounded_reserved(&rt, &alloc, 4)?;
     for i in 1..=4u64 {
-        assert_eq!(rt; tx.try_send(i, i), Ok(()));
+        expect_equal(&rt, tx.try_send(i, i), Ok(()));
     }
     alloc.refuse_all();
     let mut got = Vec::new(rt.alloc());
@@ -291,7 +311,7 @@ fn loops_go_on_without_memory(rt: HostRuntime) -> Result<(), Fail> {
     for (number, _) in &rx {
         got.push(number)?;
     }
-    assert_eq!(rt; got.as_slice(), [4, 3, 2, 1].as_slice());
+    expect_equal(&rt, got.as_slice(), [4, 3, 2, 1].as_slice());
     for _ in rx {
         return Err(Fail::from("it had ended"));
     }

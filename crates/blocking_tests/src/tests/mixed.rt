@@ -1,5 +1,6 @@
 //! Many threads, and calls of each kind, on one channel.
 use super::calls::long;
+use super::expect_equal;
 use async_priority_channel::{
     Receiver, RecvTimeoutError, SendTimeoutError, Sender, TryRecvError, bounded,
 };
@@ -161,7 +162,7 @@ fn nothing_is_lost_or_made_up(rt: HostRuntime) -> Result<(), Fail> {
     for thread in sending {
         sent = sent.wrapping_add(thread.join(&rt));
     }
-    assert_eq!(rt; sent, MESSAGES);
+    expect_equal(&rt, sent, MESSAGES);
     let mut seen = Seen::new(rt.alloc(), MESSAGES)?;
     for thread in collecting {
         for number in thread.join(&rt).ok_or("no memory")? {
@@ -169,10 +170,10 @@ fn nothing_is_lost_or_made_up(rt: HostRuntime) -> Result<(), Fail> {
         }
     }
     assert!(rt; !seen.is_wrong);
-    assert_eq!(rt; seen.count, MESSAGES);
-    assert_eq!(rt; seen.sum, MESSAGES * (MESSAGES - 1) / 2);
+    expect_equal(&rt, seen.count, MESSAGES);
+    expect_equal(&rt, seen.sum, MESSAGES * (MESSAGES - 1) / 2);
     assert!(rt; rx.is_closed() && rx.is_empty());
-    assert_eq!(rt; (rx.sender_count(), rx.receiver_count()), (0, 1));
+    expect_equal(&rt, (rx.sender_count(), rx.receiver_count()), (0, 1));
     Ok(())
 }
 
@@ -193,10 +194,11 @@ fn collect_slowly<R: Wait + Copy + Clock + AllocGlobal>(
 fn a_send_in_time_arrives_or_comes_back(rt: HostRuntime) -> Result<(), Fail> {
     let (tx, rx) = bounded(&rt, rt.alloc(), 1)?;
     // The first is sent and the next comes back, before anybody receives.
-    assert_eq!(rt; tx.send_timeout(0, 0, a_moment()), Ok(()));
-    assert_eq!(rt;
+    expect_equal(&rt, tx.send_timeout(0, 0, a_moment()), Ok(()));
+    expect_equal(
+        &rt,
         tx.send_timeout(1, 0, a_moment()),
-        Err(SendTimeoutError::Timeout((1, 0)))
+        Err(SendTimeoutError::Timeout((1, 0))),
     );
     let collecting = thread::spawn(&rt, move || collect_slowly(&rt, &rx))?;
     let mut sent = Seen::new(rt.alloc(), 1001)?;
@@ -205,12 +207,12 @@ fn a_send_in_time_arrives_or_comes_back(rt: HostRuntime) -> Result<(), Fail> {
         match tx.send_timeout(number, number, a_moment()) {
             Ok(()) => sent.note(number),
             late => {
-                assert_eq!(rt; late, Err(SendTimeoutError::Timeout((number, number))));
+                expect_equal(&rt, late, Err(SendTimeoutError::Timeout((number, number))));
             }
         }
     }
     // In so much time there is room.
-    assert_eq!(rt; tx.send_timeout(1000, 0, long()), Ok(()));
+    expect_equal(&rt, tx.send_timeout(1000, 0, long()), Ok(()));
     sent.note(1000);
     drop(tx);
     let mut seen = Seen::new(rt.alloc(), 1001)?;
@@ -218,6 +220,6 @@ fn a_send_in_time_arrives_or_comes_back(rt: HostRuntime) -> Result<(), Fail> {
         seen.note(number);
     }
     assert!(rt; !seen.is_wrong);
-    assert_eq!(rt; seen.is_seen.as_slice(), sent.is_seen.as_slice());
+    expect_equal(&rt, seen.is_seen.as_slice(), sent.is_seen.as_slice());
     Ok(())
 }

@@ -1,6 +1,7 @@
 //! What the drop of a future does: it sends and takes nothing, waits no more, and leaves the others
 //! who wait and the lock alone.
 use super::tasks::is_pending;
+use super::{expect_equal, expect_equal_at};
 use async_priority_channel::{Receiver, Sender, TryRecvError, bounded};
 use futures::StreamExt;
 use futures::test::MockTask;
@@ -17,20 +18,20 @@ fn a_dropped_send_sends_nothing_where_there_is_room(rt: HostRuntime) -> Result<(
     let (tx, rx) = bounded(&rt, rt.alloc(), 1)?;
     drop(tx.send(1u64, 1u64));
     drop(tx.sendv([(2, 2)].into_iter().peekable()));
-    assert_eq!(rt; rx.try_recv(), Err(TryRecvError::Empty));
+    expect_equal(&rt, rx.try_recv(), Err(TryRecvError::Empty));
     for is_closed in [false, true] {
-        assert_eq!(rt; tx.try_send(0, 0), Ok(()));
+        expect_equal(&rt, tx.try_send(0, 0), Ok(()));
         let mut sending = tx.send(1, 1);
         let mut bulk = tx.sendv([(2, 2)].into_iter().peekable());
         assert!(rt; is_pending(task.poll(&mut sending)));
         assert!(rt; is_pending(task.poll(&mut bulk)));
-        assert_eq!(rt; rx.try_recv(), Ok((0, 0)));
+        expect_equal(&rt, rx.try_recv(), Ok((0, 0)));
         if is_closed {
             assert!(rt; rx.close());
         }
         drop(sending);
         drop(bulk);
-        assert_eq!(rt; (rx.len(), rx.is_closed()), (0, is_closed));
+        expect_equal(&rt, (rx.len(), rx.is_closed()), (0, is_closed));
     }
     Ok(())
 }
@@ -47,7 +48,7 @@ fn a_dropped_receive_takes_nothing_where_there_is_a_message(rt: HostRuntime) -> 
         assert!(rt; is_pending(task.poll(&mut receiving)));
         assert!(rt; is_pending(task.poll(&mut stream.next())));
         assert!(rt; is_pending(task.poll(&mut batching)));
-        assert_eq!(rt; tx.try_send(1u64, 1u64), Ok(()));
+        expect_equal(&rt, tx.try_send(1u64, 1u64), Ok(()));
         if is_closed {
             assert!(rt; tx.close());
         }
@@ -56,8 +57,8 @@ fn a_dropped_receive_takes_nothing_where_there_is_a_message(rt: HostRuntime) -> 
         drop(batching);
         drop((rx.recv(), rx.stream(), rx.iter(), rx.try_iter()));
         assert!(rt; batch.is_empty());
-        assert_eq!(rt; rx.try_recv(), Ok((1, 1)));
-        assert_eq!(rt; (tx.receiver_count(), tx.is_closed()), (1, is_closed));
+        expect_equal(&rt, rx.try_recv(), Ok((1, 1)));
+        expect_equal(&rt, (tx.receiver_count(), tx.is_closed()), (1, is_closed));
     }
     Ok(())
 }
@@ -84,7 +85,7 @@ fn a_dropped_receive_leaves_the_others_waiting(rt: HostRuntime) -> Result<(), Fa
         drop(left);
         leaving.enter(|_| {});
         assert!(rt; !staying.is_woken(), "at {leaver}");
-        assert_eq!(rt; tx.try_send(1u64, 1u64), Ok(()));
+        expect_equal(&rt, tx.try_send(1u64, 1u64), Ok(()));
         assert!(rt; staying.is_woken() && !leaving.is_woken(), "at {leaver}");
         drop(stay);
     }
@@ -97,7 +98,7 @@ fn a_dropped_send_leaves_the_others_waiting(rt: HostRuntime) -> Result<(), Fail>
     let staying = MockTask::new(&rt)?;
     for leaver in 0..3u64 {
         let (tx, rx) = bounded(&rt, rt.alloc(), 1)?;
-        assert_eq!(rt; tx.try_send(9u64, 9u64), Ok(()));
+        expect_equal(&rt, tx.try_send(9u64, 9u64), Ok(()));
         let mut left = None;
         let mut stay = Vec::new(rt.alloc());
         for i in 0..3u64 {
@@ -113,7 +114,7 @@ fn a_dropped_send_leaves_the_others_waiting(rt: HostRuntime) -> Result<(), Fail>
         drop(left);
         leaving.enter(|_| {});
         assert!(rt; !staying.is_woken(), "at {leaver}");
-        assert_eq!(rt; rx.try_recv(), Ok((9, 9)));
+        expect_equal(&rt, rx.try_recv(), Ok((9, 9)));
         assert!(rt; staying.is_woken() && !leaving.is_woken(), "at {leaver}");
         drop(stay);
     }
@@ -134,13 +135,13 @@ fn who_is_dropped_is_woken_no_more(rt: HostRuntime) -> Result<(), Fail> {
     assert!(rt; is_pending(task.poll(&mut batching)));
     drop((stream, own_stream, batching));
     task.enter(|_| {});
-    assert_eq!(rt; tx.try_send(1u64, 1u64), Ok(()));
+    expect_equal(&rt, tx.try_send(1u64, 1u64), Ok(()));
     assert!(rt; !task.is_woken());
     let mut bulk = tx.sendv([(2, 2)].into_iter().peekable());
     assert!(rt; is_pending(task.poll(&mut bulk)));
     drop(bulk);
     task.enter(|_| {});
-    assert_eq!(rt; rx.try_recv(), Ok((1, 1)));
+    expect_equal(&rt, rx.try_recv(), Ok((1, 1)));
     assert!(rt; !task.is_woken());
     Ok(())
 }
@@ -234,7 +235,7 @@ fn what_was_not_sent_is_dropped_outside_the_lock(rt: HostRuntime) -> Result<(), 
             || use_once(&asked, &rx, &use_it),
         );
         assert!(rt; is_dropped && is_asked, "{by:?}");
-        assert_eq!(rt; tells.try_recv(), Ok((true, ())), "{by:?}");
+        expect_equal_at(&rt, by, tells.try_recv(), Ok((true, ())));
     }
     Ok(())
 }

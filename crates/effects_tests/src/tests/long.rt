@@ -1,4 +1,5 @@
 //! Long runs: nothing changes after many messages, waits or turns.
+use super::expect_equal;
 use super::tasks::is_pending;
 use async_priority_channel::{Sender, bounded, unbounded};
 use futures::StreamExt;
@@ -29,7 +30,7 @@ fn a_wait_after_a_million_waits_is_a_wait(rt: HostRuntime) -> Result<(), Fail> {
         let CorePoll::Pending((), ticket) = polled else {
             return Err(Fail::from("a wait was refused"));
         };
-        assert_eq!(rt; ticket, i);
+        expect_equal(&rt, ticket, i);
         core.give_up(ticket);
     }
     Ok(())
@@ -45,7 +46,7 @@ fn a_task_waits_after_many_waits(rt: HostRuntime) -> Result<(), Fail> {
     let mut receiving = rx.recv();
     assert!(rt; is_pending(task.poll(&mut receiving)));
     task.enter(|_| {});
-    assert_eq!(rt; tx.try_send(1u64, 1u64), Ok(()));
+    expect_equal(&rt, tx.try_send(1u64, 1u64), Ok(()));
     assert!(rt; task.is_woken());
     Ok(())
 }
@@ -69,9 +70,9 @@ fn a_million_messages_are_pending(rt: HostRuntime) -> Result<(), Fail> {
         tx.try_sendv((SOME..MANY).map(|i| (i, 0u64)).peekable())
             .is_ok()
     );
-    assert_eq!(rt; send_numbers(&tx, SOME), SOME);
-    assert_eq!(rt; rx.len(), MANY);
-    assert_eq!(rt; rx.try_recv(), Ok((SOME - 1, SOME - 1)));
+    expect_equal(&rt, send_numbers(&tx, SOME), SOME);
+    expect_equal(&rt, rx.len(), MANY);
+    expect_equal(&rt, rx.try_recv(), Ok((SOME - 1, SOME - 1)));
     Ok(())
 }
 
@@ -85,22 +86,26 @@ fn many_messages_come_in_one_go(rt: HostRuntime) -> Result<(), Fail> {
     );
     assert!(rt; tx.is_full());
     let mut batch = Vec::new(rt.alloc());
-    assert_eq!(rt; rx.try_recv_many(&mut batch, usize::MAX), Ok(SOME as usize));
+    expect_equal(
+        &rt,
+        rx.try_recv_many(&mut batch, usize::MAX),
+        Ok(SOME as usize),
+    );
     assert!(rt; block_on(&rt, tx.sendv((0..SOME).map(|i| (i, 1u64)).peekable()))?.is_ok());
-    assert_eq!(rt; rx.try_iter().count(), SOME as usize);
+    expect_equal(&rt, rx.try_iter().count(), SOME as usize);
     assert!(rt;
         tx.sendv_blocking((0..SOME).map(|i| (i, 1u64)).peekable())
             .is_ok()
     );
     assert!(rt; tx.close());
-    assert_eq!(rt; rx.iter().count(), SOME as usize);
+    expect_equal(&rt, rx.iter().count(), SOME as usize);
     let (tx, rx) = bounded(&rt, rt.alloc(), SOME)?;
     assert!(rt;
         tx.try_sendv((0..SOME).map(|i| (i, 1u64)).peekable())
             .is_ok()
     );
     assert!(rt; tx.close());
-    assert_eq!(rt; block_on(&rt, rx.into_stream().count())?, SOME as usize);
+    expect_equal(&rt, block_on(&rt, rx.into_stream().count())?, SOME as usize);
     Ok(())
 }
 
@@ -120,7 +125,7 @@ fn a_message_wakes_as_many_as_wait(rt: HostRuntime) -> Result<(), Fail> {
     }
     let mut another = rx.recv();
     assert!(rt; is_pending(last.poll(&mut another)));
-    assert_eq!(rt; tx.try_send(1u64, 1u64), Ok(()));
+    expect_equal(&rt, tx.try_send(1u64, 1u64), Ok(()));
     assert!(rt; first.is_woken() && others.is_woken() && last.is_woken());
     drop(between);
     Ok(())
@@ -146,9 +151,9 @@ fn the_last_receiver_lets_all_go(rt: HostRuntime) -> Result<(), Fail> {
         assert!(rt; tx.try_send(Counted { drops: &drops }, 1u64).is_ok());
     }
     drop(rx.close_on_drop());
-    assert_eq!(rt; drops.load(Ordering::SeqCst), 0);
+    expect_equal(&rt, drops.load(Ordering::SeqCst), 0);
     drop(rx);
-    assert_eq!(rt; drops.load(Ordering::SeqCst), SOME);
+    expect_equal(&rt, drops.load(Ordering::SeqCst), SOME);
     assert!(rt; tx.is_empty());
     Ok(())
 }

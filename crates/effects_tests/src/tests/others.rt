@@ -4,6 +4,7 @@ use super::calls::{
     make,
 };
 use super::tasks::is_pending;
+use super::{expect_equal, expect_equal_at};
 use async_priority_channel::{SendError, SendFault, TryRecvError, bounded};
 use futures::StreamExt;
 use futures::task::Poll;
@@ -49,12 +50,12 @@ fn who_waits_for_a_message_is_woken_by_what_may_bring_one(rt: HostRuntime) -> Re
         assert!(rt; is_pending(two.poll(&mut stream.next())));
         assert!(rt; is_pending(three.poll(&mut batching)));
         make(&rt, &tx, &rx, call)?;
-        assert_eq!(rt; one.is_woken(), wakes, "{call:?}");
-        assert_eq!(rt; two.is_woken(), wakes, "{call:?}");
-        assert_eq!(rt; three.is_woken(), wakes, "{call:?}");
+        expect_equal_at(&rt, call, one.is_woken(), wakes);
+        expect_equal_at(&rt, call, two.is_woken(), wakes);
+        expect_equal_at(&rt, call, three.is_woken(), wakes);
         if !wakes {
             // They wait on, for what comes later.
-            assert_eq!(rt; tx.try_send(9, 9), Ok(()), "{call:?}");
+            expect_equal_at(&rt, call, tx.try_send(9, 9), Ok(()));
             assert!(rt;
                 one.is_woken() && two.is_woken() && three.is_woken(),
                 "{call:?}"
@@ -103,14 +104,14 @@ fn who_waits_for_room_is_woken_by_what_may_make_some(rt: HostRuntime) -> Result<
         assert!(rt; is_pending(one.poll(&mut sending)));
         assert!(rt; is_pending(two.poll(&mut bulk)));
         make(&rt, &tx, &rx, call)?;
-        assert_eq!(rt; one.is_woken(), wakes, "{call:?}");
-        assert_eq!(rt; two.is_woken(), wakes, "{call:?}");
+        expect_equal_at(&rt, call, one.is_woken(), wakes);
+        expect_equal_at(&rt, call, two.is_woken(), wakes);
         if !wakes {
             // They wait on, for what comes later, and what was pending is there.
-            assert_eq!(rt; rx.try_recv(), Ok((2, 2)), "{call:?}");
+            expect_equal_at(&rt, call, rx.try_recv(), Ok((2, 2)));
             assert!(rt; one.is_woken() && two.is_woken(), "{call:?}");
-            assert_eq!(rt; rx.try_recv(), Ok((1, 1)), "{call:?}");
-            assert_eq!(rt; rx.try_recv(), Err(TryRecvError::Empty), "{call:?}");
+            expect_equal_at(&rt, call, rx.try_recv(), Ok((1, 1)));
+            expect_equal_at(&rt, call, rx.try_recv(), Err(TryRecvError::Empty));
             assert!(rt; matches!(one.poll(&mut sending), Poll::Ready(Ok(()))));
         }
     }
@@ -146,13 +147,9 @@ fn a_closed_channel_keeps_what_is_pending(rt: HostRuntime) -> Result<(), Fail> {
             );
             make(&rt, &tx, &rx, Call::End(by))?;
             make(&rt, &tx, &rx, call)?;
-            assert_eq!(rt; rx.try_recv(), Ok((2, 2)), "{call:?} after {by:?}");
-            assert_eq!(rt; rx.try_recv(), Ok((1, 1)), "{call:?} after {by:?}");
-            assert_eq!(rt;
-                rx.try_recv(),
-                Err(TryRecvError::Closed),
-                "{call:?} after {by:?}"
-            );
+            expect_equal_at(&rt, (call, by), rx.try_recv(), Ok((2, 2)));
+            expect_equal_at(&rt, (call, by), rx.try_recv(), Ok((1, 1)));
+            expect_equal_at(&rt, (call, by), rx.try_recv(), Err(TryRecvError::Closed));
         }
     }
     Ok(())
@@ -165,7 +162,7 @@ fn the_last_receiver_leaves_the_others_who_wait_with_an_answer(
     let task = MockTask::new(&rt)?;
     let (tx, rx) = bounded(&rt, rt.alloc(), 1)?;
     let other = rx.clone()?;
-    assert_eq!(rt; tx.try_send(1u64, 1u64), Ok(()));
+    expect_equal(&rt, tx.try_send(1u64, 1u64), Ok(()));
     let mut sending = tx.send(2, 2);
     assert!(rt; is_pending(task.poll(&mut sending)));
     drop(rx);
@@ -175,7 +172,7 @@ fn the_last_receiver_leaves_the_others_who_wait_with_an_answer(
     let Poll::Ready(sent) = task.poll(&mut sending) else {
         return Err(Fail::from("it waits for receivers that are gone"));
     };
-    assert_eq!(rt; sent, Err(SendFault::Closed(SendError((2, 2)))));
-    assert_eq!(rt; tx.len(), 1);
+    expect_equal(&rt, sent, Err(SendFault::Closed(SendError((2, 2)))));
+    expect_equal(&rt, tx.len(), 1);
     Ok(())
 }

@@ -1,4 +1,5 @@
 //! What is polled in one task and then in another, and waits more than once.
+use super::expect_equal;
 use async_priority_channel::{RecvError, RecvFault, SendError, SendFault, bounded};
 use futures::StreamExt;
 use futures::task::Poll;
@@ -42,14 +43,14 @@ fn who_receives_waits_again_where_it_is_polled_last(rt: HostRuntime) -> Result<(
         for task in &first {
             rest(task);
         }
-        assert_eq!(rt; tx.try_send(i, i), Ok(()));
+        expect_equal(&rt, tx.try_send(i, i), Ok(()));
         for task in &second {
             assert!(rt; task.is_woken(), "at {i}");
         }
         for task in &first {
             assert!(rt; !task.is_woken(), "at {i}");
         }
-        assert_eq!(rt; rx.try_recv(), Ok((i, i)));
+        expect_equal(&rt, rx.try_recv(), Ok((i, i)));
     }
     Ok(())
 }
@@ -59,7 +60,7 @@ fn who_sends_waits_again_where_it_is_polled_last(rt: HostRuntime) -> Result<(), 
     let first = [MockTask::new(&rt)?, MockTask::new(&rt)?];
     let second = [MockTask::new(&rt)?, MockTask::new(&rt)?];
     let (tx, rx) = bounded(&rt, rt.alloc(), 1)?;
-    assert_eq!(rt; tx.try_send(0u64, 0u64), Ok(()));
+    expect_equal(&rt, tx.try_send(0u64, 0u64), Ok(()));
     let mut sending = tx.send(7, 7);
     let mut bulk = tx.sendv([(8, 8), (9, 9)].into_iter().peekable());
     for i in 0..3u64 {
@@ -70,14 +71,14 @@ fn who_sends_waits_again_where_it_is_polled_last(rt: HostRuntime) -> Result<(), 
         for task in &first {
             rest(task);
         }
-        assert_eq!(rt; rx.try_recv(), Ok((0, 0)));
+        expect_equal(&rt, rx.try_recv(), Ok((0, 0)));
         for task in &second {
             assert!(rt; task.is_woken(), "at {i}");
         }
         for task in &first {
             assert!(rt; !task.is_woken(), "at {i}");
         }
-        assert_eq!(rt; tx.try_send(0, 0), Ok(()));
+        expect_equal(&rt, tx.try_send(0, 0), Ok(()));
     }
     Ok(())
 }

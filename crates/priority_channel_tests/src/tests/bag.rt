@@ -1,4 +1,5 @@
 //! The bag compares seldom, and keeps its pairs where its growth is refused.
+use super::{expect_equal, expect_equal_at};
 use priority_channel_core::bag::Bag;
 use refusing::Refusing;
 use std::alloc::{AllocError, Allocator};
@@ -109,7 +110,7 @@ fn compares_seldom_at_each_length(rt: HostRuntime) -> Result<(), AllocError> {
         assert!(rt; priority.value <= last);
         last = priority.value;
     }
-    assert_eq!(rt; bag.len(), 0);
+    expect_equal(&rt, bag.len(), 0);
     Ok(())
 }
 
@@ -143,7 +144,7 @@ fn keeps_its_pairs_where_growth_is_refused(rt: HostRuntime) -> Result<(), Fail> 
         let (pushed, all_came_out) = fill_and_drain(&alloc);
         let met_none = alloc.refuse_none();
         assert!(rt; all_came_out, "at {n}");
-        assert_eq!(rt; pushed == 20, met_none, "at {n}");
+        expect_equal_at(&rt, n, pushed == 20, met_none);
     }
     Ok(())
 }
@@ -159,9 +160,9 @@ fn a_reserved_bag_asks_for_memory_once(rt: HostRuntime) -> Result<(), AllocError
     bag.push(1, 1);
     bag.push(2, 2);
     assert!(rt; bag.make_slot().is_err());
-    assert_eq!(rt; bag.pop(), Some((2, 2)));
+    expect_equal(&rt, bag.pop(), Some((2, 2)));
     assert!(rt; bag.make_slot().is_ok());
-    assert_eq!(rt; bag.pop(), Some((1, 1)));
-    assert_eq!(rt; bag.pop(), None);
+    expect_equal(&rt, bag.pop(), Some((1, 1)));
+    expect_equal(&rt, bag.pop(), None);
     Ok(())
 }

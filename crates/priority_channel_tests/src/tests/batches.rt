@@ -1,4 +1,5 @@
 //! A receive of many brings the greatest first, and a peek shows what would come.
+use super::{expect_equal, expect_equal_at};
 use crate::tests::{Core, close, hands_out_nobody, receive, send, spend};
 use priority_channel_core::calls::CorePoll;
 use priority_channel_core::errors::TryRecvError;
@@ -36,21 +37,25 @@ fn batches_bring_the_greatest_first(rt: HostRuntime) -> Result<(), AllocError> {
         &[("a", 1), ("b", 3), ("c", 1), ("d", 2), ("e", 3), ("f", 1)],
     );
     let (reply, batch) = receive_many(alloc, &mut core, 0)?;
-    assert_eq!(rt; reply, Ok(0));
+    expect_equal(&rt, reply, Ok(0));
     assert!(rt; batch.is_empty());
-    assert_eq!(rt; core.len(), 6);
+    expect_equal(&rt, core.len(), 6);
 
     let (reply, batch) = receive_many(alloc, &mut core, 1)?;
-    assert_eq!(rt; reply, Ok(1));
-    assert_eq!(rt; batch.as_slice(), [("b", 3)].as_slice());
+    expect_equal(&rt, reply, Ok(1));
+    expect_equal(&rt, batch.as_slice(), [("b", 3)].as_slice());
 
     let (reply, batch) = receive_many(alloc, &mut core, 3)?;
-    assert_eq!(rt; reply, Ok(3));
-    assert_eq!(rt; batch.as_slice(), [("e", 3), ("d", 2), ("a", 1)].as_slice());
+    expect_equal(&rt, reply, Ok(3));
+    expect_equal(
+        &rt,
+        batch.as_slice(),
+        [("e", 3), ("d", 2), ("a", 1)].as_slice(),
+    );
 
     let (reply, batch) = receive_many(alloc, &mut core, 2)?;
-    assert_eq!(rt; reply, Ok(2));
-    assert_eq!(rt; batch.as_slice(), [("c", 1), ("f", 1)].as_slice());
+    expect_equal(&rt, reply, Ok(2));
+    expect_equal(&rt, batch.as_slice(), [("c", 1), ("f", 1)].as_slice());
     assert!(rt; core.is_empty());
     Ok(())
 }
@@ -60,8 +65,12 @@ fn a_batch_ends_where_nothing_is_pending(rt: HostRuntime) -> Result<(), AllocErr
     let alloc = rt.alloc();
     let mut core = holding(alloc, &[("a", 1), ("b", 2), ("c", 1)]);
     let (reply, batch) = receive_many(alloc, &mut core, 10)?;
-    assert_eq!(rt; reply, Ok(3));
-    assert_eq!(rt; batch.as_slice(), [("b", 2), ("a", 1), ("c", 1)].as_slice());
+    expect_equal(&rt, reply, Ok(3));
+    expect_equal(
+        &rt,
+        batch.as_slice(),
+        [("b", 2), ("a", 1), ("c", 1)].as_slice(),
+    );
 
     // What came stands behind what was there.
     let mut core = holding(alloc, &[("a", 1), ("b", 2), ("c", 1)]);
@@ -70,12 +79,13 @@ fn a_batch_ends_where_nothing_is_pending(rt: HostRuntime) -> Result<(), AllocErr
     batch.push_reserved(("y", 0));
     let (reply, wakes) = core.try_recv_many(&mut batch, 2);
     assert!(rt; hands_out_nobody(wakes));
-    assert_eq!(rt; reply, Ok(2));
-    assert_eq!(rt;
+    expect_equal(&rt, reply, Ok(2));
+    expect_equal(
+        &rt,
         batch.as_slice(),
-        [("x", 9), ("y", 0), ("b", 2), ("a", 1)].as_slice()
+        [("x", 9), ("y", 0), ("b", 2), ("a", 1)].as_slice(),
     );
-    assert_eq!(rt; receive(&mut core), Ok(("c", 1)));
+    expect_equal(&rt, receive(&mut core), Ok(("c", 1)));
     Ok(())
 }
 
@@ -85,16 +95,16 @@ fn a_batch_of_none_tells_empty_from_closed(rt: HostRuntime) -> Result<(), AllocE
     let mut core = holding(alloc, &[]);
     for limit in [0usize, 1, 5] {
         let (reply, batch) = receive_many(alloc, &mut core, limit)?;
-        assert_eq!(rt; reply, Err(TryRecvError::Empty), "of {limit}");
+        expect_equal_at(&rt, limit, reply, Err(TryRecvError::Empty));
         assert!(rt; batch.is_empty(), "of {limit}");
     }
-    assert_eq!(rt; send(&mut core, "a", 1), Ok(()));
+    expect_equal(&rt, send(&mut core, "a", 1), Ok(()));
     assert!(rt; close(&mut core));
-    assert_eq!(rt; receive_many(alloc, &mut core, 0)?.0, Ok(0));
-    assert_eq!(rt; receive_many(alloc, &mut core, 5)?.0, Ok(1));
+    expect_equal(&rt, receive_many(alloc, &mut core, 0)?.0, Ok(0));
+    expect_equal(&rt, receive_many(alloc, &mut core, 5)?.0, Ok(1));
     for limit in [0usize, 1, 5] {
         let (reply, batch) = receive_many(alloc, &mut core, limit)?;
-        assert_eq!(rt; reply, Err(TryRecvError::Closed), "of {limit}");
+        expect_equal_at(&rt, limit, reply, Err(TryRecvError::Closed));
         assert!(rt; batch.is_empty(), "of {limit}");
     }
     Ok(())
@@ -103,8 +113,8 @@ fn a_batch_of_none_tells_empty_from_closed(rt: HostRuntime) -> Result<(), AllocE
 #[test]
 fn a_batch_hands_out_who_waits_for_room_once(rt: HostRuntime) -> Result<(), AllocError> {
     let mut core: Core<u64> = Core::bounded(rt.alloc(), 2);
-    assert_eq!(rt; send(&mut core, 1, 1), Ok(()));
-    assert_eq!(rt; send(&mut core, 2, 2), Ok(()));
+    expect_equal(&rt, send(&mut core, 1, 1), Ok(()));
+    expect_equal(&rt, send(&mut core, 2, 2), Ok(()));
     for (ticket, waker) in [(0u64, 7u64), (1, 8)] {
         let (poll, wakes) = core.poll_send(3, 3, None, &waker);
         assert!(rt; hands_out_nobody(wakes));
@@ -112,20 +122,20 @@ fn a_batch_hands_out_who_waits_for_room_once(rt: HostRuntime) -> Result<(), Allo
     }
     let mut batch = Vec::with_capacity(rt.alloc(), 3)?;
     let (reply, wakes) = core.try_recv_many(&mut batch, 0);
-    assert_eq!(rt; reply, Ok(0));
+    expect_equal(&rt, reply, Ok(0));
     assert!(rt; hands_out_nobody(wakes));
 
     let (reply, wakes) = core.try_recv_many(&mut batch, 2);
-    assert_eq!(rt; reply, Ok(2));
+    expect_equal(&rt, reply, Ok(2));
     let (room, message) = wakes.into_lists();
-    assert_eq!(rt; room.as_slice(), [(0, 7), (1, 8)].as_slice());
+    expect_equal(&rt, room.as_slice(), [(0, 7), (1, 8)].as_slice());
     assert!(rt; message.is_empty());
 
-    assert_eq!(rt; send(&mut core, 4, 4), Ok(()));
+    expect_equal(&rt, send(&mut core, 4, 4), Ok(()));
     let (reply, wakes) = core.try_recv_many(&mut batch, 1);
-    assert_eq!(rt; reply, Ok(1));
+    expect_equal(&rt, reply, Ok(1));
     assert!(rt; hands_out_nobody(wakes));
-    assert_eq!(rt; batch.as_slice(), [(2, 2), (1, 1), (4, 4)].as_slice());
+    expect_equal(&rt, batch.as_slice(), [(2, 2), (1, 1), (4, 4)].as_slice());
     Ok(())
 }
 
@@ -133,14 +143,14 @@ fn a_batch_hands_out_who_waits_for_room_once(rt: HostRuntime) -> Result<(), Allo
 fn a_batch_needs_no_memory(rt: HostRuntime) -> Result<(), AllocError> {
     let alloc = Refusing::new(rt.alloc());
     let mut core: Core<u64, &Refusing<Global>> = Core::bounded(&alloc, 2);
-    assert_eq!(rt; send(&mut core, 1, 1), Ok(()));
-    assert_eq!(rt; send(&mut core, 2, 2), Ok(()));
+    expect_equal(&rt, send(&mut core, 1, 1), Ok(()));
+    expect_equal(&rt, send(&mut core, 2, 2), Ok(()));
     let mut batch = Vec::with_capacity(&alloc, 2)?;
     alloc.refuse_nth(1);
     let (reply, wakes) = core.try_recv_many(&mut batch, 2);
-    assert_eq!(rt; reply, Ok(2));
+    expect_equal(&rt, reply, Ok(2));
     assert!(rt; hands_out_nobody(wakes));
-    assert_eq!(rt; batch.as_slice(), [(2, 2), (1, 1)].as_slice());
+    expect_equal(&rt, batch.as_slice(), [(2, 2), (1, 1)].as_slice());
     // Nothing was asked for: the request to be refused is still to come.
     assert!(rt; alloc.refuse_none());
     Ok(())
@@ -150,9 +160,9 @@ fn a_batch_needs_no_memory(rt: HostRuntime) -> Result<(), AllocError> {
 fn a_peek_shows_what_a_receive_gives(rt: HostRuntime) {
     let mut core = holding(rt.alloc(), &[("a", 1), ("b", 2), ("c", 2)]);
     for (msg, priority) in [("b", 2), ("c", 2), ("a", 1)] {
-        assert_eq!(rt; core.peek(), Some((&msg, &priority)));
-        assert_eq!(rt; core.peek(), Some((&msg, &priority)));
-        assert_eq!(rt; receive(&mut core), Ok((msg, priority)));
+        expect_equal(&rt, core.peek(), Some((&msg, &priority)));
+        expect_equal(&rt, core.peek(), Some((&msg, &priority)));
+        expect_equal(&rt, receive(&mut core), Ok((msg, priority)));
     }
-    assert_eq!(rt; core.peek(), None);
+    expect_equal(&rt, core.peek(), None);
 }

@@ -1,6 +1,7 @@
 //! What a bulk send takes, and how often it asks its iterator.
 ghost use Rattle.std.specs.Iterator.Adapters.{peekable_can};
 
+use super::expect_equal;
 use crate::tests::{Core, close, hands_out_nobody, receive, send, spend};
 use priority_channel_core::errors::TrySendError;
 use std::alloc::AllocError;
@@ -23,17 +24,18 @@ fn sendv<T: Drop>(core: &mut Core<T>, msgs: Vec<(T, u64)>) -> Result<(), TrySend
 #[test]
 fn sends_as_far_as_there_is_room(rt: HostRuntime) -> Result<(), AllocError> {
     let mut core: Core<&str> = Core::bounded(rt.alloc(), 10);
-    assert_eq!(rt;
+    expect_equal(
+        &rt,
         sendv(&mut core, vec![in rt.alloc(); ("a", 0), ("b", 1)]?),
-        Ok(())
+        Ok(()),
     );
-    assert_eq!(rt; receive(&mut core), Ok(("b", 1)));
-    assert_eq!(rt; receive(&mut core), Ok(("a", 0)));
+    expect_equal(&rt, receive(&mut core), Ok(("b", 1)));
+    expect_equal(&rt, receive(&mut core), Ok(("a", 0)));
     let mut many = Vec::new(rt.alloc());
     for _ in 0..100 {
         many.push(("a", 0))?;
     }
-    assert_eq!(rt; sendv(&mut core, many), Err(TrySendError::Full(90)));
+    expect_equal(&rt, sendv(&mut core, many), Err(TrySendError::Full(90)));
     Ok(())
 }
 
@@ -42,20 +44,22 @@ fn sends_nothing_into_a_closed_channel(rt: HostRuntime) -> Result<(), AllocError
     let mut core: Core<&str> = Core::bounded(rt.alloc(), 10);
     assert!(rt; !core.is_closed());
     assert!(rt; close(&mut core));
-    assert_eq!(rt;
+    expect_equal(
+        &rt,
         sendv(&mut core, vec![in rt.alloc(); ("a", 0), ("b", 1)]?),
-        Err(TrySendError::Closed(2))
+        Err(TrySendError::Closed(2)),
     );
-    assert_eq!(rt; core.len(), 0);
+    expect_equal(&rt, core.len(), 0);
     Ok(())
 }
 
 #[test]
 fn just_filling_is_no_refusal(rt: HostRuntime) -> Result<(), AllocError> {
     let mut core: Core<&str> = Core::bounded(rt.alloc(), 2);
-    assert_eq!(rt;
+    expect_equal(
+        &rt,
         sendv(&mut core, vec![in rt.alloc(); ("a", 0), ("b", 1)]?),
-        Ok(())
+        Ok(()),
     );
     assert!(rt; core.is_full());
     Ok(())
@@ -64,16 +68,18 @@ fn just_filling_is_no_refusal(rt: HostRuntime) -> Result<(), AllocError> {
 #[test]
 fn an_empty_list_is_refused_where_a_pair_would_be(rt: HostRuntime) {
     let mut core: Core<&str> = Core::bounded(rt.alloc(), 1);
-    assert_eq!(rt; sendv(&mut core, Vec::new(rt.alloc())), Ok(()));
-    assert_eq!(rt; send(&mut core, "x", 5), Ok(()));
-    assert_eq!(rt;
+    expect_equal(&rt, sendv(&mut core, Vec::new(rt.alloc())), Ok(()));
+    expect_equal(&rt, send(&mut core, "x", 5), Ok(()));
+    expect_equal(
+        &rt,
         sendv(&mut core, Vec::new(rt.alloc())),
-        Err(TrySendError::Full(0))
+        Err(TrySendError::Full(0)),
     );
     assert!(rt; close(&mut core));
-    assert_eq!(rt;
+    expect_equal(
+        &rt,
         sendv(&mut core, Vec::new(rt.alloc())),
-        Err(TrySendError::Closed(0))
+        Err(TrySendError::Closed(0)),
     );
     assert!(rt; !close(&mut core));
 }
@@ -98,7 +104,7 @@ fn takes_any_iterator(rt: HostRuntime) -> Result<(), AllocError> {
     assert!(rt; sends_all(&mut core, (9..11u64).zip(9..11u64).peekable()));
     assert!(rt; sends_all(&mut core, repeat_n((11, 11), 2).peekable()));
     for i in [11u64, 11, 10, 9, 8, 7, 6, 5, 4, 3, 2, 1] {
-        assert_eq!(rt; receive(&mut core), Ok((i, i)));
+        expect_equal(&rt, receive(&mut core), Ok((i, i)));
     }
     Ok(())
 }
@@ -154,22 +160,22 @@ fn asks_the_iterator_for_one_pair_more_than_it_takes(rt: HostRuntime) -> Result<
     let mut core: Core<u64> = Core::bounded(rt.alloc(), 2);
     let (reply, wakes) = core.try_sendv(counting(5, &calls));
     assert!(rt; hands_out_nobody(wakes));
-    assert_eq!(rt; calls.get(), 3);
-    assert_eq!(rt; core.len(), 2);
+    expect_equal(&rt, calls.get(), 3);
+    expect_equal(&rt, core.len(), 2);
     let Err(TrySendError::Full(mut rest)) = reply else {
         return Err(Fail::from("it took all"));
     };
-    assert_eq!(rt; rest.next(), Some((2, 2)));
-    assert_eq!(rt; rest.next(), Some((1, 1)));
-    assert_eq!(rt; rest.next(), Some((0, 0)));
-    assert_eq!(rt; rest.next(), None);
+    expect_equal(&rt, rest.next(), Some((2, 2)));
+    expect_equal(&rt, rest.next(), Some((1, 1)));
+    expect_equal(&rt, rest.next(), Some((0, 0)));
+    expect_equal(&rt, rest.next(), None);
 
     calls.set(0);
     let mut core: Core<u64> = Core::bounded(rt.alloc(), 2);
     let (reply, wakes) = core.try_sendv(counting(2, &calls));
     assert!(rt; hands_out_nobody(wakes));
     assert!(rt; reply.is_ok());
-    assert_eq!(rt; calls.get(), 3);
+    expect_equal(&rt, calls.get(), 3);
     Ok(())
 }
 
@@ -177,7 +183,7 @@ fn asks_the_iterator_for_one_pair_more_than_it_takes(rt: HostRuntime) -> Result<
 fn does_not_touch_the_iterator_where_nothing_can_be_taken(rt: HostRuntime) -> Result<(), Fail> {
     let calls = Cell::new(0);
     let mut core: Core<u64> = Core::bounded(rt.alloc(), 1);
-    assert_eq!(rt; send(&mut core, 1, 1), Ok(()));
+    expect_equal(&rt, send(&mut core, 1, 1), Ok(()));
     let (reply, wakes) = core.try_sendv(counting(5, &calls));
     assert!(rt; hands_out_nobody(wakes));
     let Err(TrySendError::Full(from_full)) = reply else {
@@ -189,8 +195,8 @@ fn does_not_touch_the_iterator_where_nothing_can_be_taken(rt: HostRuntime) -> Re
     let Err(TrySendError::Closed(from_closed)) = reply else {
         return Err(Fail::from("it was not closed"));
     };
-    assert_eq!(rt; calls.get(), 0);
-    assert_eq!(rt; next_six(from_full), FIVE);
-    assert_eq!(rt; next_six(from_closed), FIVE);
+    expect_equal(&rt, calls.get(), 0);
+    expect_equal(&rt, next_six(from_full), FIVE);
+    expect_equal(&rt, next_six(from_closed), FIVE);
     Ok(())
 }

@@ -1,4 +1,5 @@
 //! What the errors of the core print and hand back, and which lead to which.
+use super::expect_equal;
 use priority_channel_core::errors::{
     RecvError, RecvFault, SendError, SendFault, TryRecvError, TryRecvManyError, TrySendError,
 };
@@ -24,82 +25,105 @@ fn errors_print_why_and_not_what(rt: HostRuntime) -> Result<(), Fail> {
     let alloc = rt.alloc();
 
     let closed = printed(alloc, SendError(Opaque))?;
-    assert_eq!(rt;
+    expect_equal(
+        &rt,
         closed.as_str(),
-        "sending into a closed channel / SendError(..)"
+        "sending into a closed channel / SendError(..)",
     );
     let closed = printed(alloc, RecvError)?;
-    assert_eq!(rt;
+    expect_equal(
+        &rt,
         closed.as_str(),
-        "receiving from an empty and closed channel / RecvError"
+        "receiving from an empty and closed channel / RecvError",
     );
 
     let full = printed(alloc, TrySendError::Full(Opaque))?;
-    assert_eq!(rt; full.as_str(), "sending into a full channel / Full(..)");
+    expect_equal(&rt, full.as_str(), "sending into a full channel / Full(..)");
     let closed = printed(alloc, TrySendError::Closed(Opaque))?;
-    assert_eq!(rt;
+    expect_equal(
+        &rt,
         closed.as_str(),
-        "sending into a closed channel / Closed(..)"
+        "sending into a closed channel / Closed(..)",
     );
     let memory = printed(alloc, TrySendError::Memory(Opaque))?;
-    assert_eq!(rt; memory.as_str(), "no memory for sending / Memory(..)");
+    expect_equal(&rt, memory.as_str(), "no memory for sending / Memory(..)");
 
     let empty = printed(alloc, TryRecvError::Empty)?;
-    assert_eq!(rt; empty.as_str(), "receiving from an empty channel / Empty");
+    expect_equal(
+        &rt,
+        empty.as_str(),
+        "receiving from an empty channel / Empty",
+    );
     let closed = printed(alloc, TryRecvError::Closed)?;
-    assert_eq!(rt;
+    expect_equal(
+        &rt,
         closed.as_str(),
-        "receiving from an empty and closed channel / Closed"
+        "receiving from an empty and closed channel / Closed",
     );
 
     let empty = printed(alloc, TryRecvManyError::Empty)?;
-    assert_eq!(rt; empty.as_str(), "receiving from an empty channel / Empty");
+    expect_equal(
+        &rt,
+        empty.as_str(),
+        "receiving from an empty channel / Empty",
+    );
     let closed = printed(alloc, TryRecvManyError::Closed)?;
-    assert_eq!(rt;
+    expect_equal(
+        &rt,
         closed.as_str(),
-        "receiving from an empty and closed channel / Closed"
+        "receiving from an empty and closed channel / Closed",
     );
     let memory = printed(alloc, TryRecvManyError::Memory)?;
-    assert_eq!(rt; memory.as_str(), "no memory for receiving / Memory");
+    expect_equal(&rt, memory.as_str(), "no memory for receiving / Memory");
 
     let closed = printed(alloc, SendFault::Closed(SendError(Opaque)))?;
-    assert_eq!(rt;
+    expect_equal(
+        &rt,
         closed.as_str(),
-        "sending into a closed channel / Closed(..)"
+        "sending into a closed channel / Closed(..)",
     );
     let memory = printed(alloc, SendFault::Memory(Opaque))?;
-    assert_eq!(rt; memory.as_str(), "no memory for sending / Memory(..)");
+    expect_equal(&rt, memory.as_str(), "no memory for sending / Memory(..)");
 
     let closed = printed(alloc, RecvFault::Closed(RecvError))?;
-    assert_eq!(rt;
+    expect_equal(
+        &rt,
         closed.as_str(),
-        "receiving from an empty and closed channel / Closed(RecvError)"
+        "receiving from an empty and closed channel / Closed(RecvError)",
     );
     let memory = printed(alloc, RecvFault::Memory)?;
-    assert_eq!(rt; memory.as_str(), "no memory for waiting / Memory");
+    expect_equal(&rt, memory.as_str(), "no memory for waiting / Memory");
     Ok(())
 }
 
 #[test]
 fn errors_are_equal_where_variant_and_content_are(rt: HostRuntime) -> Result<(), Fail> {
     let error = SendError(1);
-    assert_eq!(rt; error, SendError(1));
-    assert_eq!(rt; error.clone()?, error);
+    expect_equal(&rt, error, SendError(1));
+    expect_equal(&rt, error.clone()?, error);
     let copy = error;
-    assert_eq!(rt; copy, error);
+    expect_equal(&rt, copy, error);
 
     assert_ne!(rt; TrySendError::Full(1), TrySendError::Full(2));
     assert_ne!(rt; TrySendError::Full(1), TrySendError::Closed(1));
-    assert_eq!(rt; TrySendError::Memory(1).clone()?, TrySendError::Memory(1));
+    expect_equal(
+        &rt,
+        TrySendError::Memory(1).clone()?,
+        TrySendError::Memory(1),
+    );
 
     assert_ne!(rt; SendFault::Memory(1), SendFault::Closed(SendError(1)));
-    assert_eq!(rt; SendFault::Memory(1).clone()?, SendFault::Memory(1));
+    expect_equal(&rt, SendFault::Memory(1).clone()?, SendFault::Memory(1));
 
     assert_ne!(rt; TryRecvError::Empty, TryRecvError::Closed);
-    assert_eq!(rt; RecvError.clone()?, RecvError);
+    expect_equal(&rt, RecvError.clone()?, RecvError);
     assert_ne!(rt; RecvFault::Memory, RecvFault::Closed(RecvError));
     assert_ne!(rt; TryRecvManyError::Memory, TryRecvManyError::Empty);
-    assert_eq!(rt; TryRecvManyError::Closed.clone()?, TryRecvManyError::Closed);
+    expect_equal(
+        &rt,
+        TryRecvManyError::Closed.clone()?,
+        TryRecvManyError::Closed,
+    );
     Ok(())
 }
 
@@ -107,7 +131,7 @@ fn errors_are_equal_where_variant_and_content_are(rt: HostRuntime) -> Result<(),
 fn errors_hand_back_what_was_not_sent(rt: HostRuntime) {
     let refusal = TrySendError::Full(("late", 3));
     assert!(rt; refusal.is_full() && !refusal.is_closed() && !refusal.is_memory());
-    assert_eq!(rt; refusal.into_inner(), ("late", 3));
+    expect_equal(&rt, refusal.into_inner(), ("late", 3));
 
     let refusal = TrySendError::Memory(1);
     assert!(rt; refusal.is_memory() && !refusal.is_full() && !refusal.is_closed());
@@ -145,9 +169,9 @@ fn reasons(error: TryRecvManyError) -> (bool, bool, bool) {
 
 #[test]
 fn a_batch_tells_why_it_brought_nothing(rt: HostRuntime) {
-    assert_eq!(rt; reasons(TryRecvManyError::Empty), (true, false, false));
-    assert_eq!(rt; reasons(TryRecvManyError::Closed), (false, true, false));
-    assert_eq!(rt; reasons(TryRecvManyError::Memory), (false, false, true));
+    expect_equal(&rt, reasons(TryRecvManyError::Empty), (true, false, false));
+    expect_equal(&rt, reasons(TryRecvManyError::Closed), (false, true, false));
+    expect_equal(&rt, reasons(TryRecvManyError::Memory), (false, false, true));
 }
 
 fn as_try_send(ended: Result<(), SendError<u64>>) -> Result<(), TrySendError<u64>> {
@@ -179,35 +203,45 @@ fn as_try_recv_many(received: Result<u64, TryRecvError>) -> Result<u64, TryRecvM
 
 #[test]
 fn errors_lead_to_one_another(rt: HostRuntime) {
-    assert_eq!(rt;
+    expect_equal(
+        &rt,
         as_try_send(Err(SendError(1))),
-        Err(TrySendError::Closed(1))
+        Err(TrySendError::Closed(1)),
     );
-    assert_eq!(rt;
+    expect_equal(
+        &rt,
         as_send_fault(Err(SendError(1))),
-        Err(SendFault::Closed(SendError(1)))
+        Err(SendFault::Closed(SendError(1))),
     );
     let closed = SendFault::Closed(SendError(1));
-    assert_eq!(rt;
+    expect_equal(
+        &rt,
         fault_as_try_send(Err(closed)),
-        Err(TrySendError::Closed(1))
+        Err(TrySendError::Closed(1)),
     );
     let memory = SendFault::Memory(1);
-    assert_eq!(rt;
+    expect_equal(
+        &rt,
         fault_as_try_send(Err(memory)),
-        Err(TrySendError::Memory(1))
+        Err(TrySendError::Memory(1)),
     );
 
-    assert_eq!(rt; as_try_recv(Err(RecvError)), Err(TryRecvError::Closed));
-    assert_eq!(rt;
+    expect_equal(&rt, as_try_recv(Err(RecvError)), Err(TryRecvError::Closed));
+    expect_equal(
+        &rt,
         as_recv_fault(Err(RecvError)),
-        Err(RecvFault::Closed(RecvError))
+        Err(RecvFault::Closed(RecvError)),
     );
     let empty = TryRecvError::Empty;
-    assert_eq!(rt; as_try_recv_many(Err(empty)), Err(TryRecvManyError::Empty));
+    expect_equal(
+        &rt,
+        as_try_recv_many(Err(empty)),
+        Err(TryRecvManyError::Empty),
+    );
     let closed = TryRecvError::Closed;
-    assert_eq!(rt;
+    expect_equal(
+        &rt,
         as_try_recv_many(Err(closed)),
-        Err(TryRecvManyError::Closed)
+        Err(TryRecvManyError::Closed),
     );
 }

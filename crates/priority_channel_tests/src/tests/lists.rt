@@ -2,6 +2,7 @@
 ghost use Rattle.std.specs.Prelude.{◌≡◌, ◌+◌, ◌≤◌, ◌<◌, ◌^◌, ◌++◌, true, false, take, vec_len};
 ghost use Rattle.priority_channel_core.specs.machine.State.{room};
 
+use super::expect_equal;
 use crate::tests::{Core, receive, spend};
 use priority_channel_core::laws::list_law;
 use std::alloc::AllocError;
@@ -27,6 +28,6 @@ fn the_caller_knows_how_many_of_a_vector_were_accepted(rt: HostRuntime) -> Resul
         &mut core,
         vec![in rt.alloc(); ("a", 0), ("b", 1), ("c", 2)]?,
     );
-    assert_eq!(rt; receive(&mut core), Ok(("b", 1)));
+    expect_equal(&rt, receive(&mut core), Ok(("b", 1)));
     Ok(())
 }

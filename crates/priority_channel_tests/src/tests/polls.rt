@@ -1,4 +1,5 @@
 //! Polls of the core: who waits under which ticket, and whom a call hands out.
+use super::expect_equal;
 use crate::tests::{Core, close, hands_out_nobody, receive, send, spend};
 use priority_channel_core::calls::CorePoll;
 use priority_channel_core::channel::PriorityQueueChannel;
@@ -25,7 +26,7 @@ fn keeps_the_newest_waker(rt: HostRuntime) {
     assert!(rt; reply.is_ok());
     let (room, message) = wakes.into_lists();
     assert!(rt; room.is_empty());
-    assert_eq!(rt; message.as_slice(), [(0, 2)].as_slice());
+    expect_equal(&rt, message.as_slice(), [(0, 2)].as_slice());
     assert!(rt;
         matches!(
             poll_recv(&mut core, Some(0), 2).0,
@@ -37,7 +38,7 @@ fn keeps_the_newest_waker(rt: HostRuntime) {
 #[test]
 fn who_gives_up_is_not_handed_out(rt: HostRuntime) {
     let mut core: Core<u64> = Core::bounded(rt.alloc(), 1);
-    assert_eq!(rt; send(&mut core, 1, 1), Ok(()));
+    expect_equal(&rt, send(&mut core, 1, 1), Ok(()));
     for ticket in 0..2u64 {
         let (poll, wakes) = core.poll_send(2, 2, None, &ticket);
         let (room, message) = wakes.into_lists();
@@ -46,10 +47,10 @@ fn who_gives_up_is_not_handed_out(rt: HostRuntime) {
     }
     core.give_up(0);
     let (reply, wakes) = core.try_recv();
-    assert_eq!(rt; reply, Ok((1, 1)));
+    expect_equal(&rt, reply, Ok((1, 1)));
     let (room, message) = wakes.into_lists();
     assert!(rt; message.is_empty());
-    assert_eq!(rt; room.as_slice(), [(1, 1)].as_slice());
+    expect_equal(&rt, room.as_slice(), [(1, 1)].as_slice());
 }
 
 #[test]
@@ -60,7 +61,7 @@ fn an_unknown_ticket_gets_the_next_number(rt: HostRuntime) {
     let (reply, wakes) = core.try_send(7, 1);
     assert!(rt; reply.is_ok());
     let (_, message) = wakes.into_lists();
-    assert_eq!(rt; message.as_slice(), [(0, 1)].as_slice());
+    expect_equal(&rt, message.as_slice(), [(0, 1)].as_slice());
 }
 
 #[test]
@@ -72,7 +73,7 @@ fn closing_hands_out_everybody(rt: HostRuntime) {
     assert!(rt; was_open);
     let (room, message) = wakes.into_lists();
     assert!(rt; room.is_empty());
-    assert_eq!(rt; message.as_slice(), [(0, 1), (1, 2)].as_slice());
+    expect_equal(&rt, message.as_slice(), [(0, 1), (1, 2)].as_slice());
     assert!(rt;
         matches!(
             poll_recv(&mut core, Some(0), 1).0,
@@ -187,7 +188,7 @@ fn an_empty_bulk_send_hands_out_nobody(rt: HostRuntime) {
     let (reply, wakes) = core.try_send(7, 1);
     assert!(rt; reply.is_ok());
     let (_, message) = wakes.into_lists();
-    assert_eq!(rt; message.as_slice(), [(0, 1)].as_slice());
+    expect_equal(&rt, message.as_slice(), [(0, 1)].as_slice());
 }
 
 #[test]
@@ -204,9 +205,10 @@ fn many_wait_and_some_give_up(rt: HostRuntime) {
     let (reply, wakes) = core.try_send(7, 1);
     assert!(rt; reply.is_ok());
     let (_, message) = wakes.into_lists();
-    assert_eq!(rt;
+    expect_equal(
+        &rt,
         message.as_slice(),
-        [(0, 1), (1, 1), (3, 2), (4, 1)].as_slice()
+        [(0, 1), (1, 1), (3, 2), (4, 1)].as_slice(),
     );
 }
 
@@ -217,14 +219,14 @@ fn a_ticket_of_the_other_side_is_not_kept(rt: HostRuntime) {
     let (reply, wakes) = core.try_send(7, 1);
     assert!(rt; reply.is_ok());
     let (_, message) = wakes.into_lists();
-    assert_eq!(rt; message.as_slice(), [(0, 1)].as_slice());
+    expect_equal(&rt, message.as_slice(), [(0, 1)].as_slice());
     let (poll, wakes) = core.poll_send(8, 2, Some(0), &1);
     let (_room, _message) = wakes.into_lists();
     assert!(rt; matches!(poll, CorePoll::Pending((8, 2), 1)));
     let (poll, room) = poll_recv(&mut core, Some(1), 2);
     assert!(rt; matches!(poll, CorePoll::Ready(Ok((7, 1)))));
-    assert_eq!(rt; room.as_slice(), [(1, 1)].as_slice());
-    assert_eq!(rt; core.len(), 0);
+    expect_equal(&rt, room.as_slice(), [(1, 1)].as_slice());
+    expect_equal(&rt, core.len(), 0);
 }
 
 #[test]
@@ -235,8 +237,8 @@ fn a_bulk_send_waits_with_its_rest(rt: HostRuntime) -> Result<(), Fail> {
     let CorePoll::Pending(rest, ticket) = poll else {
         return Err(Fail::from("it does not wait"));
     };
-    assert_eq!(rt; ticket, 0);
-    assert_eq!(rt; receive(&mut core), Ok((1, 1)));
+    expect_equal(&rt, ticket, 0);
+    expect_equal(&rt, receive(&mut core), Ok((1, 1)));
     let (poll, wakes) = core.poll_sendv(rest, Some(0), &5);
     let (_room, _message) = wakes.into_lists();
     assert!(rt; matches!(poll, CorePoll::Ready(Ok(()))));
@@ -244,6 +246,6 @@ fn a_bulk_send_waits_with_its_rest(rt: HostRuntime) -> Result<(), Fail> {
     let (poll, wakes) = core.poll_sendv([(3, 3)].into_iter().peekable(), None, &5);
     let (_room, _message) = wakes.into_lists();
     assert!(rt; matches!(poll, CorePoll::Ready(Err(SendFault::Closed(_)))));
-    assert_eq!(rt; receive(&mut core), Ok((2, 2)));
+    expect_equal(&rt, receive(&mut core), Ok((2, 2)));
     Ok(())
 }

@@ -1,4 +1,5 @@
 //! Where memory is refused, the core hands back what it was to take.
+use super::{expect_equal, expect_equal_at};
 use crate::tests::{Core, close, hands_out_nobody, receive, send};
 use priority_channel_core::errors::{TryRecvError, TrySendError};
 use refusing::Refusing;
@@ -12,19 +13,19 @@ fn a_reserved_channel_needs_no_memory(rt: HostRuntime) -> Result<(), AllocError>
     let alloc = Refusing::new(rt.alloc());
     let mut core: Core<u64, &Refusing<Global>> = Core::bounded_reserved(&alloc, 2)?;
     alloc.refuse_nth(1);
-    assert_eq!(rt; send(&mut core, 1, 1), Ok(()));
-    assert_eq!(rt; send(&mut core, 2, 2), Ok(()));
-    assert_eq!(rt; send(&mut core, 3, 3), Err(TrySendError::Full((3, 3))));
-    assert_eq!(rt; receive(&mut core), Ok((2, 2)));
-    assert_eq!(rt; send(&mut core, 3, 3), Ok(()));
+    expect_equal(&rt, send(&mut core, 1, 1), Ok(()));
+    expect_equal(&rt, send(&mut core, 2, 2), Ok(()));
+    expect_equal(&rt, send(&mut core, 3, 3), Err(TrySendError::Full((3, 3))));
+    expect_equal(&rt, receive(&mut core), Ok((2, 2)));
+    expect_equal(&rt, send(&mut core, 3, 3), Ok(()));
     assert!(rt; core.is_full() && !core.is_empty() && !core.is_closed());
-    assert_eq!(rt; (core.len(), core.capacity()), (2, Some(2)));
+    expect_equal(&rt, (core.len(), core.capacity()), (2, Some(2)));
     assert!(rt; core.clone_sender() && core.clone_receiver());
-    assert_eq!(rt; (core.sender_count(), core.receiver_count()), (2, 2));
+    expect_equal(&rt, (core.sender_count(), core.receiver_count()), (2, 2));
     assert!(rt; close(&mut core));
-    assert_eq!(rt; receive(&mut core), Ok((3, 3)));
-    assert_eq!(rt; receive(&mut core), Ok((1, 1)));
-    assert_eq!(rt; receive(&mut core), Err(TryRecvError::Closed));
+    expect_equal(&rt, receive(&mut core), Ok((3, 3)));
+    expect_equal(&rt, receive(&mut core), Ok((1, 1)));
+    expect_equal(&rt, receive(&mut core), Err(TryRecvError::Closed));
     // Nothing was asked for: the request to be refused is still to come.
     assert!(rt; alloc.refuse_none());
     Ok(())
@@ -50,11 +51,15 @@ fn a_refused_growth_hands_the_pair_back(rt: HostRuntime) {
     let alloc = Refusing::new(rt.alloc());
     alloc.refuse_all();
     let mut core: Core<u64, &Refusing<Global>> = Core::bounded(&alloc, 10);
-    assert_eq!(rt; send(&mut core, 1, 5), Err(TrySendError::Memory((1, 5))));
-    assert_eq!(rt; receive(&mut core), Err(TryRecvError::Empty));
+    expect_equal(
+        &rt,
+        send(&mut core, 1, 5),
+        Err(TrySendError::Memory((1, 5))),
+    );
+    expect_equal(&rt, receive(&mut core), Err(TryRecvError::Empty));
     alloc.refuse_none();
-    assert_eq!(rt; send(&mut core, 1, 5), Ok(()));
-    assert_eq!(rt; receive(&mut core), Ok((1, 5)));
+    expect_equal(&rt, send(&mut core, 1, 5), Ok(()));
+    expect_equal(&rt, receive(&mut core), Ok((1, 5)));
 }
 
 #[test]
@@ -64,15 +69,15 @@ fn a_refused_growth_hands_the_list_back(rt: HostRuntime) -> Result<(), Fail> {
     alloc.refuse_nth(1);
     let (reply, wakes) = core.try_sendv([("a", 0), ("b", 1)].into_iter().peekable());
     assert!(rt; hands_out_nobody(wakes));
-    assert_eq!(rt; core.len(), 0);
+    expect_equal(&rt, core.len(), 0);
     let Err(TrySendError::Memory(rest)) = reply else {
         return Err(Fail::from("it was not refused"));
     };
     let (reply, wakes) = core.try_sendv(rest);
     assert!(rt; hands_out_nobody(wakes));
     assert!(rt; reply.is_ok());
-    assert_eq!(rt; receive(&mut core), Ok(("b", 1)));
-    assert_eq!(rt; receive(&mut core), Ok(("a", 0)));
+    expect_equal(&rt, receive(&mut core), Ok(("b", 1)));
+    expect_equal(&rt, receive(&mut core), Ok(("a", 0)));
     Ok(())
 }
 
@@ -89,17 +94,17 @@ fn each_send_may_be_refused(rt: HostRuntime) -> Result<(), Fail> {
         for i in [1u64, 3, 2] {
             match send(&mut core, i, i) {
                 Ok(()) => accepted.push(i)?,
-                refused => assert_eq!(rt; refused, Err(TrySendError::Memory((i, i))), "at {n}"),
+                refused => expect_equal_at(&rt, n, refused, Err(TrySendError::Memory((i, i)))),
             }
         }
         let met_none = alloc.refuse_none();
-        assert_eq!(rt; accepted.len() == 3, met_none, "at {n}");
+        expect_equal_at(&rt, n, accepted.len() == 3, met_none);
         for i in [3u64, 2, 1] {
             if accepted.contains(&i) {
-                assert_eq!(rt; receive(&mut core), Ok((i, i)), "at {n}");
+                expect_equal_at(&rt, n, receive(&mut core), Ok((i, i)));
             }
         }
-        assert_eq!(rt; receive(&mut core), Err(TryRecvError::Empty), "at {n}");
+        expect_equal_at(&rt, n, receive(&mut core), Err(TryRecvError::Empty));
     }
     Ok(())
 }
@@ -127,11 +132,11 @@ fn each_bulk_send_may_be_refused(rt: HostRuntime) -> Result<(), Fail> {
         assert!(rt; hands_out_nobody(wakes));
         match reply {
             Ok(()) => {
-                assert_eq!(rt; receive(&mut core), Ok(("b", 1)), "at {n}");
-                assert_eq!(rt; receive(&mut core), Ok(("a", 0)), "at {n}");
+                expect_equal_at(&rt, n, receive(&mut core), Ok(("b", 1)));
+                expect_equal_at(&rt, n, receive(&mut core), Ok(("a", 0)));
             }
             Err(TrySendError::Memory(rest)) => {
-                assert_eq!(rt; n, 1);
+                expect_equal(&rt, n, 1);
                 assert!(rt; rest.eq([("a", 0), ("b", 1)]));
             }
             Err(_) => return Err(Fail::new(format_args!("another error at {n}"))),
@@ -143,19 +148,19 @@ fn each_bulk_send_may_be_refused(rt: HostRuntime) -> Result<(), Fail> {
         let accepted = core.len();
         match reply {
             Err(TrySendError::Full(rest)) => {
-                assert_eq!(rt; (accepted, count(rest)), (10, 90), "at {n}");
+                expect_equal_at(&rt, n, (accepted, count(rest)), (10, 90));
                 assert!(rt; met_none || n == 1);
             }
             Err(TrySendError::Memory(rest)) => {
                 assert!(rt; !met_none && accepted < 10);
-                assert_eq!(rt; accepted.wrapping_add(count(rest)), 100, "at {n}");
+                expect_equal_at(&rt, n, accepted.wrapping_add(count(rest)), 100);
             }
             _ => return Err(Fail::new(format_args!("neither full nor refused at {n}"))),
         }
         for _ in 0..accepted {
-            assert_eq!(rt; receive(&mut core), Ok(("a", 0)), "at {n}");
+            expect_equal_at(&rt, n, receive(&mut core), Ok(("a", 0)));
         }
-        assert_eq!(rt; receive(&mut core), Err(TryRecvError::Empty), "at {n}");
+        expect_equal_at(&rt, n, receive(&mut core), Err(TryRecvError::Empty));
         if met_none {
             assert!(rt; n > 2);
         }

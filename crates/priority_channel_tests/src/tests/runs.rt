@@ -1,4 +1,5 @@
 //! A run makes its calls in order, and stops before the one for whose answer there is no memory.
+use super::{expect_equal, expect_equal_at};
 use crate::tests::Core;
 use priority_channel_core::calls::{Answer, Call};
 use priority_channel_core::channel::run::{Progress, Response};
@@ -74,8 +75,8 @@ fn makes_each_call_in_order(rt: HostRuntime) -> Result<(), AllocError> {
     ]?;
     let Progress { done, left } = core.run(calls);
     assert!(rt; left.is_empty());
-    assert_eq!(rt; done.len(), 4);
-    assert_eq!(rt; right_answers(done, Calls::InOrder, 0), 4);
+    expect_equal(&rt, done.len(), 4);
+    expect_equal(&rt, right_answers(done, Calls::InOrder, 0), 4);
     let Progress { done, left } = core.run(Vec::<Call<u64, u64, u64, Pairs>>::new(rt.alloc()));
     assert!(rt; done.is_empty() && left.is_empty());
     assert!(rt; core.is_closed());
@@ -103,12 +104,12 @@ fn stops_before_the_call_whose_answer_has_no_place(rt: HostRuntime) -> Result<()
         let Progress { done, left } = core.run(calls);
         let met_none = alloc.refuse_none();
         let made = done.len();
-        assert_eq!(rt; made.wrapping_add(left.len()), 8, "at {n}");
-        assert_eq!(rt; left.is_empty(), met_none, "at {n}");
-        assert_eq!(rt; right_answers(done, Calls::WithDrops, 0), made, "at {n}");
+        expect_equal_at(&rt, n, made.wrapping_add(left.len()), 8);
+        expect_equal_at(&rt, n, left.is_empty(), met_none);
+        expect_equal_at(&rt, n, right_answers(done, Calls::WithDrops, 0), made);
         let Progress { done, left } = core.run(left);
         assert!(rt; left.is_empty(), "at {n}");
-        assert_eq!(rt; right_answers(done, Calls::WithDrops, made), 8, "at {n}");
+        expect_equal_at(&rt, n, right_answers(done, Calls::WithDrops, made), 8);
     }
     Ok(())
 }

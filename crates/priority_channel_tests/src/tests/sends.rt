@@ -1,4 +1,5 @@
 //! Sends and receives of one message, beside a plain list that is scanned.
+use super::{expect_equal, expect_equal_at};
 use crate::tests::{Core, close, receive, send};
 use priority_channel_core::errors::{TryRecvError, TrySendError};
 use std::alloc::AllocError;
@@ -6,27 +7,27 @@ use std::alloc::AllocError;
 #[test]
 fn the_greatest_priority_comes_first(rt: HostRuntime) {
     let mut core: Core<&str> = Core::unbounded(rt.alloc());
-    assert_eq!(rt; send(&mut core, "Foo", 0), Ok(()));
-    assert_eq!(rt; send(&mut core, "Bar", 2), Ok(()));
-    assert_eq!(rt; send(&mut core, "Baz", 1), Ok(()));
-    assert_eq!(rt; receive(&mut core), Ok(("Bar", 2)));
+    expect_equal(&rt, send(&mut core, "Foo", 0), Ok(()));
+    expect_equal(&rt, send(&mut core, "Bar", 2), Ok(()));
+    expect_equal(&rt, send(&mut core, "Baz", 1), Ok(()));
+    expect_equal(&rt, receive(&mut core), Ok(("Bar", 2)));
 }
 
 #[test]
 fn a_message_comes_out(rt: HostRuntime) {
     let mut core: Core<&str> = Core::bounded(rt.alloc(), 1);
-    assert_eq!(rt; send(&mut core, "Foo", 0), Ok(()));
-    assert_eq!(rt; receive(&mut core), Ok(("Foo", 0)));
+    expect_equal(&rt, send(&mut core, "Foo", 0), Ok(()));
+    expect_equal(&rt, receive(&mut core), Ok(("Foo", 0)));
 }
 
 #[test]
 fn comes_out_in_falling_order(rt: HostRuntime) {
     let mut core: Core<u64> = Core::unbounded(rt.alloc());
     for i in [1, 3, 2] {
-        assert_eq!(rt; send(&mut core, i, i), Ok(()));
+        expect_equal(&rt, send(&mut core, i, i), Ok(()));
     }
     for i in [3, 2, 1] {
-        assert_eq!(rt; receive(&mut core), Ok((i, i)));
+        expect_equal(&rt, receive(&mut core), Ok((i, i)));
     }
 }
 
@@ -34,22 +35,30 @@ fn comes_out_in_falling_order(rt: HostRuntime) {
 fn closed_is_told_before_full(rt: HostRuntime) {
     let mut core: Core<u64> = Core::bounded(rt.alloc(), 3);
     for i in [1, 3, 2] {
-        assert_eq!(rt; send(&mut core, i, i), Ok(()));
+        expect_equal(&rt, send(&mut core, i, i), Ok(()));
     }
     assert!(rt; close(&mut core));
-    assert_eq!(rt; send(&mut core, 4, 4), Err(TrySendError::Closed((4, 4))));
+    expect_equal(
+        &rt,
+        send(&mut core, 4, 4),
+        Err(TrySendError::Closed((4, 4))),
+    );
     for i in [3, 2, 1] {
-        assert_eq!(rt; receive(&mut core), Ok((i, i)));
+        expect_equal(&rt, receive(&mut core), Ok((i, i)));
     }
-    assert_eq!(rt; receive(&mut core), Err(TryRecvError::Closed));
+    expect_equal(&rt, receive(&mut core), Err(TryRecvError::Closed));
 }
 
 #[test]
 fn a_closed_channel_takes_nothing(rt: HostRuntime) {
     let mut core: Core<u64> = Core::bounded(rt.alloc(), 2);
     assert!(rt; close(&mut core));
-    assert_eq!(rt; send(&mut core, 4, 4), Err(TrySendError::Closed((4, 4))));
-    assert_eq!(rt; receive(&mut core), Err(TryRecvError::Closed));
+    expect_equal(
+        &rt,
+        send(&mut core, 4, 4),
+        Err(TrySendError::Closed((4, 4))),
+    );
+    expect_equal(&rt, receive(&mut core), Err(TryRecvError::Closed));
     assert!(rt; !close(&mut core));
 }
 
@@ -70,17 +79,23 @@ fn a_greater_priority_is_refused_all_the_same(rt: HostRuntime) -> Result<(), All
 #[test]
 fn tells_its_capacity(rt: HostRuntime) {
     for capacity in 1..10u64 {
-        assert_eq!(rt;
+        expect_equal(
+            &rt,
             Core::<()>::bounded(rt.alloc(), capacity).capacity(),
-            Some(capacity)
+            Some(capacity),
         );
     }
-    assert_eq!(rt; Core::<()>::bounded(rt.alloc(), u64::MAX).capacity(), None);
-    assert_eq!(rt;
-        Core::<()>::bounded(rt.alloc(), 1 << 63).capacity(),
-        Some(9223372036854775808)
+    expect_equal(
+        &rt,
+        Core::<()>::bounded(rt.alloc(), u64::MAX).capacity(),
+        None,
     );
-    assert_eq!(rt; Core::<()>::unbounded(rt.alloc()).capacity(), None);
+    expect_equal(
+        &rt,
+        Core::<()>::bounded(rt.alloc(), 1 << 63).capacity(),
+        Some(9223372036854775808),
+    );
+    expect_equal(&rt, Core::<()>::unbounded(rt.alloc()).capacity(), None);
 }
 
 fn looks(core: &Core<()>) -> (u64, bool, bool) {
@@ -90,13 +105,13 @@ fn looks(core: &Core<()>) -> (u64, bool, bool) {
 #[test]
 fn tells_how_full_it_is(rt: HostRuntime) {
     let mut core: Core<()> = Core::bounded(rt.alloc(), 2);
-    assert_eq!(rt; looks(&core), (0, true, false));
-    assert_eq!(rt; send(&mut core, (), 0), Ok(()));
-    assert_eq!(rt; looks(&core), (1, false, false));
-    assert_eq!(rt; send(&mut core, (), 0), Ok(()));
-    assert_eq!(rt; looks(&core), (2, false, true));
-    assert_eq!(rt; receive(&mut core), Ok(((), 0)));
-    assert_eq!(rt; looks(&core), (1, false, false));
+    expect_equal(&rt, looks(&core), (0, true, false));
+    expect_equal(&rt, send(&mut core, (), 0), Ok(()));
+    expect_equal(&rt, looks(&core), (1, false, false));
+    expect_equal(&rt, send(&mut core, (), 0), Ok(()));
+    expect_equal(&rt, looks(&core), (2, false, true));
+    expect_equal(&rt, receive(&mut core), Ok(((), 0)));
+    expect_equal(&rt, looks(&core), (1, false, false));
     assert!(rt; !core.is_closed());
     assert!(rt; close(&mut core));
     assert!(rt; core.is_closed());
@@ -106,10 +121,10 @@ fn tells_how_full_it_is(rt: HostRuntime) {
 fn equal_priorities_come_out_in_the_order_of_acceptance(rt: HostRuntime) {
     let mut core: Core<&str> = Core::unbounded(rt.alloc());
     for (msg, priority) in [("a", 1), ("b", 1), ("c", 2), ("d", 1)] {
-        assert_eq!(rt; send(&mut core, msg, priority), Ok(()));
+        expect_equal(&rt, send(&mut core, msg, priority), Ok(()));
     }
     for (msg, priority) in [("c", 2), ("a", 1), ("b", 1), ("d", 1)] {
-        assert_eq!(rt; receive(&mut core), Ok((msg, priority)));
+        expect_equal(&rt, receive(&mut core), Ok((msg, priority)));
     }
 }
 
@@ -117,13 +132,13 @@ fn equal_priorities_come_out_in_the_order_of_acceptance(rt: HostRuntime) {
 #[test]
 fn the_order_of_acceptance_holds_across_receives(rt: HostRuntime) {
     let mut core: Core<&str> = Core::bounded(rt.alloc(), 3);
-    assert_eq!(rt; send(&mut core, "a", 0), Ok(()));
-    assert_eq!(rt; send(&mut core, "b", 0), Ok(()));
-    assert_eq!(rt; receive(&mut core), Ok(("a", 0)));
-    assert_eq!(rt; send(&mut core, "c", 0), Ok(()));
-    assert_eq!(rt; send(&mut core, "d", 0), Ok(()));
+    expect_equal(&rt, send(&mut core, "a", 0), Ok(()));
+    expect_equal(&rt, send(&mut core, "b", 0), Ok(()));
+    expect_equal(&rt, receive(&mut core), Ok(("a", 0)));
+    expect_equal(&rt, send(&mut core, "c", 0), Ok(()));
+    expect_equal(&rt, send(&mut core, "d", 0), Ok(()));
     for msg in ["b", "c", "d"] {
-        assert_eq!(rt; receive(&mut core), Ok((msg, 0)));
+        expect_equal(&rt, receive(&mut core), Ok((msg, 0)));
     }
 }
 
@@ -177,11 +192,11 @@ fn answers_as_a_scanned_list(rt: HostRuntime) -> Result<(), AllocError> {
     for i in 1..=2000u64 {
         x = x.wrapping_mul(1103515245).wrapping_add(12345) % (1 << 31);
         if (x / 65536) % 3 == 0 {
-            assert_eq!(rt; receive(&mut core), list.try_recv(), "call {i}");
+            expect_equal_at(&rt, i, receive(&mut core), list.try_recv());
         } else {
             let reply = send(&mut core, i, x);
             full = full.wrapping_add(reply.is_err() as u64);
-            assert_eq!(rt; reply, list.try_send(i, x)?, "call {i}");
+            expect_equal_at(&rt, i, reply, list.try_send(i, x)?);
         }
     }
     assert!(rt; full > 0);

@@ -1,4 +1,5 @@
 //! The word counts up to bit 63 beside its closed bit.
+use super::expect_equal;
 use crate::tests::{hands_out_nobody, spend};
 use priority_channel_core::awaitable_atomics::AwaitableAtomicCounterAndBit;
 use priority_channel_core::comparisons::Comparisons;
@@ -15,16 +16,16 @@ fn set_bit(word: &mut Word) -> bool {
 fn counts_beside_the_bit(rt: HostRuntime) {
     let mut word = Word::new(rt.alloc(), 5);
     assert!(rt; !set_bit(&mut word));
-    assert_eq!(rt; word.load(), (true, 5));
+    expect_equal(&rt, word.load(), (true, 5));
     let (before, wakes) = word.incr(2);
-    assert_eq!(rt; before, (true, 5));
+    expect_equal(&rt, before, (true, 5));
     assert!(rt; hands_out_nobody(wakes));
-    assert_eq!(rt; word.load(), (true, 7));
+    expect_equal(&rt, word.load(), (true, 7));
     let (before, wakes) = word.decr();
-    assert_eq!(rt; before, (true, 7));
+    expect_equal(&rt, before, (true, 7));
     assert!(rt; hands_out_nobody(wakes));
     let (before, wakes) = word.incr(0);
-    assert_eq!(rt; before, (true, 6));
+    expect_equal(&rt, before, (true, 6));
     assert!(rt; hands_out_nobody(wakes));
     assert!(rt; set_bit(&mut word));
 }
@@ -32,14 +33,14 @@ fn counts_beside_the_bit(rt: HostRuntime) {
 #[test]
 fn counts_up_to_bit_63(rt: HostRuntime) {
     let mut word = Word::new(rt.alloc(), 9223372036854775807);
-    assert_eq!(rt; word.load(), (false, 9223372036854775807));
+    expect_equal(&rt, word.load(), (false, 9223372036854775807));
     let (before, wakes) = word.decr();
-    assert_eq!(rt; before, (false, 9223372036854775807));
+    expect_equal(&rt, before, (false, 9223372036854775807));
     assert!(rt; hands_out_nobody(wakes));
-    assert_eq!(rt; word.load(), (false, 9223372036854775806));
+    expect_equal(&rt, word.load(), (false, 9223372036854775806));
 }
 
 #[test]
 fn counts_comparisons_at_no_cost(rt: HostRuntime) {
-    assert_eq!(rt; std::mem::size_of::<Comparisons>(), 0);
+    expect_equal(&rt, std::mem::size_of::<Comparisons>(), 0);
 }

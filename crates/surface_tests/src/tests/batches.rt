@@ -1,4 +1,5 @@
 //! Many messages in one receive.
+use super::{expect_equal, expect_equal_at};
 use async_priority_channel::{RecvError, RecvFault, Sender, TryRecvManyError, bounded, unbounded};
 use futures::executor::block_on;
 use futures::task::Poll;
@@ -34,20 +35,17 @@ fn a_batch_is_as_long_as_its_limit_or_as_there_are(rt: HostRuntime) -> Result<()
         let (tx, rx) = unbounded(&rt, rt.alloc())?;
         assert!(rt; send_all(&tx, &[3, 1, 7, 2]));
         let mut batch = Vec::new(rt.alloc());
-        assert_eq!(rt;
+        expect_equal_at(
+            &rt,
+            limit,
             rx.try_recv_many(&mut batch, limit),
             Ok(want.len()),
-            "at {limit}"
         );
         assert!(rt;
             batch.iter().map(|pair| pair.0).eq(want.iter().copied()),
             "at {limit}"
         );
-        assert_eq!(rt;
-            rx.len(),
-            4u64.wrapping_sub(want.len() as u64),
-            "at {limit}"
-        );
+        expect_equal_at(&rt, limit, rx.len(), 4u64.wrapping_sub(want.len() as u64));
     }
     Ok(())
 }
@@ -57,13 +55,13 @@ fn a_batch_comes_behind_what_was_there(rt: HostRuntime) -> Result<(), Fail> {
     let (tx, rx) = unbounded(&rt, rt.alloc())?;
     let mut batch = vec![in rt.alloc(); (9u64, 9u64)]?;
     assert!(rt; send_all(&tx, &[1, 2]));
-    assert_eq!(rt; rx.try_recv_many(&mut batch, 8), Ok(2));
+    expect_equal(&rt, rx.try_recv_many(&mut batch, 8), Ok(2));
     assert!(rt; send_all(&tx, &[5]));
-    assert_eq!(rt; rx.recv_many_blocking(&mut batch, 8), Ok(1));
+    expect_equal(&rt, rx.recv_many_blocking(&mut batch, 8), Ok(1));
     assert!(rt; send_all(&tx, &[4, 6]));
-    assert_eq!(rt; block_on(&rt, rx.recv_many(&mut batch, 8))?, Ok(2));
+    expect_equal(&rt, block_on(&rt, rx.recv_many(&mut batch, 8))?, Ok(2));
     let want = [(9, 9), (2, 2), (1, 1), (5, 5), (6, 6), (4, 4)];
-    assert_eq!(rt; batch.as_slice(), want.as_slice());
+    expect_equal(&rt, batch.as_slice(), want.as_slice());
     Ok(())
 }
 
@@ -73,12 +71,13 @@ fn what_is_pending_in_a_closed_channel_comes(rt: HostRuntime) -> Result<(), Fail
     assert!(rt; send_all(&tx, &[3, 1, 7]));
     drop(tx);
     let mut batch = Vec::new(rt.alloc());
-    assert_eq!(rt; rx.recv_many_blocking(&mut batch, 2), Ok(2));
-    assert_eq!(rt; block_on(&rt, rx.recv_many(&mut batch, 2))?, Ok(1));
-    assert_eq!(rt; batch.as_slice(), [(7, 7), (3, 3), (1, 1)].as_slice());
-    assert_eq!(rt;
+    expect_equal(&rt, rx.recv_many_blocking(&mut batch, 2), Ok(2));
+    expect_equal(&rt, block_on(&rt, rx.recv_many(&mut batch, 2))?, Ok(1));
+    expect_equal(&rt, batch.as_slice(), [(7, 7), (3, 3), (1, 1)].as_slice());
+    expect_equal(
+        &rt,
         rx.try_recv_many(&mut batch, 2),
-        Err(TryRecvManyError::Closed)
+        Err(TryRecvManyError::Closed),
     );
     Ok(())
 }
@@ -92,7 +91,7 @@ fn a_close_ends_the_wait_for_a_batch(rt: HostRuntime) -> Result<(), Fail> {
     })?;
     let_others_wait(&rt);
     drop(tx);
-    assert_eq!(rt; receiving.join(&rt), Err(RecvFault::Closed(RecvError)));
+    expect_equal(&rt, receiving.join(&rt), Err(RecvFault::Closed(RecvError)));
     Ok(())
 }
 
@@ -107,14 +106,15 @@ fn a_batch_wakes_all_who_wait_for_room(rt: HostRuntime) -> Result<(), Fail> {
     }
     let_others_wait(&rt);
     let mut batch = Vec::new(rt.alloc());
-    assert_eq!(rt; rx.try_recv_many(&mut batch, 2), Ok(2));
+    expect_equal(&rt, rx.try_recv_many(&mut batch, 2), Ok(2));
     for thread in sending {
-        assert_eq!(rt; thread.join(&rt), Ok(()));
+        expect_equal(&rt, thread.join(&rt), Ok(()));
     }
-    assert_eq!(rt; rx.try_recv_many(&mut batch, 2), Ok(2));
-    assert_eq!(rt;
+    expect_equal(&rt, rx.try_recv_many(&mut batch, 2), Ok(2));
+    expect_equal(
+        &rt,
         batch.as_slice(),
-        [(2, 2), (1, 1), (4, 4), (3, 3)].as_slice()
+        [(2, 2), (1, 1), (4, 4), (3, 3)].as_slice(),
     );
     Ok(())
 }
@@ -129,8 +129,8 @@ fn a_dropped_batch_takes_nothing(rt: HostRuntime) -> Result<(), Fail> {
     drop(receiving);
     assert!(rt; send_all(&tx, &[1, 2]));
     assert!(rt; batch.is_empty());
-    assert_eq!(rt; rx.len(), 2);
-    assert_eq!(rt; rx.recv_many_blocking(&mut batch, 3), Ok(2));
+    expect_equal(&rt, rx.len(), 2);
+    expect_equal(&rt, rx.recv_many_blocking(&mut batch, 3), Ok(2));
     Ok(())
 }
 
@@ -139,15 +139,16 @@ fn an_open_channel_with_nothing_gives_no_batch(rt: HostRuntime) -> Result<(), Fa
     let (tx, rx) = unbounded::<u64, u64, _, _>(&rt, rt.alloc())?;
     let mut batch = Vec::new(rt.alloc());
     for limit in [0usize, 1, 5] {
-        assert_eq!(rt;
+        expect_equal_at(
+            &rt,
+            limit,
             rx.try_recv_many(&mut batch, limit),
             Err(TryRecvManyError::Empty),
-            "at {limit}"
         );
     }
     // Of none there is nothing to wait for.
-    assert_eq!(rt; rx.recv_many_blocking(&mut batch, 0), Ok(0));
-    assert_eq!(rt; block_on(&rt, rx.recv_many(&mut batch, 0))?, Ok(0));
+    expect_equal(&rt, rx.recv_many_blocking(&mut batch, 0), Ok(0));
+    expect_equal(&rt, block_on(&rt, rx.recv_many(&mut batch, 0))?, Ok(0));
     assert!(rt; batch.is_empty());
     assert!(rt; !tx.is_closed());
     Ok(())
@@ -160,11 +161,11 @@ fn a_closed_channel_with_nothing_gives_no_batch(rt: HostRuntime) -> Result<(), F
     let mut batch = Vec::new(rt.alloc());
     for limit in [0usize, 1, 5] {
         let tried = rx.try_recv_many(&mut batch, limit);
-        assert_eq!(rt; tried, Err(TryRecvManyError::Closed), "at {limit}");
+        expect_equal_at(&rt, limit, tried, Err(TryRecvManyError::Closed));
         let received = rx.recv_many_blocking(&mut batch, limit);
-        assert_eq!(rt; received, Err(RecvFault::Closed(RecvError)), "at {limit}");
+        expect_equal_at(&rt, limit, received, Err(RecvFault::Closed(RecvError)));
         let received = block_on(&rt, rx.recv_many(&mut batch, limit))?;
-        assert_eq!(rt; received, Err(RecvFault::Closed(RecvError)), "at {limit}");
+        expect_equal_at(&rt, limit, received, Err(RecvFault::Closed(RecvError)));
     }
     assert!(rt; batch.is_empty());
     Ok(())
@@ -186,10 +187,10 @@ fn a_thread_waits_for_the_first_of_a_batch(rt: HostRuntime) -> Result<(), Fail> 
     let (received, mut batch, rx) = receiving.join(&rt);
     let count = received?;
     assert!(rt; matches!(count, 1 | 2), "{count}");
-    assert_eq!(rt; batch.len(), count);
+    expect_equal(&rt, batch.len(), count);
     let late = rx.try_recv_many(&mut batch, 4).unwrap_or(0);
-    assert_eq!(rt; count.wrapping_add(late), 2);
-    assert_eq!(rt; batch.as_slice(), [(2, 2), (1, 1)].as_slice());
+    expect_equal(&rt, count.wrapping_add(late), 2);
+    expect_equal(&rt, batch.as_slice(), [(2, 2), (1, 1)].as_slice());
     Ok(())
 }
 
@@ -206,10 +207,10 @@ fn a_task_waits_for_the_first_of_a_batch(rt: HostRuntime) -> Result<(), Fail> {
     let (received, mut batch, rx) = receiving.join(&rt);
     let count = received??;
     assert!(rt; matches!(count, 1 | 2), "{count}");
-    assert_eq!(rt; batch.len(), count);
+    expect_equal(&rt, batch.len(), count);
     let late = rx.try_recv_many(&mut batch, 4).unwrap_or(0);
-    assert_eq!(rt; count.wrapping_add(late), 2);
-    assert_eq!(rt; batch.as_slice(), [(2, 2), (1, 1)].as_slice());
+    expect_equal(&rt, count.wrapping_add(late), 2);
+    expect_equal(&rt, batch.as_slice(), [(2, 2), (1, 1)].as_slice());
     Ok(())
 }
 
@@ -229,8 +230,8 @@ fn a_thread_that_waits_gets_all_of_one_step(rt: HostRuntime) -> Result<(), Fail>
             .is_ok()
     );
     let (received, batch) = receiving.join(&rt);
-    assert_eq!(rt; received, Ok(2));
-    assert_eq!(rt; batch.as_slice(), [(2, 2), (1, 1)].as_slice());
+    expect_equal(&rt, received, Ok(2));
+    expect_equal(&rt, batch.as_slice(), [(2, 2), (1, 1)].as_slice());
     Ok(())
 }
 
@@ -248,8 +249,8 @@ fn a_task_that_waits_gets_all_of_one_step(rt: HostRuntime) -> Result<(), Fail> {
             .is_ok()
     );
     let (received, batch) = receiving.join(&rt);
-    assert_eq!(rt; received?, Ok(2));
-    assert_eq!(rt; batch.as_slice(), [(2, 2), (1, 1)].as_slice());
+    expect_equal(&rt, received?, Ok(2));
+    expect_equal(&rt, batch.as_slice(), [(2, 2), (1, 1)].as_slice());
     Ok(())
 }
 
@@ -261,13 +262,14 @@ fn without_place_a_batch_takes_nothing(rt: HostRuntime) -> Result<(), Fail> {
     let mut batch = Vec::with_capacity(&alloc, 1)?;
     batch.push((9u64, 9u64))?;
     alloc.refuse_all();
-    assert_eq!(rt;
+    expect_equal(
+        &rt,
         rx.try_recv_many(&mut batch, 3),
-        Err(TryRecvManyError::Memory)
+        Err(TryRecvManyError::Memory),
     );
-    assert_eq!(rt; rx.try_recv_many(&mut batch, 0), Ok(0));
-    assert_eq!(rt; batch.as_slice(), [(9, 9)].as_slice());
-    assert_eq!(rt; rx.len(), 3);
+    expect_equal(&rt, rx.try_recv_many(&mut batch, 0), Ok(0));
+    expect_equal(&rt, batch.as_slice(), [(9, 9)].as_slice());
+    expect_equal(&rt, rx.len(), 3);
     Ok(())
 }
 
@@ -278,9 +280,9 @@ fn a_batch_takes_what_there_is_place_for(rt: HostRuntime) -> Result<(), Fail> {
     assert!(rt; send_all(&tx, &[3, 1, 7]));
     let mut batch = Vec::with_capacity(&alloc, 2)?;
     alloc.refuse_all();
-    assert_eq!(rt; rx.try_recv_many(&mut batch, 3), Ok(2));
-    assert_eq!(rt; batch.as_slice(), [(7, 7), (3, 3)].as_slice());
-    assert_eq!(rt; rx.try_recv(), Ok((1, 1)));
+    expect_equal(&rt, rx.try_recv_many(&mut batch, 3), Ok(2));
+    expect_equal(&rt, batch.as_slice(), [(7, 7), (3, 3)].as_slice());
+    expect_equal(&rt, rx.try_recv(), Ok((1, 1)));
     assert!(rt; rx.is_empty());
     Ok(())
 }

@@ -1,4 +1,5 @@
 //! Guards that close their channel, however their scope is left.
+use super::{expect_equal, expect_equal_at};
 use async_priority_channel::{
     Receiver, RecvError, RecvFault, SendError, SendFault, Sender, TryRecvError, TrySendError,
     bounded, unbounded,
@@ -19,16 +20,20 @@ fn a_senders_guard_closes_as_it_is_dropped(rt: HostRuntime) -> Result<(), Fail> 
     let other = tx.clone()?;
     let guard = tx.close_on_drop();
     assert!(rt; !rx.is_closed());
-    assert_eq!(rt; tx.try_send("x", 1u64), Ok(()));
-    assert_eq!(rt; other.try_send("y", 2), Ok(()));
+    expect_equal(&rt, tx.try_send("x", 1u64), Ok(()));
+    expect_equal(&rt, other.try_send("y", 2), Ok(()));
     drop(guard);
     assert!(rt; rx.is_closed());
-    assert_eq!(rt; other.try_send("z", 3), Err(TrySendError::Closed(("z", 3))));
+    expect_equal(
+        &rt,
+        other.try_send("z", 3),
+        Err(TrySendError::Closed(("z", 3))),
+    );
     // The guard is no sender, and took none with it.
-    assert_eq!(rt; rx.sender_count(), 2);
-    assert_eq!(rt; rx.try_recv(), Ok(("y", 2)));
-    assert_eq!(rt; rx.try_recv(), Ok(("x", 1)));
-    assert_eq!(rt; rx.try_recv(), Err(TryRecvError::Closed));
+    expect_equal(&rt, rx.sender_count(), 2);
+    expect_equal(&rt, rx.try_recv(), Ok(("y", 2)));
+    expect_equal(&rt, rx.try_recv(), Ok(("x", 1)));
+    expect_equal(&rt, rx.try_recv(), Err(TryRecvError::Closed));
     Ok(())
 }
 
@@ -38,17 +43,21 @@ fn a_receivers_guard_closes_as_it_is_dropped(rt: HostRuntime) -> Result<(), Fail
     let other = rx.clone()?;
     let guard = rx.close_on_drop();
     assert!(rt; !tx.is_closed());
-    assert_eq!(rt; tx.try_send("x", 1u64), Ok(()));
-    assert_eq!(rt; tx.try_send("y", 2), Ok(()));
+    expect_equal(&rt, tx.try_send("x", 1u64), Ok(()));
+    expect_equal(&rt, tx.try_send("y", 2), Ok(()));
     drop(guard);
     assert!(rt; tx.is_closed());
-    assert_eq!(rt; tx.try_send("z", 3), Err(TrySendError::Closed(("z", 3))));
-    assert_eq!(rt; tx.receiver_count(), 2);
+    expect_equal(
+        &rt,
+        tx.try_send("z", 3),
+        Err(TrySendError::Closed(("z", 3))),
+    );
+    expect_equal(&rt, tx.receiver_count(), 2);
     // What is pending goes with the last receiver, and not before.
-    assert_eq!(rt; rx.try_recv(), Ok(("y", 2)));
+    expect_equal(&rt, rx.try_recv(), Ok(("y", 2)));
     drop(rx);
-    assert_eq!(rt; other.try_recv(), Ok(("x", 1)));
-    assert_eq!(rt; other.try_recv(), Err(TryRecvError::Closed));
+    expect_equal(&rt, other.try_recv(), Ok(("x", 1)));
+    expect_equal(&rt, other.try_recv(), Err(TryRecvError::Closed));
     Ok(())
 }
 
@@ -58,9 +67,9 @@ fn nothing_closes_while_a_guard_lives(rt: HostRuntime) -> Result<(), Fail> {
     let _sending = tx.close_on_drop();
     let _receiving = rx.close_on_drop();
     for i in 0..10u64 {
-        assert_eq!(rt; tx.try_send(i, i), Ok(()));
-        assert_eq!(rt; rx.try_recv(), Ok((i, i)));
-        assert_eq!(rt; rx.try_recv(), Err(TryRecvError::Empty));
+        expect_equal(&rt, tx.try_send(i, i), Ok(()));
+        expect_equal(&rt, rx.try_recv(), Ok((i, i)));
+        expect_equal(&rt, rx.try_recv(), Err(TryRecvError::Empty));
     }
     assert!(rt; !tx.is_closed() && !rx.is_closed());
     Ok(())
@@ -82,9 +91,9 @@ fn an_error_closes_as_the_end_does(rt: HostRuntime) -> Result<(), Fail> {
     let rows = [(0, Ok(0)), (2, Ok(7)), (3, Err(TryRecvError::Empty))];
     for (count, want) in rows {
         let (tx, rx) = bounded(&rt, rt.alloc(), 2)?;
-        assert_eq!(rt; tx.try_send(3, 1u64), Ok(()));
-        assert_eq!(rt; tx.try_send(4, 2), Ok(()));
-        assert_eq!(rt; take(&rx, count), want, "at {count}");
+        expect_equal(&rt, tx.try_send(3, 1u64), Ok(()));
+        expect_equal(&rt, tx.try_send(4, 2), Ok(()));
+        expect_equal_at(&rt, count, take(&rx, count), want);
         assert!(rt; tx.is_closed(), "at {count}");
     }
     Ok(())
@@ -105,9 +114,9 @@ fn fill<R: Wait + Clone>(tx: &Sender<u64, u64, R>, count: u64) -> Option<u64> {
 fn a_return_closes_as_the_end_does(rt: HostRuntime) -> Result<(), Fail> {
     for (count, want, last) in [(2u64, None, 1u64), (3, None, 2), (9, Some(3), 2)] {
         let (tx, rx) = bounded(&rt, rt.alloc(), 3)?;
-        assert_eq!(rt; fill(&tx, count), want, "at {count}");
+        expect_equal_at(&rt, count, fill(&tx, count), want);
         assert!(rt; tx.is_closed(), "at {count}");
-        assert_eq!(rt; rx.try_recv(), Ok((last, last)), "at {count}");
+        expect_equal_at(&rt, count, rx.try_recv(), Ok((last, last)));
     }
     Ok(())
 }
@@ -125,14 +134,14 @@ fn what_is_pending_goes_with_the_last_receiver(rt: HostRuntime) -> Result<(), Fa
     assert!(rt; tx.try_send(answer, 3).is_ok());
     let other = rx.clone()?;
     drop(rx.close_on_drop());
-    assert_eq!(rt; answers.sender_count(), 4);
+    expect_equal(&rt, answers.sender_count(), 4);
     drop(rx);
-    assert_eq!(rt; answers.sender_count(), 4);
-    assert_eq!(rt; answers.try_recv(), Err(TryRecvError::Empty));
+    expect_equal(&rt, answers.sender_count(), 4);
+    expect_equal(&rt, answers.try_recv(), Err(TryRecvError::Empty));
     drop(other);
-    assert_eq!(rt; answers.sender_count(), 0);
-    assert_eq!(rt; answers.try_recv(), Err(TryRecvError::Closed));
-    assert_eq!(rt; (tx.len(), tx.receiver_count()), (0, 0));
+    expect_equal(&rt, answers.sender_count(), 0);
+    expect_equal(&rt, answers.try_recv(), Err(TryRecvError::Closed));
+    expect_equal(&rt, (tx.len(), tx.receiver_count()), (0, 0));
     Ok(())
 }
 
@@ -146,11 +155,11 @@ fn what_was_received_does_not_go(rt: HostRuntime) -> Result<(), Fail> {
     drop(answer);
     drop(rx.close_on_drop());
     let (taken, priority) = rx.try_recv()?;
-    assert_eq!(rt; priority, 2);
+    expect_equal(&rt, priority, 2);
     drop(rx);
-    assert_eq!(rt; answers.sender_count(), 1);
-    assert_eq!(rt; taken.try_send("x", 1u64), Ok(()));
-    assert_eq!(rt; answers.try_recv(), Ok(("x", 1)));
+    expect_equal(&rt, answers.sender_count(), 1);
+    expect_equal(&rt, taken.try_send("x", 1u64), Ok(()));
+    expect_equal(&rt, answers.try_recv(), Ok(("x", 1)));
     assert!(rt; !tx.close());
     Ok(())
 }
@@ -167,15 +176,11 @@ fn without_a_guard_what_is_pending_stays(rt: HostRuntime) -> Result<(), Fail> {
         }
         drop(rx);
         assert!(rt; tx.is_closed());
-        assert_eq!(rt;
-            (tx.len(), answers.sender_count()),
-            (1, 1),
-            "at {has_guard}"
-        );
-        assert_eq!(rt; answers.try_recv(), Err(TryRecvError::Empty));
+        expect_equal_at(&rt, has_guard, (tx.len(), answers.sender_count()), (1, 1));
+        expect_equal(&rt, answers.try_recv(), Err(TryRecvError::Empty));
         drop(tx);
-        assert_eq!(rt; answers.sender_count(), 0, "at {has_guard}");
-        assert_eq!(rt; answers.try_recv(), Err(TryRecvError::Closed));
+        expect_equal_at(&rt, has_guard, answers.sender_count(), 0);
+        expect_equal(&rt, answers.try_recv(), Err(TryRecvError::Closed));
     }
     Ok(())
 }
@@ -203,9 +208,9 @@ fn what_goes_is_dropped_outside_the_lock(rt: HostRuntime) -> Result<(), Fail> {
     assert!(rt; tx.try_send(Gate { begun, may_end }, 1u64).is_ok());
     drop(rx.close_on_drop());
     let dropping = thread::spawn(&rt, move || drop(rx))?;
-    assert_eq!(rt; begins.recv_blocking(), Ok(((), ())));
-    assert_eq!(rt; (tx.len(), tx.receiver_count()), (0, 0));
-    assert_eq!(rt; end.try_send((), ()), Ok(()));
+    expect_equal(&rt, begins.recv_blocking(), Ok(((), ())));
+    expect_equal(&rt, (tx.len(), tx.receiver_count()), (0, 0));
+    expect_equal(&rt, end.try_send((), ()), Ok(()));
     dropping.join(&rt);
     Ok(())
 }
@@ -237,10 +242,10 @@ fn who_waits_for_an_answer_learns_that_none_comes(rt: HostRuntime) -> Result<(),
     }
     let_others_wait(&rt);
     let serving = thread::spawn(&rt, move || serve(&requests, 1))?;
-    assert_eq!(rt; serving.join(&rt), Err(RecvFault::Memory));
+    expect_equal(&rt, serving.join(&rt), Err(RecvFault::Memory));
     let mut want = Ok((0, 0));
     for thread in asking {
-        assert_eq!(rt; thread.join(&rt), want);
+        expect_equal(&rt, thread.join(&rt), want);
         // The others were not answered.
         want = Err(RecvFault::Closed(RecvError));
     }
@@ -253,13 +258,13 @@ fn who_waits_for_an_answer_learns_that_none_comes(rt: HostRuntime) -> Result<(),
 #[test]
 fn a_receivers_guard_wakes_who_waits_for_room(rt: HostRuntime) -> Result<(), Fail> {
     let (tx, rx) = bounded(&rt, rt.alloc(), 1)?;
-    assert_eq!(rt; tx.try_send(1u64, 1u64), Ok(()));
+    expect_equal(&rt, tx.try_send(1u64, 1u64), Ok(()));
     let guard = rx.close_on_drop();
     let sending = thread::spawn(&rt, move || tx.send_blocking(2, 2))?;
     let_others_wait(&rt);
     drop(guard);
     let unsent = SendFault::Closed(SendError((2, 2)));
-    assert_eq!(rt; sending.join(&rt), Err(unsent));
+    expect_equal(&rt, sending.join(&rt), Err(unsent));
     Ok(())
 }
 
@@ -270,6 +275,6 @@ fn a_senders_guard_wakes_who_waits_for_a_message(rt: HostRuntime) -> Result<(), 
     let receiving = thread::spawn(&rt, move || rx.recv_blocking())?;
     let_others_wait(&rt);
     drop(guard);
-    assert_eq!(rt; receiving.join(&rt), Err(RecvFault::Closed(RecvError)));
+    expect_equal(&rt, receiving.join(&rt), Err(RecvFault::Closed(RecvError)));
     Ok(())
 }

@@ -1,4 +1,5 @@
 //! Handles that go through a channel as messages.
+use super::expect_equal;
 use async_priority_channel::{
     Receiver, RecvError, Sender, TryRecvError, TrySendError, bounded, unbounded,
 };
@@ -17,15 +18,15 @@ struct Request<R: Wait + Clone> {
 fn a_channel_goes_through_a_channel(rt: HostRuntime) -> Result<(), Fail> {
     let (outer_tx, outer_rx) = bounded(&rt, rt.alloc(), 2)?;
     let (tx, rx) = unbounded(&rt, rt.alloc())?;
-    assert_eq!(rt; tx.try_send("early", 1u64), Ok(()));
+    expect_equal(&rt, tx.try_send("early", 1u64), Ok(()));
     assert!(rt; outer_tx.try_send(rx, 5u64).is_ok());
     // What is pending in it stays, and more can be sent meanwhile.
-    assert_eq!(rt; tx.try_send("late", 2), Ok(()));
-    assert_eq!(rt; (tx.receiver_count(), tx.is_closed()), (1, false));
+    expect_equal(&rt, tx.try_send("late", 2), Ok(()));
+    expect_equal(&rt, (tx.receiver_count(), tx.is_closed()), (1, false));
     let (rx, priority) = outer_rx.try_recv()?;
-    assert_eq!(rt; priority, 5);
-    assert_eq!(rt; rx.try_recv(), Ok(("late", 2)));
-    assert_eq!(rt; rx.try_recv(), Ok(("early", 1)));
+    expect_equal(&rt, priority, 5);
+    expect_equal(&rt, rx.try_recv(), Ok(("late", 2)));
+    expect_equal(&rt, rx.try_recv(), Ok(("early", 1)));
     drop(rx);
     assert!(rt; tx.is_closed() && !outer_tx.is_closed());
     Ok(())
@@ -50,15 +51,15 @@ fn a_reply_comes_by_the_sender_in_its_request(rt: HostRuntime) -> Result<(), Fai
         };
         assert!(rt; requests_tx.try_send(request, number).is_ok());
     }
-    assert_eq!(rt; replies.sender_count(), 4);
+    expect_equal(&rt, replies.sender_count(), 4);
     drop((reply, requests_tx));
     let worker = thread::spawn(&rt, move || answer_all(&requests))?;
     worker.join(&rt);
-    assert_eq!(rt; replies.sender_count(), 0);
+    expect_equal(&rt, replies.sender_count(), 0);
     for wanted in [(25, 5), (16, 4), (9, 3)] {
-        assert_eq!(rt; replies.try_recv(), Ok(wanted));
+        expect_equal(&rt, replies.try_recv(), Ok(wanted));
     }
-    assert_eq!(rt; replies.try_recv(), Err(TryRecvError::Closed));
+    expect_equal(&rt, replies.try_recv(), Err(TryRecvError::Closed));
     Ok(())
 }
 
@@ -69,11 +70,11 @@ fn a_pending_receiver_goes_with_the_last_handle(rt: HostRuntime) -> Result<(), F
     assert!(rt; outer_tx.try_send(rx, 0u64).is_ok());
     drop(outer_rx);
     // The outer channel is closed, and keeps what is pending as long as there is a handle.
-    assert_eq!(rt; (outer_tx.is_closed(), tx.is_closed()), (true, false));
-    assert_eq!(rt; tx.try_send(7u64, 0u64), Ok(()));
+    expect_equal(&rt, (outer_tx.is_closed(), tx.is_closed()), (true, false));
+    expect_equal(&rt, tx.try_send(7u64, 0u64), Ok(()));
     drop(outer_tx);
     assert!(rt; tx.is_closed());
-    assert_eq!(rt; tx.try_send(8, 0), Err(TrySendError::Closed((8, 0))));
+    expect_equal(&rt, tx.try_send(8, 0), Err(TrySendError::Closed((8, 0))));
     Ok(())
 }
 
@@ -94,6 +95,6 @@ fn a_request_that_nobody_will_receive_ends_the_wait_for_its_reply(
     // The last receiver takes the request along, which held the only sender.
     drop(requests);
     assert!(rt; client.join(&rt).is_err());
-    assert_eq!(rt; requests_tx.len(), 0);
+    expect_equal(&rt, requests_tx.len(), 0);
     Ok(())
 }

@@ -1,4 +1,5 @@
 //! What a receive would give, seen and left where it is.
+use super::{expect_equal, expect_equal_at};
 use async_priority_channel::{TryRecvError, bounded, unbounded};
 use refusing::Refusing;
 use std::alloc::AllocError;
@@ -16,10 +17,10 @@ fn a_peek_shows_the_greatest_and_the_first_among_equals(rt: HostRuntime) -> Resu
         (("e", 5), ("c", 7)),
     ];
     for ((msg, priority), greatest) in rows {
-        assert_eq!(rt; tx.try_send(msg, priority), Ok(()));
+        expect_equal(&rt, tx.try_send(msg, priority), Ok(()));
         let seen = rx.peek_with(|msg, priority| (*msg, *priority));
-        assert_eq!(rt; seen, Some(greatest), "after {msg}");
-        assert_eq!(rt; rx.peek_priority(), Ok(Some(greatest.1)), "after {msg}");
+        expect_equal_at(&rt, msg, seen, Some(greatest));
+        expect_equal_at(&rt, msg, rx.peek_priority(), Ok(Some(greatest.1)));
     }
     Ok(())
 }
@@ -28,20 +29,20 @@ fn a_peek_shows_the_greatest_and_the_first_among_equals(rt: HostRuntime) -> Resu
 fn a_peek_takes_nothing(rt: HostRuntime) -> Result<(), Fail> {
     let (tx, rx) = bounded(&rt, rt.alloc(), 3)?;
     for (msg, priority) in [("a", 2), ("b", 2), ("c", 1)] {
-        assert_eq!(rt; tx.try_send(msg, priority), Ok(()));
+        expect_equal(&rt, tx.try_send(msg, priority), Ok(()));
     }
     for (left, msg, priority) in [(3, "a", 2), (2, "b", 2), (1, "c", 1)] {
         for _ in 0..3 {
             let seen = rx.peek_with(|msg, priority| (*msg, *priority));
-            assert_eq!(rt; seen, Some((msg, priority)));
-            assert_eq!(rt; rx.peek_priority(), Ok(Some(priority)));
-            assert_eq!(rt; rx.len(), left);
+            expect_equal(&rt, seen, Some((msg, priority)));
+            expect_equal(&rt, rx.peek_priority(), Ok(Some(priority)));
+            expect_equal(&rt, rx.len(), left);
         }
-        assert_eq!(rt; tx.is_full(), left == 3);
-        assert_eq!(rt; rx.try_recv(), Ok((msg, priority)));
+        expect_equal(&rt, tx.is_full(), left == 3);
+        expect_equal(&rt, rx.try_recv(), Ok((msg, priority)));
     }
-    assert_eq!(rt; rx.peek_priority(), Ok(None));
-    assert_eq!(rt; rx.try_recv(), Err(TryRecvError::Empty));
+    expect_equal(&rt, rx.peek_priority(), Ok(None));
+    expect_equal(&rt, rx.try_recv(), Err(TryRecvError::Empty));
     Ok(())
 }
 
@@ -49,11 +50,11 @@ fn a_peek_takes_nothing(rt: HostRuntime) -> Result<(), Fail> {
 fn an_empty_channel_shows_nothing(rt: HostRuntime) -> Result<(), Fail> {
     let (tx, rx) = bounded::<&str, u64, _, _>(&rt, rt.alloc(), 1)?;
     let mut is_called = false;
-    assert_eq!(rt; rx.peek_with(|_, _| is_called = true), None);
-    assert_eq!(rt; rx.peek_priority(), Ok(None));
+    expect_equal(&rt, rx.peek_with(|_, _| is_called = true), None);
+    expect_equal(&rt, rx.peek_priority(), Ok(None));
     assert!(rt; tx.close());
-    assert_eq!(rt; rx.peek_with(|_, _| is_called = true), None);
-    assert_eq!(rt; rx.peek_priority(), Ok(None));
+    expect_equal(&rt, rx.peek_with(|_, _| is_called = true), None);
+    expect_equal(&rt, rx.peek_priority(), Ok(None));
     assert!(rt; !is_called);
     Ok(())
 }
@@ -61,15 +62,15 @@ fn an_empty_channel_shows_nothing(rt: HostRuntime) -> Result<(), Fail> {
 #[test]
 fn a_closed_channel_shows_what_is_pending(rt: HostRuntime) -> Result<(), Fail> {
     let (tx, rx) = bounded(&rt, rt.alloc(), 2)?;
-    assert_eq!(rt; tx.try_send("x", 1u64), Ok(()));
-    assert_eq!(rt; tx.try_send("y", 2), Ok(()));
+    expect_equal(&rt, tx.try_send("x", 1u64), Ok(()));
+    expect_equal(&rt, tx.try_send("y", 2), Ok(()));
     drop(tx);
     assert!(rt; rx.is_closed());
-    assert_eq!(rt; rx.peek_with(|msg, _| *msg), Some("y"));
-    assert_eq!(rt; rx.peek_priority(), Ok(Some(2)));
-    assert_eq!(rt; rx.try_recv(), Ok(("y", 2)));
-    assert_eq!(rt; rx.peek_with(|msg, _| *msg), Some("x"));
-    assert_eq!(rt; rx.peek_priority(), Ok(Some(1)));
+    expect_equal(&rt, rx.peek_with(|msg, _| *msg), Some("y"));
+    expect_equal(&rt, rx.peek_priority(), Ok(Some(2)));
+    expect_equal(&rt, rx.try_recv(), Ok(("y", 2)));
+    expect_equal(&rt, rx.peek_with(|msg, _| *msg), Some("x"));
+    expect_equal(&rt, rx.peek_priority(), Ok(Some(1)));
     Ok(())
 }
 
@@ -78,11 +79,11 @@ fn a_closed_channel_shows_what_is_pending(rt: HostRuntime) -> Result<(), Fail> {
 fn a_peek_tells_what_is_due(rt: HostRuntime) -> Result<(), Fail> {
     let (tx, rx) = unbounded(&rt, rt.alloc())?;
     for due in [30u64, 10, 20] {
-        assert_eq!(rt; tx.try_send((), Reverse(due)), Ok(()));
+        expect_equal(&rt, tx.try_send((), Reverse(due)), Ok(()));
     }
     for (now, want) in [(9, false), (10, true), (11, true)] {
         let is_due = rx.peek_with(|_, due| due.0 <= now);
-        assert_eq!(rt; is_due, Some(want), "at {now}");
+        expect_equal_at(&rt, now, is_due, Some(want));
     }
     Ok(())
 }
@@ -91,10 +92,10 @@ fn a_peek_tells_what_is_due(rt: HostRuntime) -> Result<(), Fail> {
 fn a_peek_asks_for_no_memory_of_its_own(rt: HostRuntime) -> Result<(), Fail> {
     let alloc = Refusing::new(rt.alloc());
     let (tx, rx) = unbounded(&rt, &alloc)?;
-    assert_eq!(rt; tx.try_send("x", 1u64), Ok(()));
+    expect_equal(&rt, tx.try_send("x", 1u64), Ok(()));
     alloc.refuse_all();
-    assert_eq!(rt; rx.peek_with(|msg, _| *msg), Some("x"));
-    assert_eq!(rt; rx.peek_priority(), Ok(Some(1)));
+    expect_equal(&rt, rx.peek_with(|msg, _| *msg), Some("x"));
+    expect_equal(&rt, rx.peek_priority(), Ok(Some(1)));
     Ok(())
 }
 
@@ -111,12 +112,12 @@ fn a_refused_clone_of_a_priority_is_an_error(rt: HostRuntime) -> Result<(), Fail
     alloc.refuse_all();
     assert!(rt; matches!(rx.peek_priority(), Err(AllocError)));
     // To look takes none, and nothing was taken.
-    assert_eq!(rt; rx.peek_with(|msg, _| *msg), Some("high"));
-    assert_eq!(rt; rx.len(), 2);
+    expect_equal(&rt, rx.peek_with(|msg, _| *msg), Some("high"));
+    expect_equal(&rt, rx.len(), 2);
     alloc.refuse_none();
     let greatest = rx.peek_priority()?.ok_or("nothing")?;
-    assert_eq!(rt; greatest.as_slice(), [9].as_slice());
+    expect_equal(&rt, greatest.as_slice(), [9].as_slice());
     let (msg, levels) = rx.try_recv()?;
-    assert_eq!(rt; (msg, levels.as_slice()), ("high", [9].as_slice()));
+    expect_equal(&rt, (msg, levels.as_slice()), ("high", [9].as_slice()));
     Ok(())
 }

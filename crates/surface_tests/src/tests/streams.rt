@@ -1,4 +1,5 @@
 //! Messages as a stream.
+use super::{expect_equal, expect_equal_at};
 use async_priority_channel::{
     Receiver, Sender, TryRecvError, bounded, bounded_reserved, unbounded,
 };
@@ -65,7 +66,7 @@ fn a_stream_gives_the_greatest_first(rt: HostRuntime) -> Result<(), Fail> {
     assert!(rt; send_rows(&tx));
     drop(tx);
     let pairs = block_on(&rt, rx.stream().collect(rt.alloc()))??;
-    assert_eq!(rt; pairs.as_slice(), IN_ORDER.as_slice());
+    expect_equal(&rt, pairs.as_slice(), IN_ORDER.as_slice());
     Ok(())
 }
 
@@ -75,7 +76,7 @@ fn a_stream_of_its_own_gives_the_greatest_first(rt: HostRuntime) -> Result<(), F
     assert!(rt; send_rows(&tx));
     assert!(rt; tx.close());
     let pairs = block_on(&rt, rx.into_stream().collect(rt.alloc()))??;
-    assert_eq!(rt; pairs.as_slice(), IN_ORDER.as_slice());
+    expect_equal(&rt, pairs.as_slice(), IN_ORDER.as_slice());
     Ok(())
 }
 
@@ -84,9 +85,9 @@ fn some_are_taken_and_the_rest_stays(rt: HostRuntime) -> Result<(), Fail> {
     let (tx, rx) = unbounded(&rt, rt.alloc())?;
     assert!(rt; send_rows(&tx));
     let pairs = block_on(&rt, rx.stream().take(2).collect(rt.alloc()))??;
-    assert_eq!(rt; pairs.as_slice(), [("b", 3), ("c", 3)].as_slice());
-    assert_eq!(rt; rx.len(), 3);
-    assert_eq!(rt; rx.try_recv(), Ok(("e", 3)));
+    expect_equal(&rt, pairs.as_slice(), [("b", 3), ("c", 3)].as_slice());
+    expect_equal(&rt, rx.len(), 3);
+    expect_equal(&rt, rx.try_recv(), Ok(("e", 3)));
     assert!(rt; !tx.is_closed());
     Ok(())
 }
@@ -96,10 +97,10 @@ fn a_later_message_of_a_greater_priority_goes_first(rt: HostRuntime) -> Result<(
     let (tx, rx) = unbounded(&rt, rt.alloc())?;
     assert!(rt; send_rows(&tx));
     let mut stream = rx.stream();
-    assert_eq!(rt; block_on(&rt, stream.next())?, Some(("b", 3)));
-    assert_eq!(rt; tx.try_send("f", 9), Ok(()));
-    assert_eq!(rt; block_on(&rt, stream.next())?, Some(("f", 9)));
-    assert_eq!(rt; block_on(&rt, stream.next())?, Some(("c", 3)));
+    expect_equal(&rt, block_on(&rt, stream.next())?, Some(("b", 3)));
+    expect_equal(&rt, tx.try_send("f", 9), Ok(()));
+    expect_equal(&rt, block_on(&rt, stream.next())?, Some(("f", 9)));
+    expect_equal(&rt, block_on(&rt, stream.next())?, Some(("c", 3)));
     Ok(())
 }
 
@@ -109,7 +110,7 @@ fn a_stream_waits_for_another_thread(rt: HostRuntime) -> Result<(), Fail> {
     let sending = thread::spawn(&rt, move || send_numbers(&tx, 50))?;
     let pairs = block_on(&rt, rx.stream().collect(rt.alloc()))??;
     assert!(rt; sending.join(&rt));
-    assert_eq!(rt; (pairs.len(), sum(pairs.as_slice())), (50, 1225));
+    expect_equal(&rt, (pairs.len(), sum(pairs.as_slice())), (50, 1225));
     Ok(())
 }
 
@@ -120,7 +121,7 @@ fn a_stream_in_another_thread_takes_all(rt: HostRuntime) -> Result<(), Fail> {
     let counting = thread::spawn(&rt, move || block_on(&rt, stream.count()))?;
     assert!(rt; send_numbers(&tx, 50));
     drop(tx);
-    assert_eq!(rt; counting.join(&rt)?, 50);
+    expect_equal(&rt, counting.join(&rt)?, 50);
     Ok(())
 }
 
@@ -139,7 +140,7 @@ fn streams_of_many_threads_take_all(rt: HostRuntime) -> Result<(), Fail> {
     for thread in counting {
         count = count.wrapping_add(thread.join(&rt)?);
     }
-    assert_eq!(rt; count, 400);
+    expect_equal(&rt, count, 400);
     Ok(())
 }
 
@@ -148,22 +149,31 @@ fn a_stream_ends_for_good(rt: HostRuntime) -> Result<(), Fail> {
     let (tx, rx) = bounded(&rt, rt.alloc(), 2)?;
     let task = MockTask::new(&rt)?;
     let mut stream = rx.stream();
-    assert_eq!(rt; tx.try_send("x", 1u64), Ok(()));
+    expect_equal(&rt, tx.try_send("x", 1u64), Ok(()));
     assert!(rt; tx.close());
     // Closed it still gives what is pending.
-    assert_eq!(rt;
+    expect_equal(
+        &rt,
         block_on(&rt, poll_immediate(stream.next()))?,
-        Some(Some(("x", 1)))
+        Some(Some(("x", 1))),
     );
     for _ in 0..3 {
-        assert_eq!(rt; block_on(&rt, poll_immediate(stream.next()))?, Some(None));
+        expect_equal(
+            &rt,
+            block_on(&rt, poll_immediate(stream.next()))?,
+            Some(None),
+        );
         assert!(rt; matches!(task.poll(&mut stream.next()), Poll::Ready(None)));
     }
     drop(stream);
     // So does each stream that begins after the end.
     let mut stream = rx.into_stream();
     for _ in 0..3 {
-        assert_eq!(rt; block_on(&rt, poll_immediate(stream.next()))?, Some(None));
+        expect_equal(
+            &rt,
+            block_on(&rt, poll_immediate(stream.next()))?,
+            Some(None),
+        );
     }
     Ok(())
 }
@@ -176,13 +186,13 @@ fn an_empty_channel_is_no_end(rt: HostRuntime) -> Result<(), Fail> {
     for i in 0..3u64 {
         assert!(rt; is_pending(task.poll(&mut stream.next())));
         assert!(rt; !task.is_woken(), "at {i}");
-        assert_eq!(rt; tx.try_send("x", i), Ok(()));
+        expect_equal(&rt, tx.try_send("x", i), Ok(()));
         assert!(rt; task.is_woken(), "at {i}");
         let polled = task.poll(&mut stream.next());
         let Poll::Ready(item) = polled else {
             return Err(Fail::from("it waits beside a message"));
         };
-        assert_eq!(rt; item, Some(("x", i)));
+        expect_equal(&rt, item, Some(("x", i)));
     }
     assert!(rt; is_pending(task.poll(&mut stream.next())));
     drop(tx);
@@ -212,8 +222,8 @@ fn a_dropped_stream_waits_no_more(rt: HostRuntime) -> Result<(), Fail> {
         assert!(rt; alloc.refuse_none());
     }
     assert!(rt; !tx.is_closed());
-    assert_eq!(rt; tx.try_send(1, 1), Ok(()));
-    assert_eq!(rt; rx.try_recv(), Ok((1, 1)));
+    expect_equal(&rt, tx.try_send(1, 1), Ok(()));
+    expect_equal(&rt, rx.try_recv(), Ok((1, 1)));
     Ok(())
 }
 
@@ -225,12 +235,12 @@ fn a_dropped_stream_of_its_own_waits_no_more(rt: HostRuntime) -> Result<(), Fail
     for _ in 0..20 {
         alloc.refuse_nth(2);
         let mut stream = rx.clone()?.into_stream();
-        assert_eq!(rt; block_on(&rt, poll_immediate(stream.next()))?, None);
-        assert_eq!(rt; tx.receiver_count(), 2);
+        expect_equal(&rt, block_on(&rt, poll_immediate(stream.next()))?, None);
+        expect_equal(&rt, tx.receiver_count(), 2);
         drop(stream);
         assert!(rt; alloc.refuse_none());
     }
-    assert_eq!(rt; tx.receiver_count(), 1);
+    expect_equal(&rt, tx.receiver_count(), 1);
     assert!(rt; !tx.is_closed());
     Ok(())
 }
@@ -239,13 +249,13 @@ fn a_dropped_stream_of_its_own_waits_no_more(rt: HostRuntime) -> Result<(), Fail
 fn the_last_receiver_goes_with_its_stream(rt: HostRuntime) -> Result<(), Fail> {
     let (tx, rx) = bounded::<u64, u64, _, _>(&rt, rt.alloc(), 1)?;
     let mut stream = rx.into_stream();
-    assert_eq!(rt; block_on(&rt, poll_immediate(stream.next()))?, None);
-    assert_eq!(rt; tx.try_send(1, 1), Ok(()));
-    assert_eq!(rt; block_on(&rt, stream.next())?, Some((1, 1)));
+    expect_equal(&rt, block_on(&rt, poll_immediate(stream.next()))?, None);
+    expect_equal(&rt, tx.try_send(1, 1), Ok(()));
+    expect_equal(&rt, block_on(&rt, stream.next())?, Some((1, 1)));
     assert!(rt; !tx.is_closed());
     drop(stream);
     assert!(rt; tx.is_closed());
-    assert_eq!(rt; tx.receiver_count(), 0);
+    expect_equal(&rt, tx.receiver_count(), 0);
     Ok(())
 }
 
@@ -263,7 +273,7 @@ fn a_stream_and_a_receive_get_a_message_each(rt: HostRuntime) -> Result<(), Fail
         matches!(got, ((1, 1), (2, 2)) | ((2, 2), (1, 1))),
         "{got:?}"
     );
-    assert_eq!(rt; rx.try_recv(), Err(TryRecvError::Closed));
+    expect_equal(&rt, rx.try_recv(), Err(TryRecvError::Closed));
     Ok(())
 }
 
@@ -285,7 +295,7 @@ fn the_one_that_comes_second_loses_nothing(rt: HostRuntime) -> Result<(), Fail> 
         matches!(got, ((1, 1), (2, 2)) | ((2, 2), (1, 1))),
         "{got:?}"
     );
-    assert_eq!(rt; rx.try_recv(), Err(TryRecvError::Closed));
+    expect_equal(&rt, rx.try_recv(), Err(TryRecvError::Closed));
     Ok(())
 }
 
@@ -298,11 +308,11 @@ fn two_streams_in_one_task_share_all(rt: HostRuntime) -> Result<(), Fail> {
     let (some, others) = block_on(&rt, join(some, others))?;
     let (some, others) = (some?, others?);
     assert!(rt; sending.join(&rt));
-    assert_eq!(rt; (some.len(), others.len()), (20, 30));
+    expect_equal(&rt, (some.len(), others.len()), (20, 30));
     // 0 to 49, each once.
     let both = sum(some.as_slice()).wrapping_add(sum(others.as_slice()));
-    assert_eq!(rt; both, 1225);
-    assert_eq!(rt; rx.try_recv(), Err(TryRecvError::Closed));
+    expect_equal(&rt, both, 1225);
+    expect_equal(&rt, rx.try_recv(), Err(TryRecvError::Closed));
     Ok(())
 }
 
@@ -314,7 +324,7 @@ fn what_is_pending_comes_without_memory(rt: HostRuntime) -> Result<(), Fail> {
     assert!(rt; tx.close());
     alloc.refuse_nth(1);
     let pairs = block_on(&rt, rx.stream().collect(rt.alloc()))??;
-    assert_eq!(rt; pairs.as_slice(), IN_ORDER.as_slice());
+    expect_equal(&rt, pairs.as_slice(), IN_ORDER.as_slice());
     // Neither they nor the end asked for any.
     assert!(rt; alloc.refuse_none());
     Ok(())
@@ -332,17 +342,17 @@ fn a_stream_goes_on_once_there_is_memory(rt: HostRuntime) -> Result<(), Fail> {
         assert!(rt; is_pending(task.poll(&mut stream.next())));
         let met_none = alloc.refuse_none();
         // The task's waiter, and its entry in the list of those who wait.
-        assert_eq!(rt; met_none, n == 3, "at {n}");
+        expect_equal_at(&rt, n, met_none, n == 3);
         // Refused, it asks to be polled again, and then it waits to be woken.
-        assert_eq!(rt; task.is_woken(), !met_none, "at {n}");
+        expect_equal_at(&rt, n, task.is_woken(), !met_none);
         assert!(rt; is_pending(task.poll(&mut stream.next())));
         assert!(rt; !task.is_woken(), "at {n}");
-        assert_eq!(rt; tx.try_send("x", n), Ok(()));
+        expect_equal(&rt, tx.try_send("x", n), Ok(()));
         assert!(rt; task.is_woken(), "at {n}");
         let Poll::Ready(item) = task.poll(&mut stream.next()) else {
             return Err(Fail::from("it waits beside a message"));
         };
-        assert_eq!(rt; item, Some(("x", n)));
+        expect_equal(&rt, item, Some(("x", n)));
     }
     Ok(())
 }
@@ -359,7 +369,7 @@ fn a_stream_without_memory_asks_again_and_again(rt: HostRuntime) -> Result<(), F
         assert!(rt; task.is_woken(), "at {i}");
     }
     // A message comes through meanwhile, and so does the end.
-    assert_eq!(rt; tx.try_send("x", 1u64), Ok(()));
+    expect_equal(&rt, tx.try_send("x", 1u64), Ok(()));
     assert!(rt; matches!(task.poll(&mut stream.next()), Poll::Ready(Some(("x", 1)))));
     assert!(rt; is_pending(task.poll(&mut stream.next())));
     assert!(rt; tx.close());
@@ -377,7 +387,7 @@ fn a_stream_keeps_the_position_of_its_waker(rt: HostRuntime) -> Result<(), Fail>
     for i in 0..20u64 {
         // A wait asks at most for an entry in the list.
         alloc.refuse_nth(2);
-        assert_eq!(rt; tx.try_send("x", i), Ok(()));
+        expect_equal(&rt, tx.try_send("x", i), Ok(()));
         assert!(rt; matches!(task.poll(&mut stream.next()), Poll::Ready(Some(_))));
         assert!(rt; is_pending(task.poll(&mut stream.next())));
         assert!(rt; alloc.refuse_none(), "at {i}");

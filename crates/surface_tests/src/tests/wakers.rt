@@ -1,4 +1,5 @@
 //! Which task is woken.
+use super::expect_equal;
 use async_priority_channel::{RecvError, RecvFault, TryRecvError, bounded};
 use futures::StreamExt;
 use futures::executor::block_on;
@@ -36,7 +37,7 @@ fn a_receive_wakes_the_task_that_polled_it_last(rt: HostRuntime) -> Result<(), F
     assert!(rt; is_pending(second.poll(&mut receiving)));
     rest(&first);
     assert!(rt; !first.is_woken() && !second.is_woken());
-    assert_eq!(rt; tx.try_send("x", 1u64), Ok(()));
+    expect_equal(&rt, tx.try_send("x", 1u64), Ok(()));
     assert!(rt; second.is_woken() && !first.is_woken());
     assert!(rt; matches!(second.poll(&mut receiving), Poll::Ready(Ok(("x", 1)))));
     Ok(())
@@ -45,7 +46,7 @@ fn a_receive_wakes_the_task_that_polled_it_last(rt: HostRuntime) -> Result<(), F
 #[test]
 fn a_send_wakes_the_task_that_polled_it_last(rt: HostRuntime) -> Result<(), Fail> {
     let (tx, rx) = bounded(&rt, rt.alloc(), 1)?;
-    assert_eq!(rt; tx.try_send("x", 1u64), Ok(()));
+    expect_equal(&rt, tx.try_send("x", 1u64), Ok(()));
     let first = MockTask::new(&rt)?;
     let second = MockTask::new(&rt)?;
     let mut sending = tx.send("y", 2);
@@ -54,10 +55,10 @@ fn a_send_wakes_the_task_that_polled_it_last(rt: HostRuntime) -> Result<(), Fail
     assert!(rt; is_pending(second.poll(&mut sending)));
     rest(&first);
     assert!(rt; !first.is_woken() && !second.is_woken());
-    assert_eq!(rt; rx.try_recv(), Ok(("x", 1)));
+    expect_equal(&rt, rx.try_recv(), Ok(("x", 1)));
     assert!(rt; second.is_woken() && !first.is_woken());
     assert!(rt; matches!(second.poll(&mut sending), Poll::Ready(Ok(()))));
-    assert_eq!(rt; rx.try_recv(), Ok(("y", 2)));
+    expect_equal(&rt, rx.try_recv(), Ok(("y", 2)));
     Ok(())
 }
 
@@ -72,10 +73,10 @@ fn a_bulk_send_wakes_the_task_that_polled_it_last(rt: HostRuntime) -> Result<(),
     assert!(rt; is_pending(second.poll(&mut sending)));
     rest(&first);
     assert!(rt; !first.is_woken() && !second.is_woken());
-    assert_eq!(rt; rx.try_recv(), Ok(("x", 1)));
+    expect_equal(&rt, rx.try_recv(), Ok(("x", 1)));
     assert!(rt; second.is_woken() && !first.is_woken());
     assert!(rt; matches!(second.poll(&mut sending), Poll::Ready(Ok(()))));
-    assert_eq!(rt; rx.try_recv(), Ok(("y", 2)));
+    expect_equal(&rt, rx.try_recv(), Ok(("y", 2)));
     Ok(())
 }
 
@@ -90,7 +91,7 @@ fn a_stream_wakes_the_task_that_polled_it_last(rt: HostRuntime) -> Result<(), Fa
     assert!(rt; is_pending(second.poll(&mut stream.next())));
     rest(&first);
     assert!(rt; !first.is_woken() && !second.is_woken());
-    assert_eq!(rt; tx.try_send("x", 1u64), Ok(()));
+    expect_equal(&rt, tx.try_send("x", 1u64), Ok(()));
     assert!(rt; second.is_woken() && !first.is_woken());
     assert!(rt; matches!(second.poll(&mut stream.next()), Poll::Ready(Some(("x", 1)))));
     Ok(())
@@ -113,7 +114,7 @@ fn a_close_wakes_the_task_that_polled_last(rt: HostRuntime) -> Result<(), Fail> 
     let Poll::Ready(received) = first.poll(&mut receiving) else {
         return Err(Fail::from("it waits at a closed channel"));
     };
-    assert_eq!(rt; received, Err(RecvFault::Closed(RecvError)));
+    expect_equal(&rt, received, Err(RecvFault::Closed(RecvError)));
     Ok(())
 }
 
@@ -126,7 +127,7 @@ fn a_task_that_polls_again_is_not_woken_by_that(rt: HostRuntime) -> Result<(), F
         assert!(rt; is_pending(task.poll(&mut receiving)));
         assert!(rt; !task.is_woken(), "at {i}");
     }
-    assert_eq!(rt; tx.try_send("x", 1u64), Ok(()));
+    expect_equal(&rt, tx.try_send("x", 1u64), Ok(()));
     assert!(rt; task.is_woken());
     Ok(())
 }
@@ -140,13 +141,13 @@ fn a_message_wakes_all_who_wait_and_one_gets_it(rt: HostRuntime) -> Result<(), F
     let mut other = rx.recv();
     assert!(rt; is_pending(first.poll(&mut one)));
     assert!(rt; is_pending(second.poll(&mut other)));
-    assert_eq!(rt; tx.try_send("x", 1u64), Ok(()));
+    expect_equal(&rt, tx.try_send("x", 1u64), Ok(()));
     assert!(rt; first.is_woken() && second.is_woken());
     assert!(rt; matches!(second.poll(&mut other), Poll::Ready(Ok(("x", 1)))));
     // The one that found nothing waits again, and is woken again.
     assert!(rt; is_pending(first.poll(&mut one)));
     assert!(rt; !first.is_woken());
-    assert_eq!(rt; tx.try_send("y", 2), Ok(()));
+    expect_equal(&rt, tx.try_send("y", 2), Ok(()));
     assert!(rt; first.is_woken());
     assert!(rt; matches!(first.poll(&mut one), Poll::Ready(Ok(("y", 2)))));
     Ok(())
@@ -156,7 +157,7 @@ fn a_message_wakes_all_who_wait_and_one_gets_it(rt: HostRuntime) -> Result<(), F
 fn a_receive_goes_on_in_the_task_of_another_thread(rt: HostRuntime) -> Result<(), Fail> {
     let (tx, rx) = bounded(&rt, rt.alloc(), 1)?;
     let mut receiving = rx.recv();
-    assert_eq!(rt; block_on(&rt, poll_immediate(&mut receiving))?, None);
+    expect_equal(&rt, block_on(&rt, poll_immediate(&mut receiving))?, None);
     let (received, sent) = thread::join(
         &rt,
         move || block_on(&rt, receiving),
@@ -165,17 +166,17 @@ fn a_receive_goes_on_in_the_task_of_another_thread(rt: HostRuntime) -> Result<()
             tx.try_send("x", 1u64)
         },
     );
-    assert_eq!(rt; sent, Ok(()));
-    assert_eq!(rt; received?, Ok(("x", 1)));
+    expect_equal(&rt, sent, Ok(()));
+    expect_equal(&rt, received?, Ok(("x", 1)));
     Ok(())
 }
 
 #[test]
 fn a_send_goes_on_in_the_task_of_another_thread(rt: HostRuntime) -> Result<(), Fail> {
     let (tx, rx) = bounded(&rt, rt.alloc(), 1)?;
-    assert_eq!(rt; tx.try_send("x", 1u64), Ok(()));
+    expect_equal(&rt, tx.try_send("x", 1u64), Ok(()));
     let mut sending = tx.send("y", 2);
-    assert_eq!(rt; block_on(&rt, poll_immediate(&mut sending))?, None);
+    expect_equal(&rt, block_on(&rt, poll_immediate(&mut sending))?, None);
     let (sent, received) = thread::join(
         &rt,
         move || block_on(&rt, sending),
@@ -184,9 +185,9 @@ fn a_send_goes_on_in_the_task_of_another_thread(rt: HostRuntime) -> Result<(), F
             rx.try_recv()
         },
     );
-    assert_eq!(rt; received, Ok(("x", 1)));
-    assert_eq!(rt; sent?, Ok(()));
-    assert_eq!(rt; rx.try_recv(), Ok(("y", 2)));
+    expect_equal(&rt, received, Ok(("x", 1)));
+    expect_equal(&rt, sent?, Ok(()));
+    expect_equal(&rt, rx.try_recv(), Ok(("y", 2)));
     Ok(())
 }
 
@@ -194,11 +195,11 @@ fn a_send_goes_on_in_the_task_of_another_thread(rt: HostRuntime) -> Result<(), F
 fn a_stream_goes_on_in_the_task_of_another_thread(rt: HostRuntime) -> Result<(), Fail> {
     let (tx, rx) = bounded(&rt, rt.alloc(), 1)?;
     let mut stream = rx.into_stream();
-    assert_eq!(rt; block_on(&rt, poll_immediate(stream.next()))?, None);
+    expect_equal(&rt, block_on(&rt, poll_immediate(stream.next()))?, None);
     let receiving = thread::spawn(&rt, move || block_on(&rt, stream.next()))?;
     let_others_wait(&rt);
-    assert_eq!(rt; tx.try_send(7u64, 1u64), Ok(()));
-    assert_eq!(rt; receiving.join(&rt)?, Some((7, 1)));
+    expect_equal(&rt, tx.try_send(7u64, 1u64), Ok(()));
+    expect_equal(&rt, receiving.join(&rt)?, Some((7, 1)));
     Ok(())
 }
 
@@ -211,18 +212,18 @@ fn the_first_of_two_channels_ends_a_select(rt: HostRuntime) -> Result<(), Fail> 
         second_tx.try_send("second", 2u64)
     })?;
     let chosen = block_on(&rt, select(first_rx.recv(), second_rx.recv()))?;
-    assert_eq!(rt; sending.join(&rt), Ok(()));
+    expect_equal(&rt, sending.join(&rt), Ok(()));
     let Either::Right((received, receiving)) = chosen else {
         return Err(Fail::from("nothing was sent there"));
     };
-    assert_eq!(rt; received, Ok(("second", 2)));
+    expect_equal(&rt, received, Ok(("second", 2)));
     // The other goes on, in the task of another executor.
     let sending = thread::spawn(&rt, move || {
         let_others_wait(&rt);
         first_tx.try_send("first", 1u64)
     })?;
-    assert_eq!(rt; block_on(&rt, receiving)?, Ok(("first", 1)));
-    assert_eq!(rt; sending.join(&rt), Ok(()));
+    expect_equal(&rt, block_on(&rt, receiving)?, Ok(("first", 1)));
+    expect_equal(&rt, sending.join(&rt), Ok(()));
     Ok(())
 }
 
@@ -242,8 +243,8 @@ fn a_closing_channel_is_an_alarm(rt: HostRuntime) -> Result<(), Fail> {
     assert!(rt; is_over);
     sleeping.join(&rt);
     // The receive that was given up takes nothing.
-    assert_eq!(rt; tx.try_send("x", 1u64), Ok(()));
-    assert_eq!(rt; rx.try_recv(), Ok(("x", 1)));
-    assert_eq!(rt; rx.try_recv(), Err(TryRecvError::Empty));
+    expect_equal(&rt, tx.try_send("x", 1u64), Ok(()));
+    expect_equal(&rt, rx.try_recv(), Ok(("x", 1)));
+    expect_equal(&rt, rx.try_recv(), Err(TryRecvError::Empty));
     Ok(())
 }

@@ -1,4 +1,5 @@
 //! Handles that keep no channel open, and which handles are of one channel.
+use super::expect_equal;
 use async_priority_channel::{Receiver, Sender, TryRecvError, WeakSender, bounded, unbounded};
 use std::random::RandomSource;
 use std::sync::Wait;
@@ -9,9 +10,9 @@ use std::thread;
 fn weak_handles_are_not_counted(rt: HostRuntime) -> Result<(), Fail> {
     let (tx, rx) = bounded::<u64, u64, _, _>(&rt, rt.alloc(), 2)?;
     let weak = (tx.downgrade()?, rx.downgrade()?);
-    assert_eq!(rt; (tx.sender_count(), tx.receiver_count()), (1, 1));
+    expect_equal(&rt, (tx.sender_count(), tx.receiver_count()), (1, 1));
     drop(weak);
-    assert_eq!(rt; (rx.sender_count(), rx.receiver_count()), (1, 1));
+    expect_equal(&rt, (rx.sender_count(), rx.receiver_count()), (1, 1));
     assert!(rt; !tx.is_closed());
     Ok(())
 }
@@ -21,16 +22,16 @@ fn an_upgraded_sender_is_a_further_sender(rt: HostRuntime) -> Result<(), Fail> {
     let (tx, rx) = bounded(&rt, rt.alloc(), 2)?;
     let weak = tx.downgrade()?;
     let other = weak.upgrade().ok_or("no sender")?;
-    assert_eq!(rt; (tx.sender_count(), tx.receiver_count()), (2, 1));
-    assert_eq!(rt; other.try_send("x", 1u64), Ok(()));
-    assert_eq!(rt; rx.try_recv(), Ok(("x", 1)));
+    expect_equal(&rt, (tx.sender_count(), tx.receiver_count()), (2, 1));
+    expect_equal(&rt, other.try_send("x", 1u64), Ok(()));
+    expect_equal(&rt, rx.try_recv(), Ok(("x", 1)));
     // It keeps the channel open as any sender does.
     drop(tx);
-    assert_eq!(rt; rx.sender_count(), 1);
-    assert_eq!(rt; rx.try_recv(), Err(TryRecvError::Empty));
+    expect_equal(&rt, rx.sender_count(), 1);
+    expect_equal(&rt, rx.try_recv(), Err(TryRecvError::Empty));
     drop(other);
-    assert_eq!(rt; rx.sender_count(), 0);
-    assert_eq!(rt; rx.try_recv(), Err(TryRecvError::Closed));
+    expect_equal(&rt, rx.sender_count(), 0);
+    expect_equal(&rt, rx.try_recv(), Err(TryRecvError::Closed));
     Ok(())
 }
 
@@ -39,13 +40,13 @@ fn an_upgraded_receiver_is_a_further_receiver(rt: HostRuntime) -> Result<(), Fai
     let (tx, rx) = bounded(&rt, rt.alloc(), 2)?;
     let weak = rx.downgrade()?;
     let other = weak.upgrade().ok_or("no receiver")?;
-    assert_eq!(rt; (tx.sender_count(), tx.receiver_count()), (1, 2));
+    expect_equal(&rt, (tx.sender_count(), tx.receiver_count()), (1, 2));
     drop(rx);
-    assert_eq!(rt; tx.receiver_count(), 1);
-    assert_eq!(rt; tx.try_send("x", 1u64), Ok(()));
-    assert_eq!(rt; other.try_recv(), Ok(("x", 1)));
+    expect_equal(&rt, tx.receiver_count(), 1);
+    expect_equal(&rt, tx.try_send("x", 1u64), Ok(()));
+    expect_equal(&rt, other.try_recv(), Ok(("x", 1)));
     drop(other);
-    assert_eq!(rt; tx.receiver_count(), 0);
+    expect_equal(&rt, tx.receiver_count(), 0);
     assert!(rt; tx.is_closed());
     Ok(())
 }
@@ -55,16 +56,16 @@ fn the_last_sender_closes_beside_weak_handles(rt: HostRuntime) -> Result<(), Fai
     let (tx, rx) = bounded(&rt, rt.alloc(), 2)?;
     let weak_tx = tx.downgrade()?;
     let weak_rx = rx.downgrade()?;
-    assert_eq!(rt; tx.try_send("x", 1u64), Ok(()));
+    expect_equal(&rt, tx.try_send("x", 1u64), Ok(()));
     drop(tx);
     assert!(rt; rx.is_closed());
     assert!(rt; weak_tx.upgrade().is_none());
     assert!(rt; weak_rx.upgrade().is_none());
     // What was refused is not counted, and the channel is as it was.
-    assert_eq!(rt; (rx.sender_count(), rx.receiver_count()), (0, 1));
+    expect_equal(&rt, (rx.sender_count(), rx.receiver_count()), (0, 1));
     assert!(rt; rx.is_closed());
-    assert_eq!(rt; rx.try_recv(), Ok(("x", 1)));
-    assert_eq!(rt; rx.try_recv(), Err(TryRecvError::Closed));
+    expect_equal(&rt, rx.try_recv(), Ok(("x", 1)));
+    expect_equal(&rt, rx.try_recv(), Err(TryRecvError::Closed));
     // A weak handle that is made only now gives no other answer.
     assert!(rt; rx.downgrade()?.upgrade().is_none());
     Ok(())
@@ -79,7 +80,7 @@ fn the_last_receiver_closes_beside_weak_handles(rt: HostRuntime) -> Result<(), F
     assert!(rt; tx.is_closed());
     assert!(rt; weak_rx.upgrade().is_none());
     assert!(rt; weak_tx.upgrade().is_none());
-    assert_eq!(rt; (tx.sender_count(), tx.receiver_count()), (1, 0));
+    expect_equal(&rt, (tx.sender_count(), tx.receiver_count()), (1, 0));
     Ok(())
 }
 
@@ -88,12 +89,12 @@ fn nothing_is_upgraded_after_a_close(rt: HostRuntime) -> Result<(), Fail> {
     let (tx, rx) = bounded(&rt, rt.alloc(), 2)?;
     let weak_tx = tx.downgrade()?;
     let weak_rx = rx.downgrade()?;
-    assert_eq!(rt; tx.try_send("x", 1u64), Ok(()));
+    expect_equal(&rt, tx.try_send("x", 1u64), Ok(()));
     assert!(rt; rx.close());
     assert!(rt; weak_tx.upgrade().is_none());
     assert!(rt; weak_rx.upgrade().is_none());
-    assert_eq!(rt; (tx.sender_count(), tx.receiver_count()), (1, 1));
-    assert_eq!(rt; rx.try_recv(), Ok(("x", 1)));
+    expect_equal(&rt, (tx.sender_count(), tx.receiver_count()), (1, 1));
+    expect_equal(&rt, rx.try_recv(), Ok(("x", 1)));
     Ok(())
 }
 
@@ -107,10 +108,10 @@ fn what_is_pending_stays_while_a_weak_handle_is_there(rt: HostRuntime) -> Result
     assert!(rt; tx.try_send(held, 1u64).is_ok());
     drop(tx);
     drop(rx);
-    assert_eq!(rt; answers.sender_count(), 1);
+    expect_equal(&rt, answers.sender_count(), 1);
     drop(weak);
-    assert_eq!(rt; answers.sender_count(), 0);
-    assert_eq!(rt; answers.try_recv(), Err(TryRecvError::Closed));
+    expect_equal(&rt, answers.sender_count(), 0);
+    expect_equal(&rt, answers.try_recv(), Err(TryRecvError::Closed));
     Ok(())
 }
 
@@ -139,13 +140,13 @@ fn a_thread_with_a_weak_sender_ends_with_the_others(rt: HostRuntime) -> Result<(
             received = received.wrapping_add(1);
         }
     }
-    assert_eq!(rt; received, 3);
+    expect_equal(&rt, received, 3);
     drop(tx);
     for _ in &rx {
         received = received.wrapping_add(1);
     }
     let sent = ticking.join(&rt);
-    assert_eq!(rt; sent, received);
+    expect_equal(&rt, sent, received);
     // It was told of the end, and did not count to its own.
     assert!(rt; sent < 1_000_000);
     Ok(())
@@ -172,16 +173,16 @@ fn senders_know_their_channel(rt: HostRuntime) -> Result<(), Fail> {
     let (alike, _alike_rx) = bounded(&rt, rt.alloc(), 2)?;
     let clone = tx.clone()?;
     let upgraded = tx.downgrade()?.upgrade().ok_or("no sender")?;
-    assert_eq!(rt; are_same(&tx, &tx), (true, true));
-    assert_eq!(rt; are_same(&tx, &clone), (true, true));
-    assert_eq!(rt; are_same(&tx, &upgraded), (true, true));
-    assert_eq!(rt; are_same(&clone, &upgraded), (true, true));
-    assert_eq!(rt; are_same(&tx, &alike), (false, false));
-    assert_eq!(rt; are_same(&upgraded, &alike), (false, false));
+    expect_equal(&rt, are_same(&tx, &tx), (true, true));
+    expect_equal(&rt, are_same(&tx, &clone), (true, true));
+    expect_equal(&rt, are_same(&tx, &upgraded), (true, true));
+    expect_equal(&rt, are_same(&clone, &upgraded), (true, true));
+    expect_equal(&rt, are_same(&tx, &alike), (false, false));
+    expect_equal(&rt, are_same(&upgraded, &alike), (false, false));
     // A closed channel is still itself, and no other.
     assert!(rt; rx.close() && alike.close());
-    assert_eq!(rt; are_same(&tx, &clone), (true, true));
-    assert_eq!(rt; are_same(&tx, &alike), (false, false));
+    expect_equal(&rt, are_same(&tx, &clone), (true, true));
+    expect_equal(&rt, are_same(&tx, &alike), (false, false));
     Ok(())
 }
 
@@ -191,15 +192,15 @@ fn receivers_know_their_channel(rt: HostRuntime) -> Result<(), Fail> {
     let (_alike_tx, alike) = bounded(&rt, rt.alloc(), 2)?;
     let clone = rx.clone()?;
     let upgraded = rx.downgrade()?.upgrade().ok_or("no receiver")?;
-    assert_eq!(rt; are_same_receivers(&rx, &rx), (true, true));
-    assert_eq!(rt; are_same_receivers(&rx, &clone), (true, true));
-    assert_eq!(rt; are_same_receivers(&rx, &upgraded), (true, true));
-    assert_eq!(rt; are_same_receivers(&clone, &upgraded), (true, true));
-    assert_eq!(rt; are_same_receivers(&rx, &alike), (false, false));
-    assert_eq!(rt; are_same_receivers(&upgraded, &alike), (false, false));
+    expect_equal(&rt, are_same_receivers(&rx, &rx), (true, true));
+    expect_equal(&rt, are_same_receivers(&rx, &clone), (true, true));
+    expect_equal(&rt, are_same_receivers(&rx, &upgraded), (true, true));
+    expect_equal(&rt, are_same_receivers(&clone, &upgraded), (true, true));
+    expect_equal(&rt, are_same_receivers(&rx, &alike), (false, false));
+    expect_equal(&rt, are_same_receivers(&upgraded, &alike), (false, false));
     assert!(rt; tx.close() && alike.close());
-    assert_eq!(rt; are_same_receivers(&rx, &clone), (true, true));
-    assert_eq!(rt; are_same_receivers(&rx, &alike), (false, false));
+    expect_equal(&rt, are_same_receivers(&rx, &clone), (true, true));
+    expect_equal(&rt, are_same_receivers(&rx, &alike), (false, false));
     Ok(())
 }
 
@@ -208,7 +209,7 @@ fn a_clone_of_a_weak_handle_knows_the_same_channel(rt: HostRuntime) -> Result<()
     let (tx, rx) = bounded::<u64, u64, _, _>(&rt, rt.alloc(), 2)?;
     let sending = tx.downgrade()?.clone()?;
     let receiving = rx.downgrade()?.clone()?;
-    assert_eq!(rt; (tx.sender_count(), tx.receiver_count()), (1, 1));
+    expect_equal(&rt, (tx.sender_count(), tx.receiver_count()), (1, 1));
     assert!(rt; !sending.is_closed() && !receiving.is_closed());
     assert!(rt; sending.upgrade().ok_or("no sender")?.same_channel(&tx));
     assert!(rt; receiving.upgrade().ok_or("no receiver")?.same_channel(&rx));

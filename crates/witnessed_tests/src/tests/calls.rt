@@ -2,6 +2,7 @@
 ghost use Rattle.std.specs.Prelude.{◌≡◌, false};
 ghost use Rattle.priority_channel_witnessed.specs.Log.{names};
 
+use super::expect_equal;
 use priority_channel_core::awaitable_atomics::Wakes;
 use priority_channel_core::calls::CorePoll;
 use priority_channel_core::channel::PriorityQueueChannel;
@@ -70,17 +71,18 @@ fn answers<J: Recording, R: Wait>(
 fn calls_answer_as_the_core(rt: HostRuntime) -> Result<(), Fail> {
     let fresh = Fresh::new(1, false, 1);
     let (sent, received, looks, numbers) = answers::<Brand, _>(&rt, rt.alloc(), fresh)?;
-    assert_eq!(rt;
+    expect_equal(
+        &rt,
         sent,
         [
             Ok(()),
             Err(TrySendError::Full((2, 9))),
             Err(TrySendError::Closed((3, 3))),
-        ]
+        ],
     );
-    assert_eq!(rt; received, [Ok((1, 5)), Err(TryRecvError::Closed)]);
+    expect_equal(&rt, received, [Ok((1, 5)), Err(TryRecvError::Closed)]);
     assert!(rt; looks == [true; 4]);
-    assert_eq!(rt; numbers, [1, 1]);
+    expect_equal(&rt, numbers, [1, 1]);
     Ok(())
 }
 

@@ -2,6 +2,7 @@
 ghost use Rattle.std.specs.Prelude.{◌≡◌, false};
 ghost use Rattle.priority_channel_witnessed.specs.Log.{names};
 
+use super::expect_equal;
 use priority_channel_core::channel::PriorityQueueChannel;
 use priority_channel_witnessed::{Fresh, Pass, Recording, Witnessed};
 use std::alloc::Global;
@@ -75,6 +76,6 @@ fn four_threads_lose_nothing(rt: HostRuntime) -> Result<(), Fail> {
     let fresh = Fresh::new(CAPACITY, false, 4);
     let (sent, received, left) = four_passes::<Brand, _>(&rt, rt.alloc(), fresh)?;
     assert!(rt; sent > 0);
-    assert_eq!(rt; sent, received.wrapping_add(left));
+    expect_equal(&rt, sent, received.wrapping_add(left));
     Ok(())
 }
