@@ -1,4 +1,5 @@
 //! Guards that close their channel.
+use super::expect_equal;
 use async_priority_channel::{Receiver, TryRecvError, bounded, unbounded};
 use std::sync::Wait;
 use std::test::Fail;
@@ -13,7 +14,7 @@ fn first<R: Wait + Clone>(rx: &Receiver<u64, u64, R>) -> Result<u64, TryRecvErro
 fn a_guard_closes_as_a_function_returns(rt: HostRuntime) -> Result<(), Fail> {
     let (tx, rx) = bounded(&rt, rt.alloc(), 1)?;
     tx.try_send(3, 0)?;
-    assert_eq!(rt; first(&rx), Ok(3));
+    expect_equal(&rt, first(&rx), Ok(3));
     assert!(rt; tx.is_closed());
     Ok(())
 }
@@ -26,7 +27,7 @@ fn a_guard_of_a_sender_closes(rt: HostRuntime) -> Result<(), Fail> {
     other.try_send("Foo", 0)?;
     drop(guard);
     assert!(rt; other.is_closed());
-    assert_eq!(rt; rx.try_recv(), Ok(("Foo", 0)));
+    expect_equal(&rt, rx.try_recv(), Ok(("Foo", 0)));
     Ok(())
 }
 
@@ -38,6 +39,6 @@ fn a_guard_of_a_receiver_lets_requests_go(rt: HostRuntime) -> Result<(), Fail> {
     let guard = requests.close_on_drop();
     drop(guard);
     drop(requests);
-    assert_eq!(rt; answers.try_recv(), Err(TryRecvError::Closed));
+    expect_equal(&rt, answers.try_recv(), Err(TryRecvError::Closed));
     Ok(())
 }

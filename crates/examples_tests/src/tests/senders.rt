@@ -1,4 +1,5 @@
 //! The calls of a sender that answer at once, or give a future.
+use super::expect_equal;
 use async_priority_channel::{TryRecvError, TrySendError, bounded, unbounded};
 use futures::executor::block_on;
 use futures::future::join;
@@ -14,7 +15,7 @@ fn the_last_sender_closes(rt: HostRuntime) -> Result<(), Fail> {
     assert!(rt; !rx.is_closed());
     drop(other);
     assert!(rt; rx.is_closed());
-    assert_eq!(rt; rx.try_recv(), Ok(("Foo", 0)));
+    expect_equal(&rt, rx.try_recv(), Ok(("Foo", 0)));
     Ok(())
 }
 
@@ -24,9 +25,9 @@ fn a_bulk_send_gives_back_the_rest(rt: HostRuntime) -> Result<(), Fail> {
     let jobs = [("compile", 2), ("link", 1), ("test", 0)];
     if let Err(refusal) = tx.try_sendv(jobs.into_iter().peekable()) {
         assert!(rt; refusal.is_full());
-        assert_eq!(rt; refusal.into_inner().next(), Some(("test", 0)));
+        expect_equal(&rt, refusal.into_inner().next(), Some(("test", 0)));
     }
-    assert_eq!(rt; rx.try_recv(), Ok(("compile", 2)));
+    expect_equal(&rt, rx.try_recv(), Ok(("compile", 2)));
     Ok(())
 }
 
@@ -35,8 +36,8 @@ fn a_task_sends_where_there_is_room(rt: HostRuntime) -> Result<(), Fail> {
     let (tx, rx) = bounded(&rt, rt.alloc(), 1)?;
     block_on(&rt, tx.send("Foo", 0))??;
     let (sent, received) = block_on(&rt, join(tx.send("Bar", 2), rx.recv()))?;
-    assert_eq!(rt; received, Ok(("Foo", 0)));
-    assert_eq!(rt; sent, Ok(()));
+    expect_equal(&rt, received, Ok(("Foo", 0)));
+    expect_equal(&rt, sent, Ok(()));
     Ok(())
 }
 
@@ -47,8 +48,8 @@ fn a_task_sends_all_as_there_is_room(rt: HostRuntime) -> Result<(), Fail> {
     let receiving = thread::spawn(&rt, move || (rx.recv_blocking(), rx))?;
     assert!(rt; block_on(&rt, tx.sendv(jobs))?.is_ok());
     let (received, rx) = receiving.join(&rt);
-    assert_eq!(rt; received, Ok((3, 2)));
-    assert_eq!(rt; rx.try_recv(), Ok((4, 1)));
+    expect_equal(&rt, received, Ok((3, 2)));
+    expect_equal(&rt, rx.try_recv(), Ok((4, 1)));
     Ok(())
 }
 
@@ -56,10 +57,14 @@ fn a_task_sends_all_as_there_is_room(rt: HostRuntime) -> Result<(), Fail> {
 fn try_send_gives_a_message_back(rt: HostRuntime) -> Result<(), Fail> {
     let (tx, rx) = bounded(&rt, rt.alloc(), 1)?;
     tx.try_send("Foo", 0)?;
-    assert_eq!(rt; tx.try_send("Bar", 2), Err(TrySendError::Full(("Bar", 2))));
+    expect_equal(
+        &rt,
+        tx.try_send("Bar", 2),
+        Err(TrySendError::Full(("Bar", 2))),
+    );
     drop(rx);
     let refused = tx.try_send("Bar", 2);
-    assert_eq!(rt; refused, Err(TrySendError::Closed(("Bar", 2))));
+    expect_equal(&rt, refused, Err(TrySendError::Closed(("Bar", 2))));
     Ok(())
 }
 
@@ -69,9 +74,9 @@ fn a_sender_closes_and_the_rest_is_received(rt: HostRuntime) -> Result<(), Fail>
     tx.try_send("Foo", 0)?;
     assert!(rt; tx.close());
     let refused = tx.try_send("Bar", 2);
-    assert_eq!(rt; refused, Err(TrySendError::Closed(("Bar", 2))));
-    assert_eq!(rt; rx.try_recv(), Ok(("Foo", 0)));
-    assert_eq!(rt; rx.try_recv(), Err(TryRecvError::Closed));
+    expect_equal(&rt, refused, Err(TrySendError::Closed(("Bar", 2))));
+    expect_equal(&rt, rx.try_recv(), Ok(("Foo", 0)));
+    expect_equal(&rt, rx.try_recv(), Err(TryRecvError::Closed));
     Ok(())
 }
 
@@ -109,18 +114,18 @@ fn a_sender_counts_the_pending(rt: HostRuntime) -> Result<(), Fail> {
     let (tx, rx) = bounded(&rt, rt.alloc(), 10)?;
     tx.try_send("Foo", 0)?;
     tx.try_send("Bar", 2)?;
-    assert_eq!(rt; tx.len(), 2);
+    expect_equal(&rt, tx.len(), 2);
     rx.try_recv()?;
-    assert_eq!(rt; tx.len(), 1);
+    expect_equal(&rt, tx.len(), 1);
     Ok(())
 }
 
 #[test]
 fn a_sender_knows_the_capacity(rt: HostRuntime) -> Result<(), Fail> {
     let (tx, _rx) = bounded::<&str, u64, _, _>(&rt, rt.alloc(), 10)?;
-    assert_eq!(rt; tx.capacity(), Some(10));
+    expect_equal(&rt, tx.capacity(), Some(10));
     let (tx, _rx) = unbounded::<&str, u64, _, _>(&rt, rt.alloc())?;
-    assert_eq!(rt; tx.capacity(), None);
+    expect_equal(&rt, tx.capacity(), None);
     Ok(())
 }
 
@@ -137,18 +142,18 @@ fn senders_know_their_channel(rt: HostRuntime) -> Result<(), Fail> {
 fn a_sender_counts_the_senders(rt: HostRuntime) -> Result<(), Fail> {
     let (tx, _rx) = unbounded::<&str, u64, _, _>(&rt, rt.alloc())?;
     let other = tx.clone()?;
-    assert_eq!(rt; tx.sender_count(), 2);
+    expect_equal(&rt, tx.sender_count(), 2);
     drop(other);
-    assert_eq!(rt; tx.sender_count(), 1);
+    expect_equal(&rt, tx.sender_count(), 1);
     Ok(())
 }
 
 #[test]
 fn a_sender_counts_the_receivers(rt: HostRuntime) -> Result<(), Fail> {
     let (tx, rx) = unbounded::<&str, u64, _, _>(&rt, rt.alloc())?;
-    assert_eq!(rt; tx.receiver_count(), 1);
+    expect_equal(&rt, tx.receiver_count(), 1);
     drop(rx);
-    assert_eq!(rt; tx.receiver_count(), 0);
+    expect_equal(&rt, tx.receiver_count(), 0);
     Ok(())
 }
 
@@ -157,7 +162,7 @@ fn a_clone_sends_from_another_thread(rt: HostRuntime) -> Result<(), Fail> {
     let (tx, rx) = unbounded(&rt, rt.alloc())?;
     let other = tx.clone()?;
     let sending = thread::spawn(&rt, move || other.try_send("Foo", 0))?;
-    assert_eq!(rt; sending.join(&rt), Ok(()));
+    expect_equal(&rt, sending.join(&rt), Ok(()));
     assert!(rt; !rx.is_closed());
     drop(tx);
     assert!(rt; rx.is_closed());

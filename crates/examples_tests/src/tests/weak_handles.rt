@@ -1,4 +1,5 @@
 //! Handles that keep no channel open.
+use super::expect_equal;
 use async_priority_channel::{bounded, unbounded};
 use std::test::Fail;
 
@@ -9,7 +10,7 @@ fn a_weak_sender_sends_while_there_is_a_sender(rt: HostRuntime) -> Result<(), Fa
     if let Some(sender) = weak.upgrade() {
         sender.try_send("still here", 0)?;
     }
-    assert_eq!(rt; rx.try_recv(), Ok(("still here", 0)));
+    expect_equal(&rt, rx.try_recv(), Ok(("still here", 0)));
     Ok(())
 }
 
@@ -37,7 +38,7 @@ fn a_weak_sender_sees_the_close(rt: HostRuntime) -> Result<(), Fail> {
 fn a_weak_sender_is_not_counted(rt: HostRuntime) -> Result<(), Fail> {
     let (tx, rx) = unbounded::<&str, u64, _, _>(&rt, rt.alloc())?;
     let _weak = tx.downgrade()?;
-    assert_eq!(rt; rx.sender_count(), 1);
+    expect_equal(&rt, rx.sender_count(), 1);
     drop(tx);
     assert!(rt; rx.is_closed());
     Ok(())
@@ -50,7 +51,7 @@ fn a_clone_of_a_weak_sender_is_upgraded(rt: HostRuntime) -> Result<(), Fail> {
     let other = weak.clone()?;
     drop(weak);
     other.upgrade().ok_or("closed")?.try_send("Foo", 0)?;
-    assert_eq!(rt; rx.try_recv(), Ok(("Foo", 0)));
+    expect_equal(&rt, rx.try_recv(), Ok(("Foo", 0)));
     Ok(())
 }
 
@@ -60,7 +61,7 @@ fn a_weak_receiver_receives_while_there_is_a_receiver(rt: HostRuntime) -> Result
     let weak = rx.downgrade()?;
     tx.try_send("still here", 0)?;
     if let Some(receiver) = weak.upgrade() {
-        assert_eq!(rt; receiver.try_recv(), Ok(("still here", 0)));
+        expect_equal(&rt, receiver.try_recv(), Ok(("still here", 0)));
     }
     Ok(())
 }
@@ -89,7 +90,7 @@ fn a_weak_receiver_sees_the_close(rt: HostRuntime) -> Result<(), Fail> {
 fn a_weak_receiver_is_not_counted(rt: HostRuntime) -> Result<(), Fail> {
     let (tx, rx) = unbounded::<&str, u64, _, _>(&rt, rt.alloc())?;
     let _weak = rx.downgrade()?;
-    assert_eq!(rt; tx.receiver_count(), 1);
+    expect_equal(&rt, tx.receiver_count(), 1);
     drop(rx);
     assert!(rt; tx.is_closed());
     Ok(())
@@ -102,6 +103,10 @@ fn a_clone_of_a_weak_receiver_is_upgraded(rt: HostRuntime) -> Result<(), Fail> {
     let other = weak.clone()?;
     drop(weak);
     tx.try_send("Foo", 0)?;
-    assert_eq!(rt; other.upgrade().ok_or("closed")?.try_recv(), Ok(("Foo", 0)));
+    expect_equal(
+        &rt,
+        other.upgrade().ok_or("closed")?.try_recv(),
+        Ok(("Foo", 0)),
+    );
     Ok(())
 }
