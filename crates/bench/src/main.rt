@@ -13,6 +13,7 @@ mod measure;
 mod memory;
 mod one_thread;
 mod relays;
+mod witnessed;
 mod workers;
 
 use anyhow::bail;
@@ -26,7 +27,7 @@ use std::thread::Threads;
 use std::time::{Clock, CpuClock};
 
 // Each ends with its count of messages.
-const ROWS: [&str; 19] = [
+const ROWS: [&str; 20] = [
     // How priorities come, how many pairs are pending.
     "core random 0 1000",
     "core equal 100 1000",
@@ -37,6 +38,8 @@ const ROWS: [&str; 19] = [
     "handles try 0 1000",
     "handles blocking 100 1000",
     "handles future 100 1000",
+    // How many messages are pending.
+    "witnessed 100 1000",
     // How many messages go in one call.
     "batches 8 960",
     // By which calls, how many senders, receivers, and which capacity.
@@ -98,6 +101,9 @@ where
         }
         ["handles", calls, pending, count] => {
             handles::steady(&rt, calls.parse()?, pending.parse()?, count.parse()?)
+        }
+        ["witnessed", pending, count] => {
+            witnessed::steady(&rt, pending.parse()?, count.parse()?)
         }
         ["batches", size, count] => handles::batches(&rt, size.parse()?, count.parse()?),
         ["relay", calls, senders, receivers, capacity, count] => {
