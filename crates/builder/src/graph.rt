@@ -1,161 +1,158 @@
-//! The targets, and which of them depends on which.
-use crate::line::Line;
-use crate::progress::{Outcome, Progress};
-use anyhow::{anyhow, bail};
-use std::alloc::{AllocError, Global};
+//! The targets, which of them depends on which, and how far their build is.
+use anyhow::{Context, bail};
+use std::alloc::Global;
 use std::collections::BTreeMap;
+use std::fmt;
+
+#[derive(Clone, Copy, Debug, PartialEq, Eq)]
+pub enum State {
+    /// For its needs: in the end, for one that was not built.
+    Waiting,
+    Started,
+    Built,
+    Failed,
+}
+
+/// What a worker has to know of a target.
+#[derive(Clone, Copy, Drop)]
+pub struct Job {
+    pub id: usize,
+    /// In milliseconds.
+    pub cost: u64,
+    /// Built or failed.
+    pub outcome: State,
+}
 
 #[derive(Drop)]
 pub struct Target<'a> {
     pub name: &'a str,
     pub line: usize,
-    pub cost: u64,
-    pub fails: bool,
-    /// The targets that it depends on, and those that depend on it.
+    pub job: Job,
     pub needs: Vec<usize>,
-    pub users: Vec<usize>,
-    /// The length of the longest path from its start to the end of a target without users.
+    /// How long the longest path from its start to an end takes.
     pub path: u64,
+    pub state: State,
 }
 
 #[derive(Drop)]
 pub struct Graph<'a> {
-    /// In the order of their lines.
     pub targets: Vec<Target<'a>>,
 }
 
 impl<'a> Graph<'a> {
-    /// Reads a target from each line that is not empty and no comment, which begins with `#`. The
-    /// error names the line that is wrong.
-    pub fn parse(alloc: Global, text: &'a str) -> anyhow::Result<Graph<'a>> {
-        let mut graph = Graph {
-            targets: Vec::new(alloc),
-        };
+    /// Reads `NAME COST NEED ..` from each line that is not empty and no comment, which begins with
+    /// `#`. A `!` after the cost has the build fail. The error names the line that is wrong.
+    pub fn parse(alloc: Global, text: &'a str) -> anyhow::Result<Self> {
+        let mut targets = Vec::new(alloc);
         let mut ids = BTreeMap::new(alloc);
         let mut needs = Vec::new(alloc);
         for (index, text) in text.lines().enumerate() {
             let line = index.saturating_add(1);
-            let text = text.trim();
-            if text.is_empty() || text.starts_with('#') {
-                continue;
-            }
-            let Some(read) = Line::parse(text) else {
-                bail!("line {line}: no target: {text}");
+            let mut words = text.split_whitespace();
+            let name = words.next().filter(|word| !word.starts_with('#'));
+            let Some(name) = name else { continue };
+            let cost = words.next().unwrap_or("");
+            let (cost, outcome) = match cost.strip_suffix('!') {
+                Some(cost) => (cost.parse(), State::Failed),
+                None => (cost.parse(), State::Built),
             };
-            let id = graph.targets.len();
-            if let Some(first) = ids.insert(read.name, id)? {
-                let first = graph.line(first);
-                bail!("line {line}: line {first} has {} already", read.name);
+            let cost = cost.context(format_args!("line {line}: {name} has no cost"))?;
+            let id = targets.len();
+            if ids.insert(name, id)?.is_some() {
+                bail!("line {line}: {name} is a target already");
             }
-            for need in read.needs {
-                needs.push((id, line, need))?;
-            }
-            graph.targets.push(Target {
-                name: read.name,
+            needs.push(words)?;
+            targets.push(Target {
+                name,
                 line,
-                cost: read.cost,
-                fails: read.fails,
+                job: Job { id, cost, outcome },
                 needs: Vec::new(alloc),
-                users: Vec::new(alloc),
                 path: 0,
+                state: State::Waiting,
             })?;
         }
-        for (user, line, need) in needs {
-            match ids.get(need) {
-                Some(id) => graph.link(user, *id)?,
-                None => bail!("line {line}: {need} is no target"),
+        for (target, words) in targets.iter_mut().zip(needs) {
+            for word in words {
+                let Some(need) = ids.get(word) else {
+                    bail!("line {}: {word} is no target", target.line);
+                };
+                target.needs.push(*need)?;
             }
         }
-        graph.measure_paths(alloc)?;
-        Ok(graph)
+        Graph { targets }.with_paths(alloc)
     }
 
-    pub fn name(&self, id: usize) -> &'a str {
-        self.targets.get(id).map_or("", |target| target.name)
-    }
-
-    fn line(&self, id: usize) -> usize {
-        self.targets.get(id).map_or(0, |target| target.line)
-    }
-
-    /// No build takes less time, however many workers there are.
-    pub fn longest_path(&self) -> u64 {
-        let paths = self.targets.iter().map(|target| target.path);
-        paths.max().unwrap_or(0)
-    }
-
-    /// The targets that depend on it.
-    pub fn users(&self, id: usize) -> &[usize] {
-        self.targets.get(id).map_or(&[], |target| &target.users)
-    }
-
-    fn link(&mut self, user: usize, need: usize) -> Result<(), AllocError> {
-        if let Some(target) = self.targets.get_mut(user) {
-            target.needs.push(need)?;
-        }
-        if let Some(target) = self.targets.get_mut(need) {
-            target.users.push(user)?;
-        }
-        Ok(())
-    }
-
-    // The last first, so that the paths of a target's users are known before its own.
-    fn measure_paths(&mut self, alloc: Global) -> anyhow::Result<()> {
-        for id in self.sorted(alloc)?.iter().rev() {
-            let path = self.path_from(*id);
-            if let Some(target) = self.targets.get_mut(*id) {
-                target.path = path;
-            }
-        }
-        Ok(())
-    }
-
-    fn path_from(&self, id: usize) -> u64 {
-        let Some(target) = self.targets.get(id) else {
-            return 0;
-        };
-        let paths = target
-            .users
-            .iter()
-            .filter_map(|user| self.targets.get(*user));
-        target
-            .cost
-            .saturating_add(paths.map(|user| user.path).max().unwrap_or(0))
-    }
-
-    // Each after those that it needs: the order of a build in which none fails.
-    fn sorted(&self, alloc: Global) -> anyhow::Result<Vec<usize>> {
-        let (mut progress, mut order) = Progress::start(alloc, self)?;
+    // Plays a build in which none fails: its order has each target after its needs. What is never
+    // built needs another that is never built, and so on, round a cycle.
+    fn with_paths(mut self, alloc: Global) -> anyhow::Result<Self> {
+        let mut order = Vec::new(alloc);
         for place in 0..self.targets.len() {
-            let Some(id) = order.get(place).copied() else {
-                return Err(self.cycle(&progress));
-            };
-            for ready in progress.settle(alloc, self, id, Outcome::Built)? {
-                order.push(ready)?;
+            if place == order.len() {
+                order.extend(self.take_ready(alloc, State::Built)?)?;
             }
         }
-        Ok(order)
-    }
-
-    // What cannot start needs a target that cannot start, and so on, round and round.
-    fn cycle(&self, progress: &Progress) -> anyhow::Error {
-        let stuck = (0..self.targets.len()).find(|id| progress.outcome(*id).is_none());
-        let mut at = stuck.unwrap_or(0);
-        for _ in &self.targets {
-            at = self.stuck_need(at, progress).unwrap_or(at);
+        if let Some(target) = self.targets.iter().find(|it| it.state == State::Waiting) {
+            let count = self.targets.len();
+            let target = (0..count).fold(target, |it, _| self.obstacle(it).unwrap_or(it));
+            bail!("line {}: {} depends on itself", target.line, target.name);
         }
-        let need = self.stuck_need(at, progress).unwrap_or(at);
-        anyhow!(
-            "line {}: {} depends on itself, by way of {}",
-            self.line(at),
-            self.name(at),
-            self.name(need)
-        )
+        let mut after = vec![in alloc; 0; self.targets.len()]?;
+        for (Job { id, cost, .. }, _) in order.into_iter().rev() {
+            if let (Some(target), Some(longest)) = (self.targets.get_mut(id), after.get(id)) {
+                target.path = cost.saturating_add(*longest);
+                target.state = State::Waiting;
+                for need in &target.needs {
+                    if let Some(longest) = after.get_mut(*need) {
+                        *longest = target.path.max(*longest);
+                    }
+                }
+            }
+        }
+        Ok(self)
     }
 
-    fn stuck_need(&self, id: usize, progress: &Progress) -> Option<usize> {
-        let target = self.targets.get(id)?;
-        let mut needs = target.needs.iter().copied();
-        needs.find(|need| progress.outcome(*need).is_none())
+    // The first of its needs that is not built.
+    fn obstacle(&self, target: &Target<'a>) -> Option<&Target<'a>> {
+        let mut needs = target.needs.iter().filter_map(|id| self.targets.get(*id));
+        needs.find(|need| need.state != State::Built)
+    }
+
+    /// What waits for nothing any more gets the state: its jobs, each with its priority.
+    pub fn take_ready(&mut self, alloc: Global, state: State) -> anyhow::Result<Vec<(Job, u64)>> {
+        let targets = self.targets.iter();
+        let ready = targets.filter(|it| it.state == State::Waiting && self.obstacle(it).is_none());
+        let ready: Vec<(Job, u64)> = ready.map(|it| (it.job, it.path)).collect(alloc)?;
+        for (job, _) in &ready {
+            self.set_state(job.id, state);
+        }
+        Ok(ready)
+    }
+
+    pub fn set_state(&mut self, id: usize, state: State) {
+        if let Some(target) = self.targets.get_mut(id) {
+            target.state = state;
+        }
+    }
+
+    pub fn count(&self, state: State) -> usize {
+        self.targets.iter().filter(|it| it.state == state).count()
+    }
+}
+
+/// What came of a build: of each target that was not built, then the longest path, and the counts.
+impl fmt::Display for Graph<'_> {
+    fn fmt<W: fmt::Write>(&self, f: &mut fmt::Formatter<W>) -> fmt::Result {
+        for target in &self.targets {
+            match self.obstacle(target) {
+                Some(need) => writeln!(f, "{}: stopped, {} was not built", target.name, need.name)?,
+                None if target.state == State::Failed => writeln!(f, "{}: failed", target.name)?,
+                None => {}
+            }
+        }
+        let longest = self.targets.iter().map(|target| target.path).max();
+        writeln!(f, "the longest path takes {} ms", longest.unwrap_or(0))?;
+        let (built, failed) = (self.count(State::Built), self.count(State::Failed));
+        let stopped = self.count(State::Waiting);
+        writeln!(f, "{built} built, {failed} failed, {stopped} stopped")
     }
 }

@@ -3,35 +3,23 @@
 #![tactic(auto)]
 
 mod graph;
-mod line;
-mod progress;
-mod summary;
 #[cfg(test)]
 mod tests;
 mod workers;
 
-use graph::Graph;
-use progress::Progress;
+use anyhow::ensure;
+use graph::{Graph, State};
 use std::io;
-use std::process::ExitCode;
-use summary::Summary;
+use workers::build;
 
 const WORKERS: usize = 3;
 
-fn main(rt: HostRuntime) -> anyhow::Result<ExitCode> {
+fn main(rt: HostRuntime) -> anyhow::Result<()> {
     let text = io::read_to_string(rt.alloc(), rt.stdin())?;
-    let graph = Graph::parse(rt.alloc(), &text)?;
-    let progress = workers::build(rt, &graph, WORKERS)?;
-    let is_whole = report(&rt, &graph, &progress)?;
-    Ok(if is_whole {
-        ExitCode::SUCCESS
-    } else {
-        ExitCode::FAILURE
-    })
-}
-
-fn report(rt: &impl Print, graph: &Graph<'_>, progress: &Progress) -> io::Result<bool> {
-    let summary = Summary::new(graph, progress);
-    print!(rt; "{summary}")?;
-    Ok(summary.is_whole())
+    let mut graph = Graph::parse(rt.alloc(), &text)?;
+    build(rt, &mut graph, WORKERS)?;
+    print!(rt; "{graph}")?;
+    let built = graph.count(State::Built);
+    ensure!(built == graph.targets.len(), "not all was built");
+    Ok(())
 }

@@ -1,11 +1,11 @@
 //! Graphs, and builds of them.
+mod builds;
 mod graphs;
-mod orders;
-mod threads;
 
-use crate::graph::Graph;
-use crate::progress::{Outcome, Progress};
+use crate::graph::{Graph, State};
 use std::alloc::{AllocError, Global};
+use std::fmt::Debug;
+use std::process::Abort;
 
 const EXAMPLE: &str = "# a comment
 core 4
@@ -18,6 +18,11 @@ app 2 ui
 service 5 sync
 docs 1
 ";
+
+/// `assert_eq!`, proved once: each one in place takes seconds of the check.
+fn expect_equal<X: PartialEq + Debug + Drop>(rt: &impl Abort, got: X, wanted: X) {
+    assert_eq!(rt; got, wanted);
+}
 
 // Numbers that look random, the same each time.
 #[derive(Drop)]
@@ -57,32 +62,28 @@ fn random_text(alloc: Global, dice: &mut Dice) -> Result<String, AllocError> {
 
 // What has to come of each target, by the definition: a target is tried once each of its needs was
 // built, and then built or failed as its line says.
-fn outcomes(alloc: Global, graph: &Graph<'_>) -> Result<Vec<Option<Outcome>>, AllocError> {
-    let mut outcomes: Vec<Option<Outcome>> = Vec::new(alloc);
+fn outcomes(alloc: Global, graph: &Graph<'_>) -> Result<Vec<State>, AllocError> {
+    let mut outcomes = Vec::new(alloc);
     for _ in &graph.targets {
-        outcomes.push(None)?;
+        outcomes.push(State::Waiting)?;
     }
     for _ in &graph.targets {
         for (id, target) in graph.targets.iter().enumerate() {
-            let is_built = |need: &usize| outcomes.get(*need) == Some(&Some(Outcome::Built));
-            let is_tried = target.needs.iter().all(is_built);
-            if let Some(outcome) = outcomes.get_mut(id) {
-                *outcome = match (is_tried, target.fails) {
-                    (false, _) => None,
-                    (true, true) => Some(Outcome::Failed),
-                    (true, false) => Some(Outcome::Built),
-                };
+            let is_built = |need: &usize| outcomes.get(*need) == Some(&State::Built);
+            if target.needs.iter().all(is_built) {
+                if let Some(outcome) = outcomes.get_mut(id) {
+                    *outcome = target.job.outcome;
+                }
             }
         }
     }
     Ok(outcomes)
 }
 
-fn reached(
-    alloc: Global,
-    graph: &Graph<'_>,
-    progress: &Progress,
-) -> Result<Vec<Option<Outcome>>, AllocError> {
-    let ids = 0..graph.targets.len();
-    ids.map(|id| progress.outcome(id)).collect(alloc)
+fn states(alloc: Global, graph: &Graph<'_>) -> Result<Vec<State>, AllocError> {
+    graph
+        .targets
+        .iter()
+        .map(|target| target.state)
+        .collect(alloc)
 }
