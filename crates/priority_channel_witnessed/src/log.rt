@@ -143,6 +143,7 @@ pub struct Fresh<T, P: Ord, W: Clone> {
     pub(crate) word: Word<Line<T, P, W>, u64, Law>,
     pub(crate) seen: logbook::Seen<Line<T, P, W>, u64, Law>,
     pub(crate) ledger: Blank,
+    pub(crate) parts: usize,
 }
 
 impl<T, P: Ord, W: Clone> Model for Fresh<T, P, W> {
@@ -156,7 +157,7 @@ impl<T, P: Ord, W: Clone> Model for Fresh<T, P, W> {
 
     ghost invariant = { λ f.
         (f.seen.log ≡ opened (capacity_in f.seen.log) (is_reserved_in f.seen.log))
-        × (f.word ≡ word_of f.seen.book) };
+        × (f.word ≡ word_of f.seen.book) × (f.parts ≡ f.ledger.parts) };
 }
 
 impl<T, P: Ord, W: Clone> Fresh<T, P, W> {
@@ -177,6 +178,7 @@ impl<T, P: Ord, W: Clone> Fresh<T, P, W> {
             word: Word::tracked(0, &mut pens.take()),
             seen,
             ledger: Blank::new(passes as u64),
+            parts: passes,
         }
     }
 }
