@@ -1,5 +1,5 @@
 -- Passes that come and go: which numbers are out, and what was counted for those that left.
-use Rattle.std.proofs.Common.{◌≡◌, ◌≢◌, ◌+◌, ◌<◌, ◌≤◌, ◌==◌, ℕ, Bool, true, false, cond, List, [], ◌∷◌, ◌++◌, length, map, refl, sym, ap, ◌∙◌, arith, length-append, All, subst, slice_index_or}
+use Rattle.std.proofs.Common.{◌≡◌, ◌≢◌, ◌+◌, ◌<◌, ◌≤◌, ◌==◌, ℕ, Bool, true, false, cond, not, ◌&&◌, List, [], ◌∷◌, ◌++◌, length, map, refl, sym, ap, ◌∙◌, arith, length-append, All, subst, slice_index_or}
 use Rattle.std.specs.List.{sum_by, remove}
 use Rattle.std.specs.List.Sorted.{IsPermutation}
 use Rattle.std.proofs.lemmas.List.Sums.{sum_by-append, sum_by-cons, sum_by_push}
@@ -8,7 +8,7 @@ use Rattle.std.proofs.lemmas.List.Elements.{All-nil, All-cons, All-head, All-tai
 use Rattle.std.proofs.lemmas.Bool.Decides.{nat_tests}
 use mathlib.Core.List.{IsPrefix}
 use Rattle.priority_channel_witnessed.specs.declared.entry.Entry.{Entry}
-use Rattle.priority_channel_witnessed.specs.Passes.{Carried, calls_of, calls_made, calls_under, times_in, AreApart, AreGiven, IsShared}
+use Rattle.priority_channel_witnessed.specs.Passes.{Carried, calls_of, calls_made, is_of_others, calls_of_others, calls_under, times_in, AreApart, AreGiven, IsShared}
 
 -- whether it is this number
 abbrev same_as : ℕ → ℕ → ℕ
@@ -66,6 +66,13 @@ module _ {A B : Type 0} (f : B → ℕ) (g : A → B) where
   sum_by_map [] = refl
   sum_by_map (x ∷ xs) = omega (arith, sum_by-cons f (g x) (map g xs), sum_by-cons (λ y. f (g y)) x xs, sum_by_map xs)
 
+module _ (T P W : Type 0) where
+  under_none : (numbers : List ℕ) → calls_under {T = T} {P = P} {W = W} numbers [] ≡ 0
+  under_none [] = refl
+  under_none (number ∷ more) =
+      let none : calls_of {T = T} {P = P} {W = W} number [] ≡ 0 = refl in
+      omega (arith, none, sum_by-cons (λ other. calls_of {T = T} {P = P} {W = W} other []) number more, under_none more)
+
 module _ {T P W : Type 0} where
   -- whether the entry stands under this number
   abbrev hit : ℕ → Entry T P W → ℕ
@@ -74,15 +81,9 @@ module _ {T P W : Type 0} where
   abbrev number_of : Carried T P W → ℕ
   number_of pass = pass.number
 
-  under_none : (numbers : List ℕ) → calls_under {T = T} {P = P} {W = W} numbers [] ≡ 0
-  under_none [] = refl
-  under_none (number ∷ more) =
-      let none : calls_of {T = T} {P = P} {W = W} number [] ≡ 0 = refl in
-      omega (arith, none, sum_by-cons (λ other. calls_of {T = T} {P = P} {W = W} other []) number more, under_none more)
-
   -- nobody has called yet
   pub shared_none : (out : List ℕ) (next : ℕ) → IsShared {T = T} {P = P} {W = W} out next 0 []
-  shared_none out next = record { below = λ number past. refl; others = omega (arith, under_none out) }
+  shared_none out next = record { below = λ number past. refl; others = omega (arith, under_none T P W out) }
 
   under_push : (numbers : List ℕ) (history : List (Entry T P W)) (last : Entry T P W)
       → calls_under numbers (history ++ last ∷ []) ≡ calls_under numbers history + times_in last.who numbers
@@ -163,7 +164,8 @@ module _ {T P W : Type 0} where
   once_apart : (passes : List (Carried T P W)) → ((number : ℕ) → sum_by (λ pass. same_as number pass.number) passes ≤ 1) → AreApart passes
   once_apart [] once = tt
   once_apart (pass ∷ others) once =
-      let split = λ number. sum_by-cons (λ (q : Carried T P W). same_as number q.number) pass others in
+      let split : (number : ℕ) → sum_by (λ (q : Carried T P W). same_as number q.number) (pass ∷ others) ≡ same_as number pass.number + sum_by (λ (q : Carried T P W). same_as number q.number) others =
+      λ number. sum_by-cons (λ (q : Carried T P W). same_as number q.number) pass others in
       let own : same_as pass.number pass.number ≡ 1 = grind (arith, nat_tests) in (
         none_of pass.number others (omega (arith, split pass.number, own, once pass.number)),
         once_apart others (λ number. omega (arith, split number, once number)),
@@ -174,3 +176,55 @@ module _ {T P W : Type 0} where
       → AreGiven out next → AreApart passes
   out_apart passes out rest next struck given =
       once_apart passes (λ number. omega (arith, part_of (same_as number) passes out rest struck, given.once number))
+
+  others_too : (entry : Entry T P W) (number : ℕ) (passes : List (Carried T P W)) → entry.who ≡ number → All (λ pass. number ≢ pass.number) passes
+      → is_of_others passes entry ≡ true
+  others_too entry number [] is apart = refl
+  others_too entry number (pass ∷ more) is apart =
+      let other : number ≢ pass.number = All-head (λ (q : Carried T P W). number ≢ q.number) pass more apart in
+      let differs : (entry.who == pass.number) ≡ false = grind (arith, nat_tests) in
+      ap (λ (b : Bool). not b && is_of_others more entry) differs ∙ others_too entry number more is (All-tail (λ (q : Carried T P W). number ≢ q.number) pass more apart)
+
+  others_hit : (entry : Entry T P W) (pass : Carried T P W) (passes : List (Carried T P W)) → All (λ other. pass.number ≢ other.number) passes
+      → (is_its : Bool) → (entry.who == pass.number) ≡ is_its
+      → cond (not is_its && is_of_others passes entry) 1 0 + cond is_its 1 0 ≡ cond (is_of_others passes entry) 1 0
+  others_hit entry pass passes apart true is =
+      let here : entry.who ≡ pass.number = grind (arith, nat_tests) in
+      let one : cond (is_of_others passes entry) 1 0 ≡ 1 = ap (λ (b : Bool). cond {A = ℕ} b 1 0) (others_too entry pass.number passes here apart) in
+      omega (arith, one)
+  others_hit entry pass passes apart false is = omega arith
+
+  others_less : (pass : Carried T P W) (passes : List (Carried T P W)) (history : List (Entry T P W)) → All (λ other. pass.number ≢ other.number) passes
+      → calls_of_others (pass ∷ passes) history + calls_of pass.number history ≡ calls_of_others passes history
+  others_less pass passes [] apart = refl
+  others_less pass passes (entry ∷ more) apart =
+      omega (
+        arith,
+        sum_by-cons (λ (e : Entry T P W). cond (is_of_others (pass ∷ passes) e) 1 0) entry more,
+        sum_by-cons (hit pass.number) entry more,
+        sum_by-cons (λ (e : Entry T P W). cond (is_of_others passes e) 1 0) entry more,
+        others_hit entry pass passes apart (entry.who == pass.number) refl,
+        others_less pass passes more apart,
+      )
+
+  all_others : (history : List (Entry T P W)) → calls_of_others [] history ≡ length history
+  all_others [] = refl
+  all_others (entry ∷ more) = omega (arith, sum_by-cons (λ (e : Entry T P W). cond (is_of_others [] e) 1 0) entry more, all_others more)
+
+  -- each entry stands under the number of one of the passes, or under another
+  split_calls : (passes : List (Carried T P W)) (history : List (Entry T P W)) → AreApart passes
+      → length history ≡ sum_by (λ pass. calls_of pass.number history) passes + calls_of_others passes history
+  split_calls [] history apart = omega (arith, all_others history)
+  split_calls (pass ∷ more) history apart =
+      omega (arith, sum_by-cons (λ (q : Carried T P W). calls_of q.number history) pass more, others_less pass more history apart.0, split_calls more history apart.1)
+
+  same_made : (passes : List (Carried T P W)) (history : List (Entry T P W)) → All (λ pass. calls_of pass.number history ≡ pass.count) passes
+      → sum_by (λ pass. calls_of pass.number history) passes ≡ calls_made passes
+  same_made [] history exactly = refl
+  same_made (pass ∷ more) history exactly =
+      omega (arith, sum_by-cons (λ (q : Carried T P W). calls_of q.number history) pass more, sum_by-cons (λ (q : Carried T P W). q.count) pass more, All-head (λ (q : Carried T P W). calls_of q.number history ≡ q.count) pass more exactly, same_made more history (All-tail (λ (q : Carried T P W). calls_of q.number history ≡ q.count) pass more exactly))
+
+  -- the calls of these passes and those of others
+  pub all_calls : (passes : List (Carried T P W)) (history : List (Entry T P W)) → AreApart passes
+      → All (λ pass. calls_of pass.number history ≡ pass.count) passes → length history ≡ calls_made passes + calls_of_others passes history
+  all_calls passes history apart exactly = omega (arith, split_calls passes history apart, same_made passes history exactly)

@@ -2,7 +2,7 @@
 ghost use Rattle.std.specs.Prelude.{◌≡◌, ◌+◌, ◌<◌, ◌≤◌, ◌^◌, [], ◌∷◌, ◌++◌, length, vec_len, All, IfOk, IfErr, IfSome};
 ghost use mathlib.Core.List.{IsPrefix};
 ghost use Rattle.priority_channel_witnessed.specs.History.{IsHistory, IsLegal};
-ghost use Rattle.priority_channel_witnessed.specs.Passes.{calls_of, calls_made, AreApart, Accounts, AreGiven, IsTold};
+ghost use Rattle.priority_channel_witnessed.specs.Passes.{calls_of, calls_made, calls_of_others, AreApart, Accounts, AreGiven, IsTold};
 ghost use Rattle.priority_channel_witnessed.specs.Tells.{entry_of, told_entry};
 
 use crate::entry::{Telling, Told};
@@ -193,6 +193,8 @@ impl<T, P: Ord, W: Clone, J: Recording, A: Allocator> Journal<T, P, W, J, A> {
         ensures apart { IfOk result (λ seen. AreApart passes.items) }
         ensures accounts { IfOk result
             (λ seen. All (λ pass. calls_of pass.number seen ≡ pass.count) passes.items) }
+        ensures length { IfOk result
+            (λ seen. length seen ≡ calls_made passes.items + calls_of_others passes.items seen) }
         ensures journal { IfErr result (λ back. back.0 ≡ self) }
         ensures passes { IfErr result (λ back. back.1 ≡ passes) }
     {

@@ -4,7 +4,7 @@ ghost use mathlib.Core.List.{IsPrefix};
 ghost use Rattle.priority_channel_core.specs.machine.State.{opening, nobody};
 ghost use Rattle.priority_channel_witnessed.specs.History.{entry, IsHistory, IsLegal};
 ghost use Rattle.priority_channel_witnessed.specs.Log.{names};
-ghost use Rattle.priority_channel_witnessed.specs.Passes.{calls_of, calls_made, AreNew, AreApart, Accounts, IsTold};
+ghost use Rattle.priority_channel_witnessed.specs.Passes.{calls_of, calls_made, calls_of_others, AreNew, AreApart, Accounts, IsTold};
 
 use crate::journal::Journal;
 use crate::kept::Kept;
@@ -261,6 +261,8 @@ impl<T, P: Ord, W: Clone, J: Recording, A: Allocator + Copy> Witnessed<T, P, W, 
         ensures apart { IfOk result (λ ended. AreApart passes.items) }
         ensures accounts { IfOk result
             (λ ended. All (λ pass. calls_of pass.number ended.1 ≡ pass.count) passes.items) }
+        ensures length { IfOk result (λ ended. length ended.1
+            ≡ calls_made passes.items + calls_of_others passes.items ended.1) }
         ensures back { IfErr result (λ back. back.1 ≡ passes) }
     {
         let Witnessed { log, kept } = self;
