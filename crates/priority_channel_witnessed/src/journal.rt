@@ -77,6 +77,7 @@ impl<T, P: Ord, W: Clone, J: Recording, A: Allocator> Journal<T, P, W, J, A> {
     }
 
     /// A pass of the next number. One part always stays, for the calls of the passes that left.
+    #[tactic(auto, using(crate::proofs::Leaving::given_more, crate::proofs::Leaving::shared_come))]
     pub(crate) fn admit(&mut self) -> Option<Pass<T, P, W, J>>
         ensures same { self.new ≡ self.old }
         ensures count { IfSome result (λ pass. pass.count ≡ 0) }
@@ -90,9 +91,9 @@ impl<T, P: Ord, W: Clone, J: Recording, A: Allocator> Journal<T, P, W, J, A> {
             return None;
         }
         // There is room for all parts.
-        if self.out.push(number).is_err() {
+        let Ok(()) = self.out.push(number) else {
             return None;
-        }
+        };
         self.next = number + 1;
         Some(Pass {
             number,
@@ -102,6 +103,7 @@ impl<T, P: Ord, W: Clone, J: Recording, A: Allocator> Journal<T, P, W, J, A> {
     }
 
     /// Takes a pass back, with its part and its calls.
+    #[tactic(auto, using(crate::proofs::Leaving::given_less, crate::proofs::Leaving::shared_go, crate::proofs::Fronts::prefix_whole))]
     pub(crate) fn leave<R: Wait>(&mut self, rt: &R, log: &Log<T, P, W, J>, pass: Pass<T, P, W, J>)
         ensures same { self.new ≡ self.old }
         ensures kept { IsPrefix pass.seen self.new }
@@ -119,7 +121,7 @@ impl<T, P: Ord, W: Clone, J: Recording, A: Allocator> Journal<T, P, W, J, A> {
     }
 
     /// Enters a call that led to the core's state, under the pass.
-    #[tactic(auto, using(crate::proofs::Histories::legal_of))]
+    #[tactic(auto, using(crate::proofs::Histories::legal_of, crate::proofs::Leaving::shared_more))]
     pub(crate) fn enter<R: Wait>(
         &mut self,
         rt: &R,
