@@ -161,7 +161,8 @@ impl<T, P: Ord, W: Clone> Model for Fresh<T, P, W> {
 }
 
 impl<T, P: Ord, W: Clone> Fresh<T, P, W> {
-    /// For a channel of this capacity, reserved or not, with so many passes.
+    /// For a channel of this capacity, reserved or not, with parts for so many passes. Where passes
+    /// come and go, one part is not given out.
     #[tactic(auto, using(crate::proofs::Lines::log_new))]
     pub fn new(cap: u64, is_reserved: bool, passes: usize) -> Self
         ensures capacity { result.capacity ≡ cap }

@@ -69,8 +69,8 @@ impl<T: Drop, P: Ord + Drop, W: Clone + Drop, J: Recording, A: Allocator + Copy>
     J,
     A,
 > {
-    /// A channel over an open and empty core, and its passes. The error is that memory was refused
-    /// for the passes.
+    /// A channel over an open and empty core, and its first passes. The error is that memory was
+    /// refused for the passes, or for the numbers of as many as there are parts for.
     #[tactic(auto, using(crate::proofs::Lines::log_opened, crate::proofs::Lines::no_entries, crate::proofs::Histories::history_none, crate::proofs::Accounts::new_apart))]
     pub fn new(
         alloc: A,
@@ -196,7 +196,8 @@ impl<T, P: Ord, W: Clone, J: Recording, A: Allocator + Copy> Witnessed<T, P, W, 
     }
 
     /// Ends the channel, once all passes have come back. It gives the core back, and the history of
-    /// all calls, which nothing shows before. So no pass may be lost.
+    /// all calls, which nothing shows before. So no pass may be lost. Where passes have left, or not
+    /// all parts were given out, `try_end` ends it.
     pub fn end<R: Wait>(
         self,
         rt: &R,
