@@ -17,8 +17,8 @@ use std::snapshot::Snapshot;
 use std::sync::ledger::Share;
 use std::sync::{Wait, ledger};
 
-/// How many calls were made, a ledger in which the calls of all passes are counted, the history, and
-/// which passes are out.
+/// How many calls were made, a ledger in which the calls of all passes are counted, the history,
+/// and which passes are out.
 #[derive(Drop)]
 pub(crate) struct Journal<T, P: Ord, W: Clone, J: Recording, A: Allocator> {
     count: u64,
@@ -27,7 +27,7 @@ pub(crate) struct Journal<T, P: Ord, W: Clone, J: Recording, A: Allocator> {
     // The numbers of the passes that are out, and the next number.
     out: Vec<u64, A>,
     next: u64,
-    // Of so many parts in all, those that no pass has. The calls of the passes that left count here.
+    // Of so many parts in all, those that no pass has. The calls of passes that left count here.
     parts: usize,
     rest: Share<J>,
 }

@@ -196,8 +196,8 @@ impl<T, P: Ord, W: Clone, J: Recording, A: Allocator + Copy> Witnessed<T, P, W, 
     }
 
     /// Ends the channel, once all passes have come back. It gives the core back, and the history of
-    /// all calls, which nothing shows before. So no pass may be lost. Where passes have left, or not
-    /// all parts were given out, `try_end` ends it.
+    /// all calls, which nothing shows before. So no pass may be lost. Where passes have left, or
+    /// not all parts were given out, `try_end` ends it.
     pub fn end<R: Wait>(
         self,
         rt: &R,
@@ -217,8 +217,9 @@ impl<T, P: Ord, W: Clone, J: Recording, A: Allocator + Copy> Witnessed<T, P, W, 
     }
 
     /// A new pass, which has made no call. Its number is one that no pass of this channel had, and
-    /// its holder has seen the history as it is. `None` is answered where but one part of the ledger
-    /// is left: that one stays, for the calls of the passes that left. It asks for no memory.
+    /// its holder has seen the history as it is. `None` is answered where but one part of the
+    /// ledger is left: that one stays, for the calls of the passes that left. It asks for no
+    /// memory.
     pub fn admit<R: Wait>(&self, rt: &R) -> Option<Pass<T, P, W, J>>
         ensures count { IfSome result (λ pass. pass.count ≡ 0) }
         ensures legal { IfSome result
@@ -239,8 +240,8 @@ impl<T, P: Ord, W: Clone, J: Recording, A: Allocator + Copy> Witnessed<T, P, W, 
         Some(new)
     }
 
-    /// Takes a pass back whose holder makes no more calls. Its part is free for another pass, and its
-    /// calls stay in the history. It takes the longer the more passes are out.
+    /// Takes a pass back whose holder makes no more calls. Its part is free for another pass, and
+    /// its calls stay in the history. It takes the longer the more passes are out.
     pub fn leave<R: Wait>(&self, rt: &R, pass: Pass<T, P, W, J>) {
         self.kept.lock(rt).leave(rt, &self.log, pass);
     }
