@@ -1,5 +1,5 @@
 -- What a caller's pass carries, and what a call adds to it.
-use Rattle.std.specs.Prelude.{◌≡◌, ◌≢◌, ◌==◌, ◌≤◌, ℕ, Bool, List, [], ◌∷◌, ◌++◌, count_by, All, EachIndex, slice_get, Some}
+use Rattle.std.specs.Prelude.{◌≡◌, ◌≢◌, ◌==◌, ◌≤◌, ℕ, Bool, true, not, ◌&&◌, List, [], ◌∷◌, ◌++◌, ◌+◌, length, count_by, All, EachIndex, slice_get, Some}
 use Rattle.std.specs.List.{sum_by}
 use Rattle.std.specs.declared.cmp.Ordering.{Ordering}
 use Rattle.priority_channel_witnessed.specs.declared.entry.Entry.{Entry}
@@ -36,6 +36,34 @@ module _ {T P W : Type 0} where
   Accounts passes history =
       All (λ pass. calls_of pass.number history ≡ pass.count) passes
       × ((number : ℕ) → All (λ pass. number ≢ pass.number) passes → calls_of number history ≡ 0)
+
+  -- whether the entry stands under another number than those of these passes
+  abbrev pub is_of_others : List (Carried T P W) → Entry T P W → Bool
+  is_of_others [] entry = true
+  is_of_others (pass ∷ more) entry = not (entry.who == pass.number) && is_of_others more entry
+
+  -- how many such entries there are
+  abbrev pub calls_of_others : List (Carried T P W) → List (Entry T P W) → ℕ
+  calls_of_others passes history = count_by (λ entry. is_of_others passes entry) history
+
+  -- how many entries stand under these numbers, together
+  abbrev pub calls_under : List ℕ → List (Entry T P W) → ℕ
+  calls_under numbers history = sum_by (λ number. calls_of number history) numbers
+
+  -- Each entry stands under a number below the next. So many calls of passes that left are among
+  -- those under other numbers than those of the passes that are out.
+  pub record IsShared (out : List ℕ) (next left : ℕ) (history : List (Entry T P W)) : Type 0 where
+    pub below : (number : ℕ) → next ≤ number → calls_of number history ≡ 0
+    pub others : left + calls_under out history ≤ length history
+
+-- how often a number is among these
+abbrev pub times_in : ℕ → List ℕ → ℕ
+times_in number numbers = count_by (λ other. number == other) numbers
+
+-- the numbers are different, and below the next
+pub record AreGiven (numbers : List ℕ) (next : ℕ) : Type 0 where
+  pub once : (number : ℕ) → times_in number numbers ≤ 1
+  pub below : (number : ℕ) → next ≤ number → times_in number numbers ≡ 0
 
 -- Now a legal history of such a channel was seen that begins with all that had been seen, is
 -- longer, and ends with this entry. Under the pass's number it has at least as many entries as the

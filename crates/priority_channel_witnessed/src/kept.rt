@@ -1,6 +1,7 @@
 //! What the lock guards: a core, and the journal of its calls.
-ghost use Rattle.std.specs.Prelude.{◌≡◌, ◌+◌};
-ghost use Rattle.priority_channel_witnessed.specs.History.{entry};
+ghost use Rattle.std.specs.Prelude.{◌≡◌, ◌+◌, IfSome};
+ghost use mathlib.Core.List.{IsPrefix};
+ghost use Rattle.priority_channel_witnessed.specs.History.{entry, IsLegal};
 ghost use Rattle.priority_channel_witnessed.specs.Passes.{IsTold};
 
 use crate::entry::Told;
@@ -25,7 +26,7 @@ mod polls;
 #[derive(Drop)]
 pub(crate) struct Kept<T, P: Ord, W: Clone, J: Recording, A: Allocator> {
     pub(crate) core: PriorityQueueChannel<T, P, W, A>,
-    pub(crate) journal: Journal<T, P, W, J>,
+    pub(crate) journal: Journal<T, P, W, J, A>,
 }
 
 impl<T, P: Ord, W: Clone, J: Recording, A: Allocator> Model for Kept<T, P, W, J, A> {
@@ -96,5 +97,19 @@ impl<T, P: Ord, W: Clone, J: Recording, A: Allocator + Copy> Kept<T, P, W, J, A>
         let handed = Some(Snapshot::of(&wakes));
         self.journal.enter(rt, log, &self.core, pass, told, handed);
         (was_open, wakes)
+    }
+
+    pub(crate) fn admit(&mut self) -> Option<Pass<T, P, W, J>>
+        ensures count { IfSome result (λ pass. pass.count ≡ 0) }
+        ensures legal { IfSome result
+            (λ pass. IsLegal P.cmp W.is_clone J.capacity J.is_reserved pass.seen) }
+    {
+        self.journal.admit()
+    }
+
+    pub(crate) fn leave<R: Wait>(&mut self, rt: &R, log: &Log<T, P, W, J>, pass: Pass<T, P, W, J>)
+        ensures kept { IsPrefix pass.seen self.new.history }
+    {
+        self.journal.leave(rt, log, pass);
     }
 }

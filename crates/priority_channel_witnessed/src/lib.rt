@@ -9,6 +9,7 @@ mod journal;
 mod kept;
 pub mod laws;
 mod log;
+mod out;
 mod pass;
 mod witnessed;
 

@@ -143,6 +143,7 @@ pub struct Fresh<T, P: Ord, W: Clone> {
     pub(crate) word: Word<Line<T, P, W>, u64, Law>,
     pub(crate) seen: logbook::Seen<Line<T, P, W>, u64, Law>,
     pub(crate) ledger: Blank,
+    pub(crate) parts: usize,
 }
 
 impl<T, P: Ord, W: Clone> Model for Fresh<T, P, W> {
@@ -156,11 +157,12 @@ impl<T, P: Ord, W: Clone> Model for Fresh<T, P, W> {
 
     ghost invariant = { λ f.
         (f.seen.log ≡ opened (capacity_in f.seen.log) (is_reserved_in f.seen.log))
-        × (f.word ≡ word_of f.seen.book) };
+        × (f.word ≡ word_of f.seen.book) × (f.parts ≡ f.ledger.parts) };
 }
 
 impl<T, P: Ord, W: Clone> Fresh<T, P, W> {
-    /// For a channel of this capacity, reserved or not, with so many passes.
+    /// For a channel of this capacity, reserved or not, with parts for so many passes. Where passes
+    /// come and go, one part is not given out.
     #[tactic(auto, using(crate::proofs::Lines::log_new))]
     pub fn new(cap: u64, is_reserved: bool, passes: usize) -> Self
         ensures capacity { result.capacity ≡ cap }
@@ -177,6 +179,7 @@ impl<T, P: Ord, W: Clone> Fresh<T, P, W> {
             word: Word::tracked(0, &mut pens.take()),
             seen,
             ledger: Blank::new(passes as u64),
+            parts: passes,
         }
     }
 }

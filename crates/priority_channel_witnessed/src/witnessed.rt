@@ -1,14 +1,15 @@
 //! A channel whose calls many threads make.
-ghost use Rattle.std.specs.Prelude.{◌≡◌, ◌+◌, [], length, vec_len, All, IfOk};
+ghost use Rattle.std.specs.Prelude.{◌≡◌, ◌+◌, ◌≤◌, [], length, vec_len, All, IfOk, IfErr, IfSome};
 ghost use mathlib.Core.List.{IsPrefix};
 ghost use Rattle.priority_channel_core.specs.machine.State.{opening, nobody};
 ghost use Rattle.priority_channel_witnessed.specs.History.{entry, IsHistory, IsLegal};
 ghost use Rattle.priority_channel_witnessed.specs.Log.{names};
-ghost use Rattle.priority_channel_witnessed.specs.Passes.{calls_made, AreNew, AreApart, Accounts, IsTold};
+ghost use Rattle.priority_channel_witnessed.specs.Passes.{calls_of, calls_made, calls_of_others, AreNew, AreApart, Accounts, IsTold};
 
 use crate::journal::Journal;
 use crate::kept::Kept;
 use crate::log::{Fresh, Log, Recording, Seen};
+use crate::out::first_numbers;
 use crate::pass::{Pass, new_passes};
 use priority_channel_core::awaitable_atomics::Wakes;
 use priority_channel_core::calls::{Answer, Call};
@@ -68,8 +69,8 @@ impl<T: Drop, P: Ord + Drop, W: Clone + Drop, J: Recording, A: Allocator + Copy>
     J,
     A,
 > {
-    /// A channel over an open and empty core, and its passes. The error is that memory was refused
-    /// for the passes.
+    /// A channel over an open and empty core, and its first passes. The error is that memory was
+    /// refused for the passes, or for the numbers of as many as there are parts for.
     #[tactic(auto, using(crate::proofs::Lines::log_opened, crate::proofs::Lines::no_entries, crate::proofs::Histories::history_none, crate::proofs::Accounts::new_apart))]
     pub fn new(
         alloc: A,
@@ -79,22 +80,29 @@ impl<T: Drop, P: Ord + Drop, W: Clone + Drop, J: Recording, A: Allocator + Copy>
     ) -> Result<(Self, Vec<Pass<T, P, W, J>, A>), AllocError>
         requires opens { core.state ≡ opening fresh.capacity fresh.is_reserved }
         requires names { fresh ≡ names J.log J.capacity J.is_reserved J.name J.parts }
-        requires passes { fresh.passes ≡ passes }
+        requires passes { passes ≤ fresh.passes }
         ensures count { IfOk result (λ made. vec_len made.1 ≡ passes) }
         ensures new { IfOk result (λ made. AreNew made.1.items) }
         ensures apart { IfOk result (λ made. AreApart made.1.items) }
     {
-        let Fresh { word, seen, ledger } = fresh;
+        let Fresh {
+            word,
+            seen,
+            ledger,
+            parts,
+        } = fresh;
         let (calls, mut rest) = ledger.open::<J>();
-        let none = rest.empty();
+        let given = rest.split_off(passes as u64, 0);
         let seen = Seen {
             token: seen,
             of: PhantomData,
         };
-        let passes = new_passes(alloc, &seen, rest, passes)?;
+        let out = first_numbers(alloc, passes, parts)?;
+        let next = passes as u64;
+        let passes = new_passes(alloc, &seen, given, passes)?;
         let kept = Kept {
             core,
-            journal: Journal::new(calls, none, seen),
+            journal: Journal::new(calls, seen, out, next, parts, rest),
         };
         let log = Log {
             word,
@@ -188,7 +196,8 @@ impl<T, P: Ord, W: Clone, J: Recording, A: Allocator + Copy> Witnessed<T, P, W, 
     }
 
     /// Ends the channel, once all passes have come back. It gives the core back, and the history of
-    /// all calls, which nothing shows before. So no pass may be lost.
+    /// all calls, which nothing shows before. So no pass may be lost. Where passes have left, or
+    /// not all parts were given out, `try_end` ends it.
     pub fn end<R: Wait>(
         self,
         rt: &R,
@@ -205,5 +214,67 @@ impl<T, P: Ord, W: Clone, J: Recording, A: Allocator + Copy> Witnessed<T, P, W, 
         let Kept { core, journal } = kept.into_inner();
         let seen = journal.end(rt, &log, passes);
         (core, seen)
+    }
+
+    /// A new pass, which has made no call. Its number is one that no pass of this channel had, and
+    /// its holder has seen the history as it is. `None` is answered where but one part of the
+    /// ledger is left: that one stays, for the calls of the passes that left. It asks for no
+    /// memory.
+    pub fn admit<R: Wait>(&self, rt: &R) -> Option<Pass<T, P, W, J>>
+        ensures count { IfSome result (λ pass. pass.count ≡ 0) }
+        ensures legal { IfSome result
+            (λ pass. IsLegal P.cmp W.is_clone J.capacity J.is_reserved pass.seen) }
+    {
+        self.kept.lock(rt).admit()
+    }
+
+    /// A new pass, as `admit` gives, whose holder has seen all that the holder of this one has.
+    pub fn fork<R: Wait>(&self, rt: &R, pass: &Pass<T, P, W, J>) -> Option<Pass<T, P, W, J>>
+        ensures count { IfSome result (λ new. new.count ≡ 0) }
+        ensures begins { IfSome result (λ new. IsPrefix pass.now.seen new.seen) }
+        ensures legal { IfSome result
+            (λ new. IsLegal P.cmp W.is_clone J.capacity J.is_reserved new.seen) }
+    {
+        let mut new = self.admit(rt)?;
+        new.seen = self.see_all(&pass.seen, &new.seen);
+        Some(new)
+    }
+
+    /// Takes a pass back whose holder makes no more calls. Its part is free for another pass, and
+    /// its calls stay in the history. It takes the longer the more passes are out.
+    pub fn leave<R: Wait>(&self, rt: &R, pass: Pass<T, P, W, J>) {
+        self.kept.lock(rt).leave(rt, &self.log, pass);
+    }
+
+    /// Ends the channel, where these are all passes that are out: then it gives the core back, and
+    /// the history of all calls, with those of the passes that left. Else all come back.
+    pub fn try_end<R: Wait>(
+        self,
+        rt: &R,
+        passes: Vec<Pass<T, P, W, J>, A>,
+    ) -> Result<
+        (PriorityQueueChannel<T, P, W, A>, Seen<T, P, W, J>),
+        (Self, Vec<Pass<T, P, W, J>, A>),
+    >
+        ensures leads { IfOk result (λ ended. IsHistory P.cmp W.is_clone J.capacity J.is_reserved
+            ended.1 ended.0.state) }
+        ensures seen { IfOk result
+            (λ ended. All (λ pass. IsPrefix pass.seen ended.1) passes.items) }
+        ensures apart { IfOk result (λ ended. AreApart passes.items) }
+        ensures accounts { IfOk result
+            (λ ended. All (λ pass. calls_of pass.number ended.1 ≡ pass.count) passes.items) }
+        ensures length { IfOk result (λ ended. length ended.1
+            ≡ calls_made passes.items + calls_of_others passes.items ended.1) }
+        ensures back { IfErr result (λ back. back.1 ≡ passes) }
+    {
+        let Witnessed { log, kept } = self;
+        let Kept { core, journal } = kept.into_inner();
+        match journal.try_end(rt, &log, passes) {
+            Ok(seen) => Ok((core, seen)),
+            Err((journal, passes)) => {
+                let kept = Mutex::new(Kept { core, journal });
+                Err((Witnessed { log, kept }, passes))
+            }
+        }
     }
 }

@@ -3,6 +3,7 @@ use std::fmt::Debug;
 use std::process::Abort;
 
 mod calls;
+mod passes;
 mod threads;
 
 /// `assert_eq!`, proved once: each one in place takes seconds of the check.

@@ -15,7 +15,7 @@ const CAPACITY: u64 = 3;
 
 // The calls of one pass: a thousand, of which half are sends, of texts, which are no `Copy`. Counts
 // the messages that were sent and received.
-fn thousand<J: Recording, R: Wait>(
+pub(super) fn thousand<J: Recording, R: Wait>(
     rt: &R,
     alloc: Global,
     channel: &Witnessed<String, u64, (), J>,

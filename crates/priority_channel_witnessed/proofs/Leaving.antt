@@ -1,0 +1,230 @@
+-- Passes that come and go: which numbers are out, and what was counted for those that left.
+use Rattle.std.proofs.Common.{◌≡◌, ◌≢◌, ◌+◌, ◌<◌, ◌≤◌, ◌==◌, ℕ, Bool, true, false, cond, not, ◌&&◌, List, [], ◌∷◌, ◌++◌, length, map, refl, sym, ap, ◌∙◌, arith, length-append, All, subst, slice_index_or}
+use Rattle.std.specs.List.{sum_by, remove}
+use Rattle.std.specs.List.Sorted.{IsPermutation}
+use Rattle.std.proofs.lemmas.List.Sums.{sum_by-append, sum_by-cons, sum_by_push}
+use Rattle.std.proofs.lemmas.List.Sorted.{sum_by_popped, sum_by-IsPermutation, IsPermutation-remove}
+use Rattle.std.proofs.lemmas.List.Elements.{All-nil, All-cons, All-head, All-tail}
+use Rattle.std.proofs.lemmas.Bool.Decides.{nat_tests}
+use mathlib.Core.List.{IsPrefix}
+use Rattle.priority_channel_witnessed.specs.declared.entry.Entry.{Entry}
+use Rattle.priority_channel_witnessed.specs.Passes.{Carried, calls_of, calls_made, is_of_others, calls_of_others, calls_under, times_in, AreApart, AreGiven, IsShared}
+
+-- whether it is this number
+abbrev same_as : ℕ → ℕ → ℕ
+same_as number other = cond (number == other) 1 0
+
+pub given_none : AreGiven [] 0
+given_none = record { once = λ number. omega arith; below = λ number past. refl }
+
+pushed_once : (numbers : List ℕ) (next number : ℕ) → AreGiven numbers next → (is_next : Bool) → (number == next) ≡ is_next
+    → times_in number numbers + cond is_next 1 0 ≤ 1
+pushed_once numbers next number given true is =
+    let here : number ≡ next = grind (arith, nat_tests) in
+    omega (arith, given.below number (omega (arith, here)))
+pushed_once numbers next number given false is = omega (arith, given.once number)
+
+-- the next number is another than all that were given
+pub given_more : (numbers : List ℕ) (next : ℕ) → AreGiven numbers next → AreGiven (numbers ++ next ∷ []) (next + 1)
+given_more numbers next given = record {
+  once = λ number. omega (arith, sum_by_push (same_as number) numbers next, pushed_once numbers next number given (number == next) refl);
+  below = λ number past.
+      let other : same_as number next ≡ 0 = grind (arith, nat_tests) in
+      omega (arith, sum_by_push (same_as number) numbers next, other, given.below number (omega (arith, past)));
+}
+
+pub given_less : (numbers left : List ℕ) (number next : ℕ) → IsPermutation numbers (number ∷ left) → AreGiven numbers next → AreGiven left next
+given_less numbers left number next struck given = record {
+  once = λ other. omega (arith, given.once other, sum_by_popped (same_as other) number numbers left struck);
+  below = λ other past. omega (arith, given.below other past, sum_by_popped (same_as other) number numbers left struck);
+}
+
+pub struck_at : (numbers after : List ℕ) (at number : ℕ) → at < length numbers → number ≡ slice_index_or numbers at number
+    → after ≡ remove numbers at → IsPermutation numbers (number ∷ after)
+struck_at numbers after at number within is gone =
+    subst (λ l. IsPermutation numbers (number ∷ l)) (sym gone) (IsPermutation-remove numbers at number within is)
+
+-- where one function is nowhere above another, and the sum is not below, both are equal
+module _ {A : Type 0} (f g : A → ℕ) where
+  sums_le : (xs : List A) → All (λ x. f x ≤ g x) xs → sum_by f xs ≤ sum_by g xs
+  sums_le [] le = omega arith
+  sums_le (x ∷ xs) le =
+      omega (arith, sum_by-cons f x xs, sum_by-cons g x xs, All-head (λ y. f y ≤ g y) x xs le, sums_le xs (All-tail (λ y. f y ≤ g y) x xs le))
+
+  same_sums : (xs : List A) → All (λ x. f x ≤ g x) xs → sum_by g xs ≤ sum_by f xs → All (λ x. g x ≡ f x) xs
+  same_sums [] le sums = All-nil (λ x. g x ≡ f x)
+  same_sums (x ∷ xs) le sums =
+      let first : f x ≤ g x = All-head (λ y. f y ≤ g y) x xs le in
+      let others = All-tail (λ y. f y ≤ g y) x xs le in
+      let less = sums_le xs others in
+      let fs = sum_by-cons f x xs in
+      let gs = sum_by-cons g x xs in
+      All-cons (λ y. g y ≡ f y) x xs (omega (arith, first, less, fs, gs, sums)) (same_sums xs others (omega (arith, first, less, fs, gs, sums)))
+
+module _ {A B : Type 0} (f : B → ℕ) (g : A → B) where
+  sum_by_map : (xs : List A) → sum_by f (map g xs) ≡ sum_by (λ x. f (g x)) xs
+  sum_by_map [] = refl
+  sum_by_map (x ∷ xs) = omega (arith, sum_by-cons f (g x) (map g xs), sum_by-cons (λ y. f (g y)) x xs, sum_by_map xs)
+
+module _ (T P W : Type 0) where
+  under_none : (numbers : List ℕ) → calls_under {T = T} {P = P} {W = W} numbers [] ≡ 0
+  under_none [] = refl
+  under_none (number ∷ more) =
+      let none : calls_of {T = T} {P = P} {W = W} number [] ≡ 0 = refl in
+      omega (arith, none, sum_by-cons (λ other. calls_of {T = T} {P = P} {W = W} other []) number more, under_none more)
+
+module _ {T P W : Type 0} where
+  -- whether the entry stands under this number
+  abbrev hit : ℕ → Entry T P W → ℕ
+  hit number entry = cond (entry.who == number) 1 0
+
+  abbrev number_of : Carried T P W → ℕ
+  number_of pass = pass.number
+
+  -- nobody has called yet
+  pub shared_none : (out : List ℕ) (next : ℕ) → IsShared {T = T} {P = P} {W = W} out next 0 []
+  shared_none out next = record { below = λ number past. refl; others = omega (arith, under_none T P W out) }
+
+  under_push : (numbers : List ℕ) (history : List (Entry T P W)) (last : Entry T P W)
+      → calls_under numbers (history ++ last ∷ []) ≡ calls_under numbers history + times_in last.who numbers
+  under_push [] history last = refl
+  under_push (number ∷ more) history last =
+      omega (
+        arith,
+        sum_by-cons (λ other. calls_of other (history ++ last ∷ [])) number more,
+        sum_by-cons (λ other. calls_of other history) number more,
+        sum_by-cons (same_as last.who) number more,
+        sum_by_push (hit number) history last,
+        under_push more history last,
+      )
+
+  -- a call under a number that was given
+  pub shared_more : (out : List ℕ) (next left : ℕ) (history : List (Entry T P W)) (last : Entry T P W) → AreGiven out next
+      → IsShared out next left history → last.who < next → IsShared out next left (history ++ last ∷ [])
+  shared_more out next left history last given shared is = record {
+    below = λ number past.
+        let other : hit number last ≡ 0 = grind (arith, nat_tests) in
+        omega (arith, sum_by_push (hit number) history last, other, shared.below number past);
+    others = omega (arith, shared.others, under_push out history last, given.once last.who, length-append history (last ∷ []));
+  }
+
+  -- a pass that comes
+  pub shared_come : (out : List ℕ) (next left : ℕ) (history : List (Entry T P W)) → IsShared out next left history
+      → IsShared (out ++ next ∷ []) (next + 1) left history
+  shared_come out next left history shared = record {
+    below = λ number past. shared.below number (omega (arith, past));
+    others = omega (arith, shared.others, sum_by_push (λ other. calls_of other history) out next, shared.below next (omega arith));
+  }
+
+  -- no fewer entries stand under a number than in what was seen
+  calls_seen : (number count : ℕ) (seen history : List (Entry T P W)) → IsPrefix seen history → count ≤ calls_of number seen
+      → count ≤ calls_of number history
+  calls_seen number count seen history front counted =
+      omega (arith, counted, sym (ap (calls_of number) front.1) ∙ sum_by-append (hit number) seen front.0)
+
+  -- a pass that goes
+  pub shared_go : (out rest : List ℕ) (next left number count : ℕ) (seen history : List (Entry T P W)) → IsShared out next left history
+      → IsPermutation out (number ∷ rest) → IsPrefix seen history → count ≤ calls_of number seen → IsShared rest next (left + count) history
+  shared_go out rest next left number count seen history shared struck front counted = record {
+    below = shared.below;
+    others = omega (arith, shared.others, sum_by_popped (λ other. calls_of other history) number out rest struck, calls_seen number count seen history front counted);
+  }
+
+  all_counted : (passes : List (Carried T P W)) (history : List (Entry T P W)) → All (λ pass. IsPrefix pass.seen history) passes
+      → All (λ pass. pass.count ≤ calls_of pass.number pass.seen) passes → All (λ pass. pass.count ≤ calls_of pass.number history) passes
+  all_counted [] history saw counted = All-nil (λ (pass : Carried T P W). pass.count ≤ calls_of pass.number history)
+  all_counted (pass ∷ more) history saw counted =
+      All-cons (λ (q : Carried T P W). q.count ≤ calls_of q.number history) pass more
+      (calls_seen pass.number pass.count pass.seen history (All-head (λ (q : Carried T P W). IsPrefix q.seen history) pass more saw) (All-head (λ (q : Carried T P W). q.count ≤ calls_of q.number q.seen) pass more counted))
+      (all_counted more history (All-tail (λ (q : Carried T P W). IsPrefix q.seen history) pass more saw) (All-tail (λ (q : Carried T P W). q.count ≤ calls_of q.number q.seen) pass more counted))
+
+  -- what a sum over the numbers that were out has for these passes
+  part_of : (f : ℕ → ℕ) (passes : List (Carried T P W)) (out rest : List ℕ) → IsPermutation out (map (λ pass. pass.number) passes ++ rest)
+      → sum_by f out ≡ sum_by (λ pass. f pass.number) passes + sum_by f rest
+  part_of f passes out rest struck =
+      omega (arith, sum_by-IsPermutation f out (map (λ (pass : Carried T P W). pass.number) passes ++ rest) struck, sum_by-append f (map (λ (pass : Carried T P W). pass.number) passes) rest, sum_by_map f (λ (pass : Carried T P W). pass.number) passes)
+
+  -- under the number of each pass that was out stand as many entries as its count
+  pub exact : (passes : List (Carried T P W)) (out rest : List ℕ) (next left : ℕ) (history : List (Entry T P W))
+      → IsPermutation out (map (λ pass. pass.number) passes ++ rest) → IsShared out next left history → All (λ pass. IsPrefix pass.seen history) passes
+      → All (λ pass. pass.count ≤ calls_of pass.number pass.seen) passes → length history ≡ left + calls_made passes
+      → All (λ pass. calls_of pass.number history ≡ pass.count) passes
+  exact passes out rest next left history struck shared saw counted long =
+      same_sums (λ (pass : Carried T P W). pass.count) (λ (pass : Carried T P W). calls_of pass.number history) passes (all_counted passes history saw counted)
+      (omega (arith, long, shared.others, part_of (λ other. calls_of other history) passes out rest struck))
+
+  none_of : (number : ℕ) (passes : List (Carried T P W)) → sum_by (λ pass. same_as number pass.number) passes ≡ 0 → All (λ pass. number ≢ pass.number) passes
+  none_of number [] none = All-nil (λ (pass : Carried T P W). number ≢ pass.number)
+  none_of number (pass ∷ more) none =
+      let split = sum_by-cons (λ (q : Carried T P W). same_as number q.number) pass more in
+      All-cons (λ (q : Carried T P W). number ≢ q.number) pass more
+      (λ same. let one : same_as number pass.number ≡ 1 = grind (arith, nat_tests) in absurd (omega (arith, one, split, none)))
+      (none_of number more (omega (arith, split, none)))
+
+  once_apart : (passes : List (Carried T P W)) → ((number : ℕ) → sum_by (λ pass. same_as number pass.number) passes ≤ 1) → AreApart passes
+  once_apart [] once = tt
+  once_apart (pass ∷ others) once =
+      let split : (number : ℕ) → sum_by (λ (q : Carried T P W). same_as number q.number) (pass ∷ others) ≡ same_as number pass.number + sum_by (λ (q : Carried T P W). same_as number q.number) others =
+      λ number. sum_by-cons (λ (q : Carried T P W). same_as number q.number) pass others in
+      let own : same_as pass.number pass.number ≡ 1 = grind (arith, nat_tests) in (
+        none_of pass.number others (omega (arith, split pass.number, own, once pass.number)),
+        once_apart others (λ number. omega (arith, split number, once number)),
+      )
+
+  -- no two of them have one number
+  pub out_apart : (passes : List (Carried T P W)) (out rest : List ℕ) (next : ℕ) → IsPermutation out (map (λ pass. pass.number) passes ++ rest)
+      → AreGiven out next → AreApart passes
+  out_apart passes out rest next struck given =
+      once_apart passes (λ number. omega (arith, part_of (same_as number) passes out rest struck, given.once number))
+
+  others_too : (entry : Entry T P W) (number : ℕ) (passes : List (Carried T P W)) → entry.who ≡ number → All (λ pass. number ≢ pass.number) passes
+      → is_of_others passes entry ≡ true
+  others_too entry number [] is apart = refl
+  others_too entry number (pass ∷ more) is apart =
+      let other : number ≢ pass.number = All-head (λ (q : Carried T P W). number ≢ q.number) pass more apart in
+      let differs : (entry.who == pass.number) ≡ false = grind (arith, nat_tests) in
+      ap (λ (b : Bool). not b && is_of_others more entry) differs ∙ others_too entry number more is (All-tail (λ (q : Carried T P W). number ≢ q.number) pass more apart)
+
+  others_hit : (entry : Entry T P W) (pass : Carried T P W) (passes : List (Carried T P W)) → All (λ other. pass.number ≢ other.number) passes
+      → (is_its : Bool) → (entry.who == pass.number) ≡ is_its
+      → cond (not is_its && is_of_others passes entry) 1 0 + cond is_its 1 0 ≡ cond (is_of_others passes entry) 1 0
+  others_hit entry pass passes apart true is =
+      let here : entry.who ≡ pass.number = grind (arith, nat_tests) in
+      let one : cond (is_of_others passes entry) 1 0 ≡ 1 = ap (λ (b : Bool). cond {A = ℕ} b 1 0) (others_too entry pass.number passes here apart) in
+      omega (arith, one)
+  others_hit entry pass passes apart false is = omega arith
+
+  others_less : (pass : Carried T P W) (passes : List (Carried T P W)) (history : List (Entry T P W)) → All (λ other. pass.number ≢ other.number) passes
+      → calls_of_others (pass ∷ passes) history + calls_of pass.number history ≡ calls_of_others passes history
+  others_less pass passes [] apart = refl
+  others_less pass passes (entry ∷ more) apart =
+      omega (
+        arith,
+        sum_by-cons (λ (e : Entry T P W). cond (is_of_others (pass ∷ passes) e) 1 0) entry more,
+        sum_by-cons (hit pass.number) entry more,
+        sum_by-cons (λ (e : Entry T P W). cond (is_of_others passes e) 1 0) entry more,
+        others_hit entry pass passes apart (entry.who == pass.number) refl,
+        others_less pass passes more apart,
+      )
+
+  all_others : (history : List (Entry T P W)) → calls_of_others [] history ≡ length history
+  all_others [] = refl
+  all_others (entry ∷ more) = omega (arith, sum_by-cons (λ (e : Entry T P W). cond (is_of_others [] e) 1 0) entry more, all_others more)
+
+  -- each entry stands under the number of one of the passes, or under another
+  split_calls : (passes : List (Carried T P W)) (history : List (Entry T P W)) → AreApart passes
+      → length history ≡ sum_by (λ pass. calls_of pass.number history) passes + calls_of_others passes history
+  split_calls [] history apart = omega (arith, all_others history)
+  split_calls (pass ∷ more) history apart =
+      omega (arith, sum_by-cons (λ (q : Carried T P W). calls_of q.number history) pass more, others_less pass more history apart.0, split_calls more history apart.1)
+
+  same_made : (passes : List (Carried T P W)) (history : List (Entry T P W)) → All (λ pass. calls_of pass.number history ≡ pass.count) passes
+      → sum_by (λ pass. calls_of pass.number history) passes ≡ calls_made passes
+  same_made [] history exactly = refl
+  same_made (pass ∷ more) history exactly =
+      omega (arith, sum_by-cons (λ (q : Carried T P W). calls_of q.number history) pass more, sum_by-cons (λ (q : Carried T P W). q.count) pass more, All-head (λ (q : Carried T P W). calls_of q.number history ≡ q.count) pass more exactly, same_made more history (All-tail (λ (q : Carried T P W). calls_of q.number history ≡ q.count) pass more exactly))
+
+  -- the calls of these passes and those of others
+  pub all_calls : (passes : List (Carried T P W)) (history : List (Entry T P W)) → AreApart passes
+      → All (λ pass. calls_of pass.number history ≡ pass.count) passes → length history ≡ calls_made passes + calls_of_others passes history
+  all_calls passes history apart exactly = omega (arith, split_calls passes history apart, same_made passes history exactly)
