@@ -4,3 +4,4 @@ pub mod Items
 pub mod Lines
 pub mod Adding
 pub mod Accounts
+pub mod Waits

@@ -21,6 +21,7 @@ use std::sync::{Mutex, Wait};
 mod bulk;
 mod looks;
 mod polls;
+mod waits;
 
 /// A channel that many threads call, each with its pass.
 ///
@@ -59,6 +60,8 @@ mod polls;
 pub struct Witnessed<T, P: Ord, W: Clone, J: Recording, A: Allocator = Global> {
     log: Log<T, P, W, J>,
     kept: Mutex<Kept<T, P, W, J, A>>,
+    // For those who wait.
+    alloc: A,
 }
 
 impl<T: Drop, P: Ord + Drop, W: Clone + Drop, J: Recording, A: Allocator + Copy> Witnessed<
@@ -104,6 +107,7 @@ impl<T: Drop, P: Ord + Drop, W: Clone + Drop, J: Recording, A: Allocator + Copy>
             Witnessed {
                 log,
                 kept: Mutex::new(kept),
+                alloc,
             },
             passes,
         ))
@@ -201,7 +205,11 @@ impl<T, P: Ord, W: Clone, J: Recording, A: Allocator + Copy> Witnessed<T, P, W, 
         ensures seen { All (λ pass. IsPrefix pass.seen result.1) passes.items }
         ensures accounts { AreApart passes.items → Accounts passes.items result.1 }
     {
-        let Witnessed { log, kept } = self;
+        let Witnessed {
+            log,
+            kept,
+            alloc: _,
+        } = self;
         let Kept { core, journal } = kept.into_inner();
         let seen = journal.end(rt, &log, passes);
         (core, seen)
