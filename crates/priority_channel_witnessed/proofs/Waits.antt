@@ -11,7 +11,6 @@ use Rattle.priority_channel_parts.specs.declared.errors.TrySendError.TheVariants
 use Rattle.priority_channel_parts.specs.declared.errors.SendFault.{SendFault}
 use Rattle.priority_channel_parts.specs.declared.errors.SendFault.TheVariants as fault
 use Rattle.priority_channel_parts.specs.Errors.{rest_of}
-use Rattle.priority_channel_waits.specs.declared.timeouts.SendTimeoutError.{SendTimeoutError}
 use Rattle.priority_channel_core.specs.declared.calls.Call.TheVariants as call
 use Rattle.priority_channel_core.specs.declared.calls.Answer.TheVariants as answer
 use Rattle.priority_channel_core.specs.declared.calls.CorePoll.{CorePoll}
@@ -25,7 +24,7 @@ use Rattle.priority_channel_witnessed.specs.declared.entry.Entry.{Entry}
 use Rattle.priority_channel_witnessed.specs.History.{entry}
 use Rattle.priority_channel_witnessed.specs.Items.{listed_poll}
 use Rattle.priority_channel_witnessed.specs.Passes.{Carried, IsTold}
-use Rattle.priority_channel_witnessed.specs.Waits.{AnswersSendv, IsAnswered, IsSentOn, at_once, later, listed_in_time, send_in_time}
+use Rattle.priority_channel_witnessed.specs.Waits.{AnswersSendv, IsAnswered, listed_in_time, send_in_time}
 use Rattle.priority_channel_witnessed.proofs.Histories.{told_step}
 
 -- who gets the only pair back gets that pair
@@ -86,13 +85,6 @@ module _ {T P W : Type 0} (cmp : P → P → Ordering) (is_clone : W → W → T
     told = told_as old mid new is.made is.reply is.handed front same is.told;
     answers = is.answers;
   }
-
-  -- and so is a bulk send
-  pub sent_later : (old mid new : Carried T P W) (pairs : List (T × P)) (result : Result (Unit {0}) (SendTimeoutError (List (T × P)))) → IsPrefix old.seen mid.seen
-      → mid.number ≡ old.number → IsSentOn cmp is_clone capacity is_reserved mid pairs result new → IsSentOn cmp is_clone capacity is_reserved old pairs result new
-  sent_later old mid new pairs result front same (at_once is) = at_once (answered_later (AnswersSendv pairs result) old mid new front same is)
-  sent_later old mid new pairs result front same (later told number leaves more) =
-      later (told_as old mid _ _ _ _ front same told) (number ∙ same) leaves more
 
   module _ (old new : Carried T P W) (who : ℕ) (msg : T) (priority : P) (handed : Handed W) where
     -- what comes back of a send is its pair

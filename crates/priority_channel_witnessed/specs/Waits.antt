@@ -1,6 +1,6 @@
 -- What a call that waits tells of its answer. Errors are those of a call with a limit: without one,
 -- an error is the same, and never that the time is over.
-use Rattle.std.specs.Prelude.{◌≡◌, ◌⊎◌, ℕ, Bool, List, Result, Ok, Err}
+use Rattle.std.specs.Prelude.{◌≡◌, ◌⊎◌, ◌+◌, ℕ, Bool, List, Result, Ok, Err}
 use Rattle.std.specs.Result.{result_map_both}
 use Rattle.std.specs.declared.cmp.Ordering.{Ordering}
 use Rattle.std.specs.declared.vec.IntoIter.{IntoIter}
@@ -96,12 +96,14 @@ module _ {T P W : Type 0} where
       (given ≡ pairs) × (result ≡ send_in_time sent)
   AnswersSendv pairs result made reply = ⊥
 
-  -- and one of them that found no room for all, with what came back
+  -- and a call that leaves a rest of them: a bulk send that found no room for all, or the end of a
+  -- wait for room
   abbrev pub Leaves : List (T × P) → Calls T P W → Answers T P → List (T × P) → Type 0
   Leaves pairs (call.TrySendv given) (answer.TrySendv (Err (send_error.Full back))) rest =
       (given ≡ pairs) × (rest ≡ back)
   Leaves pairs (call.PollSendv given ticket waker) (answer.PollSendv (Pending back at)) rest =
       (given ≡ pairs) × (rest ≡ back)
+  Leaves pairs (call.GiveUp ticket) answer.GiveUp rest = rest ≡ pairs
   Leaves pairs made reply rest = ⊥
 
 module _ {T P W : Type 0} (cmp : P → P → Ordering) (is_clone : W → W → Type 0) (capacity : ℕ)
@@ -116,15 +118,17 @@ module _ {T P W : Type 0} (cmp : P → P → Ordering) (is_clone : W → W → T
     pub told : IsTold cmp is_clone capacity is_reserved old (entry old.number made reply handed) new
     pub answers : answers_so made reply
 
-  -- A bulk send answers; or it leaves a rest, which is sent on from there.
+  -- The calls of a bulk send that waits, all that the pass made: the last one answers, and each
+  -- other one leaves a rest for the next.
   pub data IsSentOn : Carried T P W → List (T × P)
       → Result (Unit {0}) (SendTimeoutError (List (T × P))) → Carried T P W → Type 0 where
-    at_once : {old new : Carried T P W} {pairs : List (T × P)}
+    at_last : {old new : Carried T P W} {pairs : List (T × P)}
         {result : Result (Unit {0}) (SendTimeoutError (List (T × P)))}
-        → IsAnswered old (AnswersSendv pairs result) new → IsSentOn old pairs result new
-    later : {old mid new : Carried T P W} {pairs rest : List (T × P)}
+        → IsAnswered old (AnswersSendv pairs result) new → new.count ≡ old.count + 1
+        → IsSentOn old pairs result new
+    before : {old mid new : Carried T P W} {pairs rest : List (T × P)}
         {result : Result (Unit {0}) (SendTimeoutError (List (T × P)))} {made : Calls T P W}
         {reply : Answers T P} {handed : Handed W}
         → IsTold cmp is_clone capacity is_reserved old (entry old.number made reply handed) mid
-        → mid.number ≡ old.number → Leaves pairs made reply rest → IsSentOn mid rest result new
-        → IsSentOn old pairs result new
+        → mid.number ≡ old.number → mid.count ≡ old.count + 1 → Leaves pairs made reply rest
+        → IsSentOn mid rest result new → IsSentOn old pairs result new

@@ -1,4 +1,18 @@
 //! Calls that wait on their thread, without a limit or for a limited time.
+//!
+//! Such a call is first a try. Where that finds no room, or no message, its thread is listed by a
+//! poll, sleeps, and polls again under its ticket when it is woken, until a poll is ready. Each of
+//! these is a call of the history, and the last one gives the answer; whom each hands out is woken
+//! once the lock is free. At the end of its time a call gives its ticket up and tries once more,
+//! so that `Timeout` comes of a try that found nothing.
+//!
+//! No wake is lost in this. While there is a message nobody is listed for one: what brings it hands
+//! out all who were. So who gives up takes no wake from another, and also where it has been handed
+//! out already, its last try takes what came, or another has. The same holds of room. The price is
+//! that each message wakes all who wait for one, of whom all but one sleep again.
+//!
+//! That a thread which was handed out is woken is no part of a contract, nor is the time: both are
+//! tested. A thread that waits takes memory for its waiter and for its place in the list.
 use priority_channel_core::errors::SendFault;
 
 mod recv;

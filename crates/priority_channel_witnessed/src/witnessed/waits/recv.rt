@@ -17,7 +17,16 @@ use std::sync::{Wait, WaitMethods};
 use std::time::{Clock, Duration, Instant};
 
 impl<T, P: Ord, J: Recording, A: Allocator + Copy> Witnessed<T, P, Waiter<A>, J, A> {
-    /// Receives a pair, and waits for one on this thread, which sleeps meanwhile.
+    /// Receives a pair, and waits for one on this thread, which sleeps meanwhile. Its fault is
+    /// `Closed`, where none can come any more, or `Memory`, where it has to wait and memory for
+    /// that is refused.
+    ///
+    /// What the pass sees then ends with the call that received the pair, or was refused; where
+    /// there was no memory for a waiter, with the try that found nothing.
+    ///
+    /// ```
+    /// let (msg, priority) = channel.recv_blocking(rt, pass)?;
+    /// ```
     pub fn recv_blocking<R: Wait>(
         &self,
         rt: &R,
@@ -34,7 +43,21 @@ impl<T, P: Ord, J: Recording, A: Allocator + Copy> Witnessed<T, P, Waiter<A>, J,
         }
     }
 
-    /// As `recv_blocking`, but waits no longer than that.
+    /// As `recv_blocking`, but waits no longer than that: with a limit of zero as `try_recv`, and
+    /// without a limit where that is past the end of the clock's range. A message that comes at the
+    /// last moment is received.
+    ///
+    /// `Timeout` comes of a try that found nothing, and of a reading of the clock that was not
+    /// before the deadline, or where the clock cannot be read. A call that has waited tries after
+    /// it.
+    ///
+    /// ```
+    /// match channel.recv_timeout(rt, pass, Duration::from_millis(5)) {
+    ///     Ok((msg, _priority)) => handle(msg),
+    ///     Err(error) if error.is_timeout() => look_elsewhere(),
+    ///     Err(error) => return Err(error.into()),
+    /// }
+    /// ```
     pub fn recv_timeout<R: Wait + Clock>(
         &self,
         rt: &R,

@@ -21,7 +21,16 @@ use std::sync::{Wait, WaitMethods};
 use std::time::{Clock, Duration, Instant};
 
 impl<T, P: Ord, J: Recording, A: Allocator + Copy> Witnessed<T, P, Waiter<A>, J, A> {
-    /// Sends a pair, and waits for room on this thread, which sleeps meanwhile.
+    /// Sends a pair, and waits for room on this thread, which sleeps meanwhile. Its fault is
+    /// `Closed`, or `Memory` where memory is refused for the pair or for waiting, and gives the
+    /// pair back.
+    ///
+    /// What the pass sees then ends with the call that sent the pair, or was refused; where there
+    /// was no memory for a waiter, with the try that found no room.
+    ///
+    /// ```
+    /// channel.send_blocking(rt, pass, "Foo", 0)?;
+    /// ```
     pub fn send_blocking<R: Wait>(
         &self,
         rt: &R,
@@ -41,7 +50,13 @@ impl<T, P: Ord, J: Recording, A: Allocator + Copy> Witnessed<T, P, Waiter<A>, J,
         }
     }
 
-    /// As `send_blocking`, but waits no longer than that.
+    /// As `send_blocking`, but waits no longer than that, with the limits of `recv_timeout`. Memory
+    /// that is refused at the last moment is told as `Memory`.
+    ///
+    /// ```
+    /// let late = channel.send_timeout(rt, pass, "Foo", 0, Duration::from_millis(5));
+    /// let unsent = late.err().map(|error| error.into_inner());
+    /// ```
     pub fn send_timeout<R: Wait + Clock>(
         &self,
         rt: &R,

@@ -21,7 +21,12 @@ use std::time::{Clock, Duration, Instant};
 
 impl<T: Drop, P: Ord + Drop, J: Recording, A: Allocator + Copy> Witnessed<T, P, Waiter<A>, J, A> {
     /// Sends all pairs of a vector, in order, and waits for room on this thread, which sleeps
-    /// meanwhile.
+    /// meanwhile. Its fault is one of those of `send_blocking` and gives the rest back; what was
+    /// sent stays sent. Others may send between two of its pairs.
+    ///
+    /// ```
+    /// channel.sendv_blocking(rt, pass, jobs.into_iter().peekable())?;
+    /// ```
     pub fn sendv_blocking<R: Wait>(
         &self,
         rt: &R,
@@ -39,7 +44,16 @@ impl<T: Drop, P: Ord + Drop, J: Recording, A: Allocator + Copy> Witnessed<T, P, 
         }
     }
 
-    /// As `sendv_blocking`, but waits no longer than that.
+    /// As `sendv_blocking`, but waits no longer than that, with the limits of `send_timeout`. The
+    /// rest that comes back can be sent again.
+    ///
+    /// ```
+    /// let jobs = jobs.into_iter().peekable();
+    /// if let Err(error) = channel.sendv_timeout(rt, pass, jobs, Duration::from_millis(5)) {
+    ///     let (sent, wakes) = channel.try_sendv(rt, pass, error.into_inner());
+    ///     wake_all(rt, wakes);
+    /// }
+    /// ```
     pub fn sendv_timeout<R: Wait + Clock>(
         &self,
         rt: &R,
