@@ -86,6 +86,13 @@ module _ {T P W : Type 0} (cmp : P → P → Ordering) (is_clone : W → W → T
     answers = is.answers;
   }
 
+  -- a call that was told of answers, also behind what had been seen before
+  pub answers_by : (answers_so : Calls T P W → Answers T P → Type 0) (old new : Carried T P W) (made : Calls T P W) (reply : Answers T P)
+      → (handed : Handed W) × IsTold cmp is_clone capacity is_reserved old (entry old.number made reply handed) new → answers_so made reply
+      → IsAnswered cmp is_clone capacity is_reserved old answers_so new
+  answers_by answers_so old new made reply told answers =
+      record { made = made; reply = reply; handed = told.0; told = told.1; answers = answers }
+
   module _ (old new : Carried T P W) (who : ℕ) (msg : T) (priority : P) (handed : Handed W) where
     -- what comes back of a send is its pair
     pub tried_back : (reply : Result (Unit {0}) (TrySendError (T × P)))

@@ -106,29 +106,30 @@ module _ {T P W : Type 0} where
   Leaves pairs (call.GiveUp ticket) answer.GiveUp rest = rest ≡ pairs
   Leaves pairs made reply rest = ⊥
 
-module _ {T P W : Type 0} (cmp : P → P → Ordering) (is_clone : W → W → Type 0) (capacity : ℕ)
-    (is_reserved : Bool) where
-  -- The pass was told, last of all, of a call under its own number that answers so: what it sees
-  -- now is a legal history that begins with all that it had seen and ends with this call.
-  pub record IsAnswered (old : Carried T P W) (answers_so : Calls T P W → Answers T P → Type 0)
-      (new : Carried T P W) : Type 0 where
-    pub made : Calls T P W
-    pub reply : Answers T P
-    pub handed : Handed W
-    pub told : IsTold cmp is_clone capacity is_reserved old (entry old.number made reply handed) new
-    pub answers : answers_so made reply
+-- The pass was told, last of all, of a call under its own number that answers so: what it sees now
+-- is a legal history that begins with all that it had seen and ends with this call.
+pub record IsAnswered {T P W : Type 0} (cmp : P → P → Ordering) (is_clone : W → W → Type 0)
+    (capacity : ℕ) (is_reserved : Bool) (old : Carried T P W)
+    (answers_so : Calls T P W → Answers T P → Type 0) (new : Carried T P W) : Type 0 where
+  pub made : Calls T P W
+  pub reply : Answers T P
+  pub handed : Handed W
+  pub told : IsTold cmp is_clone capacity is_reserved old (entry old.number made reply handed) new
+  pub answers : answers_so made reply
 
-  -- The calls of a bulk send that waits, all that the pass made: the last one answers, and each
-  -- other one leaves a rest for the next.
-  pub data IsSentOn : Carried T P W → List (T × P)
-      → Result (Unit {0}) (SendTimeoutError (List (T × P))) → Carried T P W → Type 0 where
-    at_last : {old new : Carried T P W} {pairs : List (T × P)}
-        {result : Result (Unit {0}) (SendTimeoutError (List (T × P)))}
-        → IsAnswered old (AnswersSendv pairs result) new → new.count ≡ old.count + 1
-        → IsSentOn old pairs result new
-    before : {old mid new : Carried T P W} {pairs rest : List (T × P)}
-        {result : Result (Unit {0}) (SendTimeoutError (List (T × P)))} {made : Calls T P W}
-        {reply : Answers T P} {handed : Handed W}
-        → IsTold cmp is_clone capacity is_reserved old (entry old.number made reply handed) mid
-        → mid.number ≡ old.number → mid.count ≡ old.count + 1 → Leaves pairs made reply rest
-        → IsSentOn mid rest result new → IsSentOn old pairs result new
+-- The calls of a bulk send that waits, all that the pass made: the last one answers, and each other
+-- one leaves a rest for the next.
+pub data IsSentOn {T P W : Type 0} (cmp : P → P → Ordering) (is_clone : W → W → Type 0)
+    (capacity : ℕ) (is_reserved : Bool) : Carried T P W → List (T × P)
+    → Result (Unit {0}) (SendTimeoutError (List (T × P))) → Carried T P W → Type 0 where
+  at_last : {old new : Carried T P W} {pairs : List (T × P)}
+      {result : Result (Unit {0}) (SendTimeoutError (List (T × P)))}
+      → IsAnswered cmp is_clone capacity is_reserved old (AnswersSendv pairs result) new
+      → new.count ≡ old.count + 1 → IsSentOn cmp is_clone capacity is_reserved old pairs result new
+  before : {old mid new : Carried T P W} {pairs rest : List (T × P)}
+      {result : Result (Unit {0}) (SendTimeoutError (List (T × P)))} {made : Calls T P W}
+      {reply : Answers T P} {handed : Handed W}
+      → IsTold cmp is_clone capacity is_reserved old (entry old.number made reply handed) mid
+      → mid.number ≡ old.number → mid.count ≡ old.count + 1 → Leaves pairs made reply rest
+      → IsSentOn cmp is_clone capacity is_reserved mid rest result new
+      → IsSentOn cmp is_clone capacity is_reserved old pairs result new
