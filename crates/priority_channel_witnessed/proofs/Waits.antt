@@ -11,6 +11,7 @@ use Rattle.priority_channel_parts.specs.declared.errors.TrySendError.TheVariants
 use Rattle.priority_channel_parts.specs.declared.errors.SendFault.{SendFault}
 use Rattle.priority_channel_parts.specs.declared.errors.SendFault.TheVariants as fault
 use Rattle.priority_channel_parts.specs.Errors.{rest_of}
+use Rattle.priority_channel_waits.specs.declared.timeouts.SendTimeoutError.{SendTimeoutError}
 use Rattle.priority_channel_core.specs.declared.calls.Call.TheVariants as call
 use Rattle.priority_channel_core.specs.declared.calls.Answer.TheVariants as answer
 use Rattle.priority_channel_core.specs.declared.calls.CorePoll.{CorePoll}
@@ -24,7 +25,7 @@ use Rattle.priority_channel_witnessed.specs.declared.entry.Entry.{Entry}
 use Rattle.priority_channel_witnessed.specs.History.{entry}
 use Rattle.priority_channel_witnessed.specs.Items.{listed_poll}
 use Rattle.priority_channel_witnessed.specs.Passes.{Carried, IsTold}
-use Rattle.priority_channel_witnessed.specs.Waits.{AnswersSendv, IsAnswered, listed_in_time, send_in_time}
+use Rattle.priority_channel_witnessed.specs.Waits.{AnswersSend, AnswersSendv, IsAnswered, listed_in_time, send_in_time}
 use Rattle.priority_channel_witnessed.proofs.Histories.{told_step}
 
 -- who gets the only pair back gets that pair
@@ -86,7 +87,15 @@ module _ {T P W : Type 0} (cmp : P → P → Ordering) (is_clone : W → W → T
     answers = is.answers;
   }
 
-  -- a call that was told of answers, also behind what had been seen before
+  -- an answer to a send of what came back answers the send
+  pub send_answered_later : (old mid new : Carried T P W) (pair rest : T × P) (result : Result (Unit {0}) (SendTimeoutError (T × P))) → rest ≡ pair → IsPrefix old.seen mid.seen
+      → mid.number ≡ old.number → IsAnswered cmp is_clone capacity is_reserved mid (AnswersSend rest.0 rest.1 result) new
+      → IsAnswered cmp is_clone capacity is_reserved old (AnswersSend pair.0 pair.1 result) new
+  send_answered_later old mid new pair rest result same front number is =
+      answered_later (AnswersSend pair.0 pair.1 result) old mid new front number
+      (subst (λ (p : T × P). IsAnswered cmp is_clone capacity is_reserved mid (AnswersSend p.0 p.1 result) new) same is)
+
+  -- a call that was told of answers
   pub answers_by : (answers_so : Calls T P W → Answers T P → Type 0) (old new : Carried T P W) (made : Calls T P W) (reply : Answers T P)
       → (handed : Handed W) × IsTold cmp is_clone capacity is_reserved old (entry old.number made reply handed) new → answers_so made reply
       → IsAnswered cmp is_clone capacity is_reserved old answers_so new
