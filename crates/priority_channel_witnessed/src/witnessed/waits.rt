@@ -13,7 +13,11 @@
 //!
 //! That a thread which was handed out is woken is no part of a contract, nor is the time: both are
 //! tested. A thread that waits takes memory for its waiter and for its place in the list.
-use priority_channel_core::errors::SendFault;
+ghost use Rattle.std.specs.Prelude.{◌≡◌};
+ghost use Rattle.priority_channel_witnessed.specs.Waits.{sent_or_over};
+
+use priority_channel_core::errors::{SendError, SendFault};
+use priority_channel_waits::timeouts::SendTimeoutError;
 
 mod recv;
 mod send;
@@ -21,3 +25,15 @@ mod sendv;
 
 // What a send answered; or what it has not sent, and evidence that its time is over.
 type Sent<C, O> = Result<Result<(), SendFault<C>>, (C, O)>;
+
+// The same, as a caller with a limit is told it.
+fn in_time<C, O: Drop>(sent: Sent<C, O>) -> Result<(), SendTimeoutError<C>>
+    ensures { result ≡ sent_or_over sent }
+{
+    match sent {
+        Ok(Ok(())) => Ok(()),
+        Ok(Err(SendFault::Closed(SendError(rest)))) => Err(SendTimeoutError::Closed(rest)),
+        Ok(Err(SendFault::Memory(rest))) => Err(SendTimeoutError::Memory(rest)),
+        Err((rest, _over)) => Err(SendTimeoutError::Timeout(rest)),
+    }
+}

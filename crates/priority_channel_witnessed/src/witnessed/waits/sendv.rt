@@ -9,7 +9,7 @@ use crate::entry::Pairs;
 use crate::log::Recording;
 use crate::pass::Pass;
 use crate::witnessed::Witnessed;
-use crate::witnessed::waits::Sent;
+use crate::witnessed::waits::{Sent, in_time};
 use priority_channel_core::calls::{Answer, Call, CorePoll};
 use priority_channel_core::errors::{SendError, SendFault, TrySendError};
 use priority_channel_waits::timeouts::SendTimeoutError;
@@ -67,10 +67,8 @@ impl<T: Drop, P: Ord + Drop, J: Recording, A: Allocator + Copy> Witnessed<T, P, 
             pass.old (list_in msgs) (listed_in_time result) pass.new }
     {
         let deadline = Deadline::after(rt, timeout);
-        match self.sendv_until(rt, pass, msgs, &deadline) {
-            Ok(sent) => Ok(sent?),
-            Err((rest, _overdue)) => Err(SendTimeoutError::Timeout(rest)),
-        }
+        let sent = self.sendv_until(rt, pass, msgs, &deadline);
+        in_time(sent)
     }
 
     /// As `sendv_timeout`, but waits no longer than until then.
@@ -87,10 +85,8 @@ impl<T: Drop, P: Ord + Drop, J: Recording, A: Allocator + Copy> Witnessed<T, P, 
             pass.old (list_in msgs) (listed_in_time result) pass.new }
     {
         let deadline = Deadline::at(rt, deadline);
-        match self.sendv_until(rt, pass, msgs, &deadline) {
-            Ok(sent) => Ok(sent?),
-            Err((rest, _overdue)) => Err(SendTimeoutError::Timeout(rest)),
-        }
+        let sent = self.sendv_until(rt, pass, msgs, &deadline);
+        in_time(sent)
     }
 
     // Sends at once, or waits, where the time is not over.
