@@ -22,7 +22,7 @@ use Rattle.priority_channel_core.proofs.Polls.{kept_callable}
 use Rattle.priority_channel_witnessed.specs.History.{entry}
 use Rattle.priority_channel_witnessed.specs.Items.{list_in, listed, listed_poll}
 use Rattle.priority_channel_witnessed.specs.Passes.{Carried, IsTold}
-use Rattle.priority_channel_witnessed.specs.Waits.{AnswersTry, AnswersSendv, Leaves, IsAnswered, IsSentOn, at_last, before, listed_in_time, send_in_time}
+use Rattle.priority_channel_witnessed.specs.Waits.{AnswersTry, AnswersSendv, Leaves, IsSentOn, at_last, before, listed_in_time, send_in_time}
 use Rattle.priority_channel_witnessed.proofs.Histories.{told_step}
 
 -- who gets the only pair back gets that pair

@@ -1,8 +1,5 @@
-use Rattle.std.proofs.Common.{◌≡◌, ◌≤◌, List}
-use Rattle.std.specs.Prelude.{Result}
-use Rattle.priority_channel_waits.specs.declared.timeouts.SendTimeoutError.{SendTimeoutError}
+use Rattle.std.proofs.Common.{◌≡◌, ◌≤◌}
 use Rattle.priority_channel_witnessed.specs.Items.{list_in}
-use Rattle.priority_channel_witnessed.specs.Passes.{Carried}
 use Rattle.priority_channel_witnessed.specs.Waits.{IsSentOn}
 use Rattle.priority_channel_witnessed.proofs.witnessed.waits.sendv.Witnessed+T+P+Waiter+A+J+A.sendv_parked.Given as goal
 
