@@ -11,8 +11,9 @@
 //! out already, its last try takes what came, or another has. The same holds of room. The price is
 //! that each message wakes all who wait for one, of whom all but one sleep again.
 //!
-//! That a thread which was handed out is woken is no part of a contract, nor is the time: both are
-//! tested. A thread that waits takes memory for its waiter and for its place in the list.
+//! Whom a call hands out cannot be let go, so a body that forgets to wake them does not compile.
+//! That a wake arrives is no part of a contract, nor is the time: both are tested. A thread that
+//! waits takes memory for its waiter and for its place in the list.
 ghost use Rattle.std.specs.Prelude.{◌≡◌};
 ghost use Rattle.priority_channel_witnessed.specs.Waits.{sent_or_over};
 
