@@ -5,3 +5,4 @@ pub mod Lines
 pub mod Adding
 pub mod Accounts
 pub mod Leaving
+pub mod Waits

@@ -3,3 +3,4 @@ pub mod Items
 pub mod Tells
 pub mod Log
 pub mod Passes
+pub mod Waits

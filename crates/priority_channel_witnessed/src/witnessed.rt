@@ -22,6 +22,7 @@ use std::sync::{Mutex, Wait};
 mod bulk;
 mod looks;
 mod polls;
+mod waits;
 
 /// A channel that many threads call, each with its pass.
 ///
@@ -60,6 +61,8 @@ mod polls;
 pub struct Witnessed<T, P: Ord, W: Clone, J: Recording, A: Allocator = Global> {
     log: Log<T, P, W, J>,
     kept: Mutex<Kept<T, P, W, J, A>>,
+    // For those who wait.
+    alloc: A,
 }
 
 impl<T: Drop, P: Ord + Drop, W: Clone + Drop, J: Recording, A: Allocator + Copy> Witnessed<
@@ -112,6 +115,7 @@ impl<T: Drop, P: Ord + Drop, W: Clone + Drop, J: Recording, A: Allocator + Copy>
             Witnessed {
                 log,
                 kept: Mutex::new(kept),
+                alloc,
             },
             passes,
         ))
@@ -210,7 +214,11 @@ impl<T, P: Ord, W: Clone, J: Recording, A: Allocator + Copy> Witnessed<T, P, W, 
         ensures seen { All (λ pass. IsPrefix pass.seen result.1) passes.items }
         ensures accounts { AreApart passes.items → Accounts passes.items result.1 }
     {
-        let Witnessed { log, kept } = self;
+        let Witnessed {
+            log,
+            kept,
+            alloc: _,
+        } = self;
         let Kept { core, journal } = kept.into_inner();
         let seen = journal.end(rt, &log, passes);
         (core, seen)
@@ -267,13 +275,13 @@ impl<T, P: Ord, W: Clone, J: Recording, A: Allocator + Copy> Witnessed<T, P, W, 
             ≡ calls_made passes.items + calls_of_others passes.items ended.1) }
         ensures back { IfErr result (λ back. back.1 ≡ passes) }
     {
-        let Witnessed { log, kept } = self;
+        let Witnessed { log, kept, alloc } = self;
         let Kept { core, journal } = kept.into_inner();
         match journal.try_end(rt, &log, passes) {
             Ok(seen) => Ok((core, seen)),
             Err((journal, passes)) => {
                 let kept = Mutex::new(Kept { core, journal });
-                Err((Witnessed { log, kept }, passes))
+                Err((Witnessed { log, kept, alloc }, passes))
             }
         }
     }

@@ -5,6 +5,7 @@ use std::process::Abort;
 mod calls;
 mod passes;
 mod threads;
+mod waits;
 
 /// `assert_eq!`, proved once: each one in place takes seconds of the check.
 fn expect_equal<X: PartialEq + Debug + Drop>(rt: &impl Abort, got: X, wanted: X) {

@@ -1,0 +1,120 @@
+-- What a pass is told over the calls of a wait.
+use Rattle.std.proofs.Common.{◌≡◌, ◌+◌, ℕ, Bool, List, [], ◌∷◌, ◌++◌, length, refl, sym, ap, arith, length-append, Option}
+use Rattle.std.specs.Prelude.{Result, Ok, Err, IfErr, IfSome}
+use Rattle.std.specs.declared.cmp.Ordering.{Ordering}
+use Rattle.std.specs.declared.vec.IntoIter.{IntoIter}
+use Rattle.std.specs.declared.iter.Ahead.{Ahead}
+use Rattle.priority_channel_parts.specs.declared.errors.TrySendError.{TrySendError}
+use Rattle.priority_channel_parts.specs.declared.errors.TrySendError.TheVariants.{Full, Closed, Memory}
+use Rattle.priority_channel_parts.specs.declared.errors.SendFault.{SendFault}
+use Rattle.priority_channel_parts.specs.declared.errors.SendFault.TheVariants as fault
+use Rattle.priority_channel_parts.specs.Errors.{rest_of}
+use Rattle.priority_channel_waits.specs.declared.timeouts.SendTimeoutError.{SendTimeoutError}
+use Rattle.priority_channel_core.specs.declared.calls.Call.TheVariants as call
+use Rattle.priority_channel_core.specs.declared.calls.Answer.TheVariants as answer
+use Rattle.priority_channel_core.specs.declared.calls.CorePoll.{CorePoll}
+use Rattle.priority_channel_core.specs.declared.calls.CorePoll.TheVariants.{Ready, Pending}
+use Rattle.priority_channel_core.specs.code.Replies.{kept_by}
+use Rattle.priority_channel_core.specs.machine.State.{State, Handed}
+use Rattle.priority_channel_core.specs.machine.Sends.{as_list, Sends}
+use Rattle.priority_channel_core.specs.machine.Step.{Calls, Answers}
+use Rattle.priority_channel_core.proofs.Polls.{kept_callable}
+use Rattle.priority_channel_witnessed.specs.History.{entry}
+use Rattle.priority_channel_witnessed.specs.Items.{list_in, listed, listed_poll}
+use Rattle.priority_channel_witnessed.specs.Passes.{Carried, IsTold}
+use Rattle.priority_channel_witnessed.specs.Waits.{AnswersTry, AnswersSendv, Leaves, IsSentOn, at_last, before, listed_in_time, send_in_time}
+use Rattle.priority_channel_witnessed.proofs.Histories.{told_step}
+
+-- who gets the only pair back gets that pair
+last_one : {X : Type 0} (x y : X) (front : List X) → x ∷ [] ≡ front ++ y ∷ [] → y ≡ x
+last_one x y [] e = cc
+last_one x y (z ∷ front) e = let l = ap length e in let m = length-append front (y ∷ []) in absurd (omega arith)
+
+module _ {T P W : Type 0} where
+  back_is : (old new : State T P W) (msg : T) (priority : P) (reply : Result (Unit {0}) (TrySendError (T × P))) (handed : Handed W)
+      → Sends old ((msg, priority) ∷ []) (as_list reply) handed new → IfErr reply (λ error. rest_of error ≡ (msg, priority))
+  back_is old new msg priority (Ok done) handed sends = tt
+  back_is old new msg priority (Err (Closed pair)) handed sends = last_one (msg, priority) pair [] (sym sends.1)
+  back_is old new msg priority (Err (Full pair)) handed sends = last_one (msg, priority) pair sends.0 sends.1
+  back_is old new msg priority (Err (Memory pair)) handed sends = last_one (msg, priority) pair sends.0 sends.1
+
+  module _ (cmp : P → P → Ordering) (is_clone : W → W → Type 0) (capacity : ℕ) (is_reserved : Bool) (old new : Carried T P W) (who : ℕ) (msg : T) (priority : P) (handed : Handed W) where
+    -- what comes back of a send is its pair
+    pub tried_back : (reply : Result (Unit {0}) (TrySendError (T × P)))
+        → IsTold cmp is_clone capacity is_reserved old (entry who (call.TrySend msg priority) (answer.TrySend reply) handed) new
+        → IfErr reply (λ error. rest_of error ≡ (msg, priority))
+    tried_back reply told =
+        let next = (told_step cmp is_clone capacity is_reserved old new _ told).1 in
+        back_is next.old next.new msg priority reply handed next.step.moves
+
+    pub polled_back : (ticket : Option ℕ) (waker : W) (polled : CorePoll (Result (Unit {0}) (SendFault (T × P))) (T × P))
+        → IsTold cmp is_clone capacity is_reserved old (entry who (call.PollSend msg priority ticket waker) (answer.PollSend polled) handed) new
+        → IfSome (kept_by polled) (λ kept. kept ≡ (msg, priority))
+    polled_back ticket waker polled told =
+        let next = (told_step cmp is_clone capacity is_reserved old new _ told).1 in
+        let moves = next.step.moves in
+        kept_callable (λ kept. kept ≡ (msg, priority)) moves.reply moves.ticket polled (back_is next.old moves.mid msg priority moves.reply handed moves.tried) moves.answered
+
+-- what is told of a call under the pass's number
+module _ {T P W : Type 0} (cmp : P → P → Ordering) (is_clone : W → W → Type 0) (capacity : ℕ) (is_reserved : Bool) where
+  abbrev Tells : Carried T P W → Calls T P W → Answers T P → Carried T P W → Type 0
+  Tells old made reply new =
+      (handed : Handed W) × IsTold cmp is_clone capacity is_reserved old (entry old.number made reply handed) new
+
+  pub gave_up : (old mid new : Carried T P W) (pairs : List (T × P)) (result : Result (Unit {0}) (SendTimeoutError (List (T × P)))) (ticket : ℕ) (handed : Handed W)
+      → IsTold cmp is_clone capacity is_reserved old (entry old.number (call.GiveUp ticket) answer.GiveUp handed) mid
+      → mid.number ≡ old.number → mid.count ≡ old.count + 1 → IsSentOn cmp is_clone capacity is_reserved mid pairs result new
+      → IsSentOn cmp is_clone capacity is_reserved old pairs result new
+  gave_up old mid new pairs result ticket handed told number count more =
+      before {made = call.GiveUp ticket} {reply = answer.GiveUp} told number count refl more
+
+module _ {T P Z W : Type 0} where
+  ready_answers : (pairs : List (T × P)) (ticket : Option ℕ) (waker : W) (sent : Result (Unit {0}) (SendFault (Ahead (IntoIter (T × P) Z) (T × P))))
+      → AnswersSendv pairs (listed_in_time (send_in_time sent)) (call.PollSendv pairs ticket waker) (answer.PollSendv (listed_poll (Ready sent)))
+  ready_answers pairs ticket waker (Ok done) = (refl, refl)
+  ready_answers pairs ticket waker (Err (fault.Closed e)) = (refl, refl)
+  ready_answers pairs ticket waker (Err (fault.Memory rest)) = (refl, refl)
+
+-- The bulk sends of a wait, each by what the code's own call answered.
+module _ {T P Z W : Type 0} (cmp : P → P → Ordering) (is_clone : W → W → Type 0) (capacity : ℕ) (is_reserved : Bool) where
+  pub tried_last : (old new : Carried T P W) (pairs : List (T × P)) (reply known : Result (Unit {0}) (TrySendError (Ahead (IntoIter (T × P) Z) (T × P))))
+      (result : Result (Unit {0}) (SendTimeoutError (List (T × P))))
+      → Tells cmp is_clone capacity is_reserved old (call.TrySendv pairs) (answer.TrySendv (listed reply)) new → new.count ≡ old.count + 1 → reply ≡ known → AnswersTry result (listed known)
+      → IsSentOn cmp is_clone capacity is_reserved old pairs result new
+  tried_last old new pairs reply known result told count is answers =
+      at_last (record {
+        made = call.TrySendv pairs;
+        reply = answer.TrySendv (listed reply);
+        handed = told.0;
+        told = told.1;
+        answers = (refl, rw is answers);
+      }) count
+
+  pub polled_last : (old new : Carried T P W) (pairs : List (T × P)) (ticket : Option ℕ) (waker : W)
+      (polled : CorePoll (Result (Unit {0}) (SendFault (Ahead (IntoIter (T × P) Z) (T × P)))) (Ahead (IntoIter (T × P) Z) (T × P))) (sent : Result (Unit {0}) (SendFault (Ahead (IntoIter (T × P) Z) (T × P))))
+      → Tells cmp is_clone capacity is_reserved old (call.PollSendv pairs ticket waker) (answer.PollSendv (listed_poll polled)) new → new.count ≡ old.count + 1 → polled ≡ Ready sent
+      → IsSentOn cmp is_clone capacity is_reserved old pairs (listed_in_time (send_in_time sent)) new
+  polled_last old new pairs ticket waker polled sent told count is =
+      at_last (record {
+        made = call.PollSendv pairs ticket waker;
+        reply = answer.PollSendv (listed_poll polled);
+        handed = told.0;
+        told = told.1;
+        answers = rw is (ready_answers pairs ticket waker sent);
+      }) count
+
+  module _ (old mid new : Carried T P W) (pairs : List (T × P)) (result : Result (Unit {0}) (SendTimeoutError (List (T × P)))) where
+    pub tried_before : (reply : Result (Unit {0}) (TrySendError (Ahead (IntoIter (T × P) Z) (T × P)))) (rest : Ahead (IntoIter (T × P) Z) (T × P))
+        → Tells cmp is_clone capacity is_reserved old (call.TrySendv pairs) (answer.TrySendv (listed reply)) mid → mid.number ≡ old.number → mid.count ≡ old.count + 1 → reply ≡ Err (Full rest)
+        → IsSentOn cmp is_clone capacity is_reserved mid (list_in rest) result new → IsSentOn cmp is_clone capacity is_reserved old pairs result new
+    tried_before reply rest told number count is more =
+        let leaves : Leaves {W = W} pairs (call.TrySendv pairs) (answer.TrySendv (listed reply)) (list_in rest) = rw is (refl, refl) in
+        before {made = call.TrySendv pairs} {reply = answer.TrySendv (listed reply)} told.1 number count leaves more
+
+    pub polled_before : (ticket : Option ℕ) (waker : W) (polled : CorePoll (Result (Unit {0}) (SendFault (Ahead (IntoIter (T × P) Z) (T × P)))) (Ahead (IntoIter (T × P) Z) (T × P)))
+        (rest : Ahead (IntoIter (T × P) Z) (T × P)) (at : ℕ)
+        → Tells cmp is_clone capacity is_reserved old (call.PollSendv pairs ticket waker) (answer.PollSendv (listed_poll polled)) mid → mid.number ≡ old.number → mid.count ≡ old.count + 1 → polled ≡ Pending rest at
+        → IsSentOn cmp is_clone capacity is_reserved mid (list_in rest) result new → IsSentOn cmp is_clone capacity is_reserved old pairs result new
+    polled_before ticket waker polled rest at told number count is more =
+        let leaves : Leaves pairs (call.PollSendv pairs ticket waker) (answer.PollSendv (listed_poll polled)) (list_in rest) = rw is (refl, refl) in
+        before {made = call.PollSendv pairs ticket waker} {reply = answer.PollSendv (listed_poll polled)} told.1 number count leaves more

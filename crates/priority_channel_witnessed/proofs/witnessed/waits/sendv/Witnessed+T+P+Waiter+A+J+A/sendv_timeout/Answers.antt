@@ -1,0 +1,5 @@
+use Rattle.priority_channel_witnessed.proofs.witnessed.waits.sendv.Witnessed+T+P+Waiter+A+J+A.sendv_timeout.Goals as goal
+
+pub returns-clause-told : goal.returns-clause-told
+returns-clause-told g c =
+    rw c.in_time.ensures c.sendv_until-sent.ensures.told

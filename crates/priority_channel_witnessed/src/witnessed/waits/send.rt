@@ -1,0 +1,232 @@
+//! Sending a pair on a thread that waits for room.
+ghost use Rattle.std.specs.Prelude.{◌≡◌, ◌+◌, ◌<◌, IfErr, IfSome};
+ghost use Rattle.priority_channel_parts.specs.Errors.{rest_of, unsent};
+ghost use Rattle.priority_channel_core.specs.code.Replies.{kept_by};
+ghost use Rattle.priority_channel_waits.specs.Waits.{unsent_in_time};
+ghost use Rattle.priority_channel_witnessed.specs.History.{entry};
+ghost use Rattle.priority_channel_witnessed.specs.Passes.{IsTold};
+ghost use Rattle.priority_channel_witnessed.specs.Waits.{IsAnswered, AnswersSend, send_in_time, sent_or_over};
+
+use crate::log::Recording;
+use crate::pass::Pass;
+use crate::witnessed::Witnessed;
+use crate::witnessed::waits::Sent;
+use priority_channel_core::calls::{Answer, Call, CorePoll};
+use priority_channel_core::errors::{SendError, SendFault, TrySendError};
+use priority_channel_waits::timeouts::SendTimeoutError;
+use priority_channel_waits::until::{Deadline, Endless, Until};
+use priority_channel_waits::waiter::{Waiter, wake_all};
+use std::alloc::Allocator;
+use std::sync::{Wait, WaitMethods};
+use std::time::{Clock, Duration, Instant};
+
+impl<T, P: Ord, J: Recording, A: Allocator + Copy> Witnessed<T, P, Waiter<A>, J, A> {
+    /// Sends a pair, and waits for room on this thread, which sleeps meanwhile. Its fault is
+    /// `Closed`, or `Memory` where memory is refused for the pair or for waiting, and gives the
+    /// pair back.
+    ///
+    /// What the pass sees then ends with the call that sent the pair, or was refused; where there
+    /// was no memory for a waiter, with the try that found no room.
+    ///
+    /// ```
+    /// channel.send_blocking(rt, pass, "Foo", 0)?;
+    /// ```
+    pub fn send_blocking<R: Wait>(
+        &self,
+        rt: &R,
+        pass: &mut Pass<T, P, Waiter<A>, J>,
+        msg: T,
+        priority: P,
+    ) -> Result<(), SendFault<(T, P)>>
+        ensures number { pass.new.number ≡ pass.old.number }
+        ensures counted { pass.old.count < pass.new.count }
+        ensures told { IsAnswered P.cmp ⟦<Waiter<A> as Clone>⟧.is_clone J.capacity J.is_reserved
+            pass.old (AnswersSend msg priority (send_in_time result)) pass.new }
+        ensures unsent { IfErr result (λ fault. unsent fault ≡ (msg, priority)) }
+    {
+        match self.send_until(rt, pass, (msg, priority), &Endless) {
+            Ok(sent) => sent,
+            Err((_unsent, never)) => match never {},
+        }
+    }
+
+    /// As `send_blocking`, but waits no longer than that, with the limits of `recv_timeout`. Memory
+    /// that is refused at the last moment is told as `Memory`.
+    ///
+    /// ```
+    /// let late = channel.send_timeout(rt, pass, "Foo", 0, Duration::from_millis(5));
+    /// let unsent = late.err().map(|error| error.into_inner());
+    /// ```
+    pub fn send_timeout<R: Wait + Clock>(
+        &self,
+        rt: &R,
+        pass: &mut Pass<T, P, Waiter<A>, J>,
+        msg: T,
+        priority: P,
+        timeout: Duration,
+    ) -> Result<(), SendTimeoutError<(T, P)>>
+        ensures number { pass.new.number ≡ pass.old.number }
+        ensures counted { pass.old.count < pass.new.count }
+        ensures told { IsAnswered P.cmp ⟦<Waiter<A> as Clone>⟧.is_clone J.capacity J.is_reserved
+            pass.old (AnswersSend msg priority result) pass.new }
+        ensures unsent { IfErr result (λ error. unsent_in_time error ≡ (msg, priority)) }
+    {
+        let deadline = Deadline::after(rt, timeout);
+        match self.send_until(rt, pass, (msg, priority), &deadline) {
+            Ok(sent) => Ok(sent?),
+            Err((unsent, _overdue)) => Err(SendTimeoutError::Timeout(unsent)),
+        }
+    }
+
+    /// As `send_timeout`, but waits no longer than until then.
+    pub fn send_deadline<R: Wait + Clock>(
+        &self,
+        rt: &R,
+        pass: &mut Pass<T, P, Waiter<A>, J>,
+        msg: T,
+        priority: P,
+        deadline: Instant,
+    ) -> Result<(), SendTimeoutError<(T, P)>>
+        ensures number { pass.new.number ≡ pass.old.number }
+        ensures counted { pass.old.count < pass.new.count }
+        ensures told { IsAnswered P.cmp ⟦<Waiter<A> as Clone>⟧.is_clone J.capacity J.is_reserved
+            pass.old (AnswersSend msg priority result) pass.new }
+        ensures unsent { IfErr result (λ error. unsent_in_time error ≡ (msg, priority)) }
+    {
+        let deadline = Deadline::at(rt, deadline);
+        match self.send_until(rt, pass, (msg, priority), &deadline) {
+            Ok(sent) => Ok(sent?),
+            Err((unsent, _overdue)) => Err(SendTimeoutError::Timeout(unsent)),
+        }
+    }
+
+    // Sends at once, or waits, where the time is not over.
+    fn send_until<R: Wait, U: Until>(
+        &self,
+        rt: &R,
+        pass: &mut Pass<T, P, Waiter<A>, J>,
+        pair: (T, P),
+        until: &U,
+    ) -> Sent<(T, P), U::Over>
+        ensures number { pass.new.number ≡ pass.old.number }
+        ensures counted { pass.old.count < pass.new.count }
+        ensures told { IsAnswered P.cmp ⟦<Waiter<A> as Clone>⟧.is_clone J.capacity J.is_reserved
+            pass.old (AnswersSend pair.0 pair.1 (sent_or_over result)) pass.new }
+        ensures unsent { IfErr (sent_or_over result) (λ error. unsent_in_time error ≡ pair) }
+    {
+        match self.send_now(rt, pass, pair) {
+            Ok(()) => Ok(Ok(())),
+            Err(TrySendError::Closed(pair)) => Ok(Err(SendFault::Closed(SendError(pair)))),
+            Err(TrySendError::Memory(pair)) => Ok(Err(SendFault::Memory(pair))),
+            Err(TrySendError::Full(pair)) => {
+                if let Err(over) = until.left() {
+                    return Err((pair, over));
+                }
+                match Waiter::new(self.alloc) {
+                    Ok(waiter) => self.send_parked(rt, pass, pair, until, &waiter),
+                    Err(_) => Ok(Err(SendFault::Memory(pair))),
+                }
+            }
+        }
+    }
+
+    // Is listed for room, and sleeps until there is some or the time is over.
+    fn send_parked<R: Wait, U: Until>(
+        &self,
+        rt: &R,
+        pass: &mut Pass<T, P, Waiter<A>, J>,
+        pair: (T, P),
+        until: &U,
+        waiter: &Waiter<A>,
+    ) -> Sent<(T, P), U::Over>
+        ensures number { pass.new.number ≡ pass.old.number }
+        ensures counted { pass.old.count < pass.new.count }
+        ensures told { IsAnswered P.cmp ⟦<Waiter<A> as Clone>⟧.is_clone J.capacity J.is_reserved
+            pass.old (AnswersSend pair.0 pair.1 (sent_or_over result)) pass.new }
+        ensures unsent { IfErr (sent_or_over result) (λ error. unsent_in_time error ≡ pair) }
+    {
+        let mut rest = pair;
+        let mut ticket = None;
+        for _ in rt.forever() {
+            match self.send_or_list(rt, pass, rest, ticket, waiter) {
+                CorePoll::Ready(sent) => return Ok(sent),
+                CorePoll::Pending(kept, given) => match until.left() {
+                    Ok(left) => {
+                        waiter.park(rt, left);
+                        ticket = Some(given);
+                        rest = kept;
+                    }
+                    Err(over) => return self.send_last(rt, pass, kept, given, over),
+                },
+            }
+        }
+        unreachable!()
+    }
+
+    // Waits no more, and sends where there is room by then.
+    fn send_last<R: Wait, O: Drop>(
+        &self,
+        rt: &R,
+        pass: &mut Pass<T, P, Waiter<A>, J>,
+        pair: (T, P),
+        ticket: u64,
+        over: O,
+    ) -> Sent<(T, P), O>
+        ensures number { pass.new.number ≡ pass.old.number }
+        ensures counted { pass.old.count < pass.new.count }
+        ensures told { IsAnswered P.cmp ⟦<Waiter<A> as Clone>⟧.is_clone J.capacity J.is_reserved
+            pass.old (AnswersSend pair.0 pair.1 (sent_or_over result)) pass.new }
+        ensures unsent { IfErr (sent_or_over result) (λ error. unsent_in_time error ≡ pair) }
+    {
+        self.give_up(rt, pass, ticket);
+        match self.send_now(rt, pass, pair) {
+            Ok(()) => Ok(Ok(())),
+            Err(TrySendError::Closed(pair)) => Ok(Err(SendFault::Closed(SendError(pair)))),
+            Err(TrySendError::Memory(pair)) => Ok(Err(SendFault::Memory(pair))),
+            Err(TrySendError::Full(pair)) => Err((pair, over)),
+        }
+    }
+
+    // `try_send`, and wakes whom it hands out.
+    fn send_now<R: Wait>(
+        &self,
+        rt: &R,
+        pass: &mut Pass<T, P, Waiter<A>, J>,
+        pair: (T, P),
+    ) -> Result<(), TrySendError<(T, P)>>
+        ensures number { pass.new.number ≡ pass.old.number }
+        ensures counted { pass.new.count ≡ pass.old.count + 1 }
+        ensures told { (handed : _) × IsTold P.cmp ⟦<Waiter<A> as Clone>⟧.is_clone J.capacity
+            J.is_reserved pass.old (entry pass.old.number (Call.TrySend pair.0 pair.1)
+            (Answer.TrySend result) handed) pass.new }
+        ensures whole { IfErr result (λ error. rest_of error ≡ pair) }
+    {
+        let (msg, priority) = pair;
+        let (sent, wakes) = self.try_send(rt, pass, msg, priority);
+        wake_all(rt, wakes);
+        sent
+    }
+
+    // `poll_send`, and wakes whom it hands out.
+    fn send_or_list<R: Wait>(
+        &self,
+        rt: &R,
+        pass: &mut Pass<T, P, Waiter<A>, J>,
+        pair: (T, P),
+        ticket: Option<u64>,
+        waiter: &Waiter<A>,
+    ) -> CorePoll<Result<(), SendFault<(T, P)>>, (T, P)>
+        ensures number { pass.new.number ≡ pass.old.number }
+        ensures counted { pass.new.count ≡ pass.old.count + 1 }
+        ensures told { (handed : _) × IsTold P.cmp ⟦<Waiter<A> as Clone>⟧.is_clone J.capacity
+            J.is_reserved pass.old
+            (entry pass.old.number (Call.PollSend pair.0 pair.1 ticket waiter.now)
+            (Answer.PollSend result) handed) pass.new }
+        ensures whole { IfSome (kept_by result) (λ kept. kept ≡ pair) }
+    {
+        let (msg, priority) = pair;
+        let (polled, wakes) = self.poll_send(rt, pass, msg, priority, ticket, waiter);
+        wake_all(rt, wakes);
+        polled
+    }
+}
