@@ -7,7 +7,7 @@ ghost use Rattle.priority_channel_witnessed.specs.Tells.{entry_of, told_entry};
 
 use crate::entry::{Telling, Told};
 use crate::log::{Log, Recording, Seen};
-use crate::out::{strike, strike_all};
+use crate::numbers::{strike, strike_all};
 use crate::pass::{Pass, gather};
 use priority_channel_core::awaitable_atomics::Wakes;
 use priority_channel_core::channel::PriorityQueueChannel;

@@ -9,7 +9,7 @@ mod journal;
 mod kept;
 pub mod laws;
 mod log;
-mod out;
+mod numbers;
 mod pass;
 mod witnessed;
 

@@ -9,7 +9,7 @@ ghost use Rattle.priority_channel_witnessed.specs.Passes.{calls_of, calls_made, 
 use crate::journal::Journal;
 use crate::kept::Kept;
 use crate::log::{Fresh, Log, Recording, Seen};
-use crate::out::first_numbers;
+use crate::numbers::first_numbers;
 use crate::pass::{Pass, new_passes};
 use priority_channel_core::awaitable_atomics::Wakes;
 use priority_channel_core::calls::{Answer, Call};
