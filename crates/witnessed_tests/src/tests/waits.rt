@@ -70,13 +70,20 @@ fn receives_time_out(rt: HostRuntime) -> Result<(), Fail> {
 
 type SentInTime = [Result<(), SendTimeoutError<(u64, u64)>>; 3];
 
-// The same of sends into a channel with room for one, and how many pairs of three a bulk send brings
-// back from there.
+// The same of sends into a channel with room for one; whether a bulk send of three pairs there ended
+// as its time was over, and how many came back.
 fn sends<J: Recording, R: Wait + Clock>(
     rt: &R,
     alloc: Global,
     fresh: Fresh<u64, u64, Waiter<Global>>,
-) -> Result<(SentInTime, Result<(), SendFault<(u64, u64)>>, Option<u64>), Fail>
+) -> Result<
+    (
+        SentInTime,
+        Result<(), SendFault<(u64, u64)>>,
+        Option<(bool, usize)>,
+    ),
+    Fail,
+>
     requires names { fresh ≡ names J.log J.capacity J.is_reserved J.name J.parts }
     requires capacity { fresh.capacity ≡ 1 }
     requires reserved { fresh.is_reserved ≡ false }
@@ -90,16 +97,9 @@ fn sends<J: Recording, R: Wait + Clock>(
     let limit = Duration::from_millis(20);
     let begun = Instant::now(rt)?;
     let pairs = Vec::from_array(alloc, [(7u64, 1u64), (8, 1), (9, 1)])?;
-    let rest = channel.sendv_timeout(rt, &mut pass, pairs.into_iter().peekable(), limit);
-    let back = match rest {
-        Err(SendTimeoutError::Timeout(rest)) => {
-            let mut count = 0u64;
-            for _pair in rest {
-                count = count.wrapping_add(1);
-            }
-            Some(count)
-        }
-        _ => None,
+    let back = match channel.sendv_timeout(rt, &mut pass, pairs.into_iter().peekable(), limit) {
+        Ok(()) => None,
+        Err(error) => Some((error.is_timeout(), error.into_inner().count())),
     };
     let late = channel.send_timeout(rt, &mut pass, 1, 5, limit);
     let (_, wakes) = channel.try_recv(rt, &mut pass);
@@ -128,7 +128,7 @@ fn sends_time_out(rt: HostRuntime) -> Result<(), Fail> {
         ],
     );
     expect_equal(&rt, blocking, Err(SendFault::Closed(SendError((4, 8)))));
-    expect_equal(&rt, back, Some(2));
+    expect_equal(&rt, back, Some((true, 2)));
     Ok(())
 }
 
