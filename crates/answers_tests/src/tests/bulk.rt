@@ -1,5 +1,6 @@
 //! How often a bulk send on a handle calls its iterator: not where nothing can be taken, and else
 //! once for each pair that it takes and once more.
+use super::{expect_equal, expect_equal_at};
 use async_priority_channel::{TrySendError, bounded};
 use std::cell::Cell;
 use std::iter::Peekable;
@@ -45,12 +46,12 @@ fn count_pairs(rest: Peekable<CountsCalls<'_>>) -> u64 {
 fn a_full_channel_leaves_the_iterator_untouched(rt: HostRuntime) -> Result<(), Fail> {
     let calls = Cell::new(0);
     let (tx, _rx) = bounded(&rt, rt.alloc(), 1)?;
-    assert_eq!(rt; tx.try_send(1, 1), Ok(()));
+    expect_equal(&rt, tx.try_send(1, 1), Ok(()));
     let Err(TrySendError::Full(rest)) = tx.try_sendv(counting(5, &calls)) else {
         return Err(Fail::from("it was not refused as by a full channel"));
     };
-    assert_eq!(rt; calls.get(), 0);
-    assert_eq!(rt; count_pairs(rest), 5);
+    expect_equal(&rt, calls.get(), 0);
+    expect_equal(&rt, count_pairs(rest), 5);
     Ok(())
 }
 
@@ -62,8 +63,8 @@ fn a_closed_channel_leaves_the_iterator_untouched(rt: HostRuntime) -> Result<(),
     let Err(TrySendError::Closed(rest)) = tx.try_sendv(counting(5, &calls)) else {
         return Err(Fail::from("it was not refused as by a closed channel"));
     };
-    assert_eq!(rt; calls.get(), 0);
-    assert_eq!(rt; count_pairs(rest), 5);
+    expect_equal(&rt, calls.get(), 0);
+    expect_equal(&rt, count_pairs(rest), 5);
     Ok(())
 }
 
@@ -74,9 +75,9 @@ fn one_pair_more_than_there_is_room_for_is_peeked(rt: HostRuntime) -> Result<(),
     let Err(TrySendError::Full(rest)) = tx.try_sendv(counting(5, &calls)) else {
         return Err(Fail::from("it was not refused for want of room"));
     };
-    assert_eq!(rt; calls.get(), 3);
-    assert_eq!(rt; count_pairs(rest), 3);
-    assert_eq!(rt; rx.len(), 2);
+    expect_equal(&rt, calls.get(), 3);
+    expect_equal(&rt, count_pairs(rest), 3);
+    expect_equal(&rt, rx.len(), 2);
     Ok(())
 }
 
@@ -87,8 +88,8 @@ fn the_end_of_the_iterator_is_asked_for_once(rt: HostRuntime) -> Result<(), Fail
         let calls = Cell::new(0);
         let (tx, rx) = bounded(&rt, rt.alloc(), capacity)?;
         assert!(rt; tx.try_sendv(counting(2, &calls)).is_ok());
-        assert_eq!(rt; calls.get(), 3, "at {capacity}");
-        assert_eq!(rt; rx.len(), 2, "at {capacity}");
+        expect_equal_at(&rt, capacity, calls.get(), 3);
+        expect_equal_at(&rt, capacity, rx.len(), 2);
     }
     Ok(())
 }

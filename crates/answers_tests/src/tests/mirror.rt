@@ -1,4 +1,5 @@
 //! Four thousand calls on handles are answered as on the core, and each look after each of them.
+use super::expect_equal;
 use async_priority_channel::{
     Ends, Receiver, RecvFault, SendFault, Sender, TryRecvManyError, TrySendError, bounded,
     bounded_reserved, unbounded,
@@ -384,9 +385,9 @@ impl<R: Wait + Clone + RandomSource + AllocGlobal> Mirrored<R> {
 fn a_bounded_channel_answers_as_the_core(rt: HostRuntime) -> Result<(), Fail> {
     let ends = bounded(&rt, rt.alloc(), 64)?;
     let mut mirrored = Mirrored::new(rt.alloc(), ends, Core::bounded(rt.alloc(), 64));
-    assert_eq!(rt; mirrored.first_difference(&rt, 0..CLOSED_AT)?, None);
+    expect_equal(&rt, mirrored.first_difference(&rt, 0..CLOSED_AT)?, None);
     assert!(rt; !mirrored.core.is_empty());
-    assert_eq!(rt; mirrored.first_difference(&rt, CLOSED_AT..CALLS)?, None);
+    expect_equal(&rt, mirrored.first_difference(&rt, CLOSED_AT..CALLS)?, None);
     assert!(rt; mirrored.core.is_empty());
     Ok(())
 }
@@ -396,9 +397,9 @@ fn a_reserved_channel_answers_as_the_core(rt: HostRuntime) -> Result<(), Fail> {
     let ends = bounded_reserved(&rt, rt.alloc(), 7)?;
     let core = Core::bounded_reserved(rt.alloc(), 7)?;
     let mut mirrored = Mirrored::new(rt.alloc(), ends, core);
-    assert_eq!(rt; mirrored.first_difference(&rt, 0..CLOSED_AT)?, None);
+    expect_equal(&rt, mirrored.first_difference(&rt, 0..CLOSED_AT)?, None);
     assert!(rt; !mirrored.core.is_empty());
-    assert_eq!(rt; mirrored.first_difference(&rt, CLOSED_AT..CALLS)?, None);
+    expect_equal(&rt, mirrored.first_difference(&rt, CLOSED_AT..CALLS)?, None);
     assert!(rt; mirrored.core.is_empty());
     Ok(())
 }
@@ -407,10 +408,10 @@ fn a_reserved_channel_answers_as_the_core(rt: HostRuntime) -> Result<(), Fail> {
 fn an_unbounded_channel_answers_as_the_core(rt: HostRuntime) -> Result<(), Fail> {
     let ends = unbounded(&rt, rt.alloc())?;
     let mut mirrored = Mirrored::new(rt.alloc(), ends, Core::unbounded(rt.alloc()));
-    assert_eq!(rt; mirrored.first_difference(&rt, 0..CLOSED_AT)?, None);
+    expect_equal(&rt, mirrored.first_difference(&rt, 0..CLOSED_AT)?, None);
     // More are pending than a limit of a thousand would let in.
     assert!(rt; mirrored.core.len() > 1000);
-    assert_eq!(rt; mirrored.first_difference(&rt, CLOSED_AT..CALLS)?, None);
+    expect_equal(&rt, mirrored.first_difference(&rt, CLOSED_AT..CALLS)?, None);
     assert!(rt; mirrored.core.is_empty());
     Ok(())
 }

@@ -1,5 +1,6 @@
 //! The greatest priority comes first, and equals in the order of sending, for priorities of several
 //! types: by calls that answer at once, and by futures.
+use super::expect_equal;
 use async_priority_channel::unbounded;
 use futures::executor::block_on;
 use std::alloc::AllocGlobal;
@@ -52,8 +53,8 @@ where
 fn equal_priorities_come_out_as_they_were_sent(rt: HostRuntime) -> Result<(), Fail> {
     let sent = [1u64, 1, 2, 1, 2, 0, 2, 1];
     let want = [2, 4, 6, 0, 1, 3, 7, 5].as_slice();
-    assert_eq!(rt; order_by_tries(&rt, &sent)?.as_slice(), want);
-    assert_eq!(rt; order_by_futures(&rt, &sent)?.as_slice(), want);
+    expect_equal(&rt, order_by_tries(&rt, &sent)?.as_slice(), want);
+    expect_equal(&rt, order_by_futures(&rt, &sent)?.as_slice(), want);
     Ok(())
 }
 
@@ -61,8 +62,8 @@ fn equal_priorities_come_out_as_they_were_sent(rt: HostRuntime) -> Result<(), Fa
 fn reversed_priorities_put_the_least_first(rt: HostRuntime) -> Result<(), Fail> {
     let sent = [Reverse(3u64), Reverse(1), Reverse(2), Reverse(1)];
     let want = [1, 3, 2, 0].as_slice();
-    assert_eq!(rt; order_by_tries(&rt, &sent)?.as_slice(), want);
-    assert_eq!(rt; order_by_futures(&rt, &sent)?.as_slice(), want);
+    expect_equal(&rt, order_by_tries(&rt, &sent)?.as_slice(), want);
+    expect_equal(&rt, order_by_futures(&rt, &sent)?.as_slice(), want);
     Ok(())
 }
 
@@ -71,8 +72,8 @@ fn reversed_priorities_put_the_least_first(rt: HostRuntime) -> Result<(), Fail> 
 fn pairs_are_priorities(rt: HostRuntime) -> Result<(), Fail> {
     let sent = [(1u8, 9u8), (2, 0), (1, 9), (2, 1), (0, 255), (2, 0)];
     let want = [3, 1, 5, 0, 2, 4].as_slice();
-    assert_eq!(rt; order_by_tries(&rt, &sent)?.as_slice(), want);
-    assert_eq!(rt; order_by_futures(&rt, &sent)?.as_slice(), want);
+    expect_equal(&rt, order_by_tries(&rt, &sent)?.as_slice(), want);
+    expect_equal(&rt, order_by_futures(&rt, &sent)?.as_slice(), want);
     Ok(())
 }
 
@@ -80,7 +81,7 @@ fn pairs_are_priorities(rt: HostRuntime) -> Result<(), Fail> {
 fn without_priorities_it_is_a_queue(rt: HostRuntime) -> Result<(), Fail> {
     let sent = [(), (), (), (), ()];
     let want = [0, 1, 2, 3, 4].as_slice();
-    assert_eq!(rt; order_by_tries(&rt, &sent)?.as_slice(), want);
-    assert_eq!(rt; order_by_futures(&rt, &sent)?.as_slice(), want);
+    expect_equal(&rt, order_by_tries(&rt, &sent)?.as_slice(), want);
+    expect_equal(&rt, order_by_futures(&rt, &sent)?.as_slice(), want);
     Ok(())
 }
