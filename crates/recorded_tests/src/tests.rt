@@ -1,6 +1,8 @@
 //! What the tests share.
 use async_priority_channel::TrySendError;
 use async_priority_channel::recorded::{Call, NoMemory, Reply};
+use std::fmt::Debug;
+use std::process::Abort;
 
 mod books;
 mod passes;
@@ -24,3 +26,18 @@ const SEVEN: [(Call<u64, u64>, Reply<u64, u64>); 7] = [
     ),
     (Call::Len, Reply::Len(1)),
 ];
+
+/// `assert_eq!`, proved once: each one in place takes seconds of the check.
+fn expect_equal<X: PartialEq + Debug + Drop>(rt: &impl Abort, got: X, wanted: X) {
+    assert_eq!(rt; got, wanted);
+}
+
+/// The same in one round of a loop, which it names where the two differ.
+fn expect_equal_at<N: Debug + Drop, X: PartialEq + Debug + Drop>(
+    rt: &impl Abort,
+    round: N,
+    got: X,
+    wanted: X,
+) {
+    assert_eq!(rt; got, wanted, "at {round:?}");
+}

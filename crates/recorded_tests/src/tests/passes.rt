@@ -2,7 +2,7 @@
 ghost use Rattle.std.specs.Prelude.{◌≡◌};
 ghost use Rattle.priority_channel_recorded.specs.Log.{names};
 
-use super::{SEVEN, Told};
+use super::{SEVEN, Told, expect_equal, expect_equal_at};
 use async_priority_channel::recorded::{
     Call, Entry, Fresh, History, NoMemory, Recorded, Recording, Reply,
 };
@@ -43,18 +43,19 @@ fn seven_calls<'a, J: Recording, R: Wait>(
 fn a_pass_records(rt: HostRuntime) -> Result<(), Fail> {
     let alloc = Refusing::new(rt.alloc());
     let (told, count, history) = seven_calls::<Brand, _>(&rt, &alloc, Fresh::new(2, 1))?;
-    assert_eq!(rt; count, 7);
-    assert_eq!(rt; history.entries().len(), 7);
+    expect_equal(&rt, count, 7);
+    expect_equal(&rt, history.entries().len(), 7);
     for i in 0..7usize {
         let (call, reply) = SEVEN[i];
-        assert_eq!(rt; told[i], Some(Ok(reply)));
-        assert_eq!(rt;
+        expect_equal(&rt, told[i], Some(Ok(reply)));
+        expect_equal(
+            &rt,
             history.entries().get(i),
             Some(&Entry {
                 who: 0,
                 call,
-                reply
-            })
+                reply,
+            }),
         );
     }
     Ok(())
@@ -80,8 +81,8 @@ fn its_constructor_may_be_refused(rt: HostRuntime) -> Result<(), Fail> {
         alloc.refuse_nth(n);
         let made = is_made::<Brand>(&alloc, Fresh::new(2, 2));
         let met_none = alloc.refuse_none();
-        assert_eq!(rt; met_none, n == NOT_MET, "at {n}");
-        assert_eq!(rt; made, met_none, "at {n}");
+        expect_equal_at(&rt, n, met_none, n == NOT_MET);
+        expect_equal_at(&rt, n, made, met_none);
     }
     Ok(())
 }
@@ -117,10 +118,10 @@ fn without_place<'a, J: Recording, R: Wait>(
 fn a_call_without_place_is_not_made(rt: HostRuntime) -> Result<(), Fail> {
     let alloc = Refusing::new(rt.alloc());
     let (told, history) = without_place::<Brand, _>(&rt, &alloc, Fresh::new(1, 1))?;
-    assert_eq!(rt; told[0], (Err(NoMemory), 0));
-    assert_eq!(rt; told[1], (Ok(Reply::Sent(Ok(()))), 1));
-    assert_eq!(rt; told[2], (Ok(Reply::Len(1)), 2));
-    assert_eq!(rt; history.entries().len(), 2);
+    expect_equal(&rt, told[0], (Err(NoMemory), 0));
+    expect_equal(&rt, told[1], (Ok(Reply::Sent(Ok(()))), 1));
+    expect_equal(&rt, told[2], (Ok(Reply::Len(1)), 2));
+    expect_equal(&rt, history.entries().len(), 2);
     Ok(())
 }
 
@@ -150,11 +151,11 @@ fn two_passes<J: Recording, R: Wait>(
 #[test]
 fn two_passes_meet(rt: HostRuntime) -> Result<(), Fail> {
     let (told, counts, history) = two_passes::<Brand, _>(&rt, rt.alloc(), Fresh::new(2, 2))?;
-    assert_eq!(rt; told[0], Ok(Reply::Sent(Ok(()))));
-    assert_eq!(rt; told[1], Ok(Reply::Received(Ok((1, 5)))));
-    assert_eq!(rt; told[2], Ok(Reply::Len(0)));
-    assert_eq!(rt; counts, [(0, 2), (1, 1)]);
-    assert_eq!(rt; history.entries().len(), 3);
+    expect_equal(&rt, told[0], Ok(Reply::Sent(Ok(()))));
+    expect_equal(&rt, told[1], Ok(Reply::Received(Ok((1, 5)))));
+    expect_equal(&rt, told[2], Ok(Reply::Len(0)));
+    expect_equal(&rt, counts, [(0, 2), (1, 1)]);
+    expect_equal(&rt, history.entries().len(), 3);
     let mut callers = history.entries().iter().map(|entry| entry.who);
     assert!(rt; callers.eq([0, 1, 0]));
     Ok(())
@@ -192,8 +193,8 @@ fn many_calls<J: Recording, R: Wait>(
 #[test]
 fn a_recorder_takes_many_calls(rt: HostRuntime) -> Result<(), Fail> {
     let (passed_on, count, history) = many_calls::<Brand, _>(&rt, rt.alloc(), Fresh::new(1, 1))?;
-    assert_eq!(rt; passed_on, PAIRS);
-    assert_eq!(rt; count, 10_000);
-    assert_eq!(rt; history.entries().len(), 10_000);
+    expect_equal(&rt, passed_on, PAIRS);
+    expect_equal(&rt, count, 10_000);
+    expect_equal(&rt, history.entries().len(), 10_000);
     Ok(())
 }

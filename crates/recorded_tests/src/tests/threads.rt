@@ -2,7 +2,7 @@
 ghost use Rattle.std.specs.Prelude.{◌≡◌};
 ghost use Rattle.priority_channel_recorded.specs.Log.{names};
 
-use super::Told;
+use super::{Told, expect_equal};
 use async_priority_channel::recorded::{
     Call, Entry, Fresh, History, Pass, Recorded, Recording, Reply,
 };
@@ -52,10 +52,11 @@ fn closed_by_another<J: Recording + Send + Sync, R: Threads + Wait + Sync>(
 #[test]
 fn a_close_on_another_thread_is_seen(rt: HostRuntime) -> Result<(), Fail> {
     let (told, history) = closed_by_another::<Brand, _>(&rt, rt.alloc(), Fresh::new(1, 2))?;
-    assert_eq!(rt; told.get(0), Some(&Ok(Reply::Bool(true))));
-    assert_eq!(rt;
+    expect_equal(&rt, told.get(0), Some(&Ok(Reply::Bool(true))));
+    expect_equal(
+        &rt,
         told.get(1),
-        Some(&Ok(Reply::Sent(Err(TrySendError::Closed((4, 4))))))
+        Some(&Ok(Reply::Sent(Err(TrySendError::Closed((4, 4)))))),
     );
     assert!(rt; history.entries().iter().map(|entry| entry.who).eq([1, 0]));
     Ok(())
@@ -89,10 +90,14 @@ fn one_close_is_the_first(rt: HostRuntime) -> Result<(), Fail> {
     let (told, history) = sixteen_close::<Brand, _>(&rt, rt.alloc(), Fresh::new(1, 16))?;
     let first = Ok(Reply::Bool(true));
     let later = Ok(Reply::Bool(false));
-    assert_eq!(rt; told.len(), 16);
-    assert_eq!(rt; told.iter().filter(|reply| **reply == first).count(), 1);
-    assert_eq!(rt; told.iter().filter(|reply| **reply == later).count(), 15);
-    assert_eq!(rt; history.entries().len(), 16);
+    expect_equal(&rt, told.len(), 16);
+    expect_equal(&rt, told.iter().filter(|reply| **reply == first).count(), 1);
+    expect_equal(
+        &rt,
+        told.iter().filter(|reply| **reply == later).count(),
+        15,
+    );
+    expect_equal(&rt, history.entries().len(), 16);
     Ok(())
 }
 
@@ -172,10 +177,10 @@ fn replay(pending: &mut Vec<(u64, u64)>, entry: &Entry<u64, u64>) -> Result<bool
 #[test]
 fn four_threads_make_one_history(rt: HostRuntime) -> Result<(), Fail> {
     let (told, history) = four_passes::<Brand, _>(&rt, rt.alloc(), Fresh::new(CAPACITY, 4))?;
-    assert_eq!(rt; history.entries().len(), 4000);
-    assert_eq!(rt; told.len(), 4);
+    expect_equal(&rt, history.entries().len(), 4000);
+    expect_equal(&rt, told.len(), 4);
     for entries in told {
-        assert_eq!(rt; entries.len(), 1000);
+        expect_equal(&rt, entries.len(), 1000);
         let who = entries.get(0).map(|entry| entry.who);
         let own = history
             .entries()
