@@ -1,6 +1,24 @@
 //! Handles and futures whose requests for memory are refused.
+use std::fmt::Debug;
+use std::process::Abort;
+
 mod batches;
 mod bulk;
 mod counts;
 mod memory;
 mod wakes;
+
+/// `assert_eq!`, proved once: each one in place takes seconds of the check.
+fn expect_equal<X: PartialEq + Debug + Drop>(rt: &impl Abort, got: X, wanted: X) {
+    assert_eq!(rt; got, wanted);
+}
+
+/// The same in one round of a loop, which it names where the two differ.
+fn expect_equal_at<N: Debug + Drop, X: PartialEq + Debug + Drop>(
+    rt: &impl Abort,
+    round: N,
+    got: X,
+    wanted: X,
+) {
+    assert_eq!(rt; got, wanted, "at {round:?}");
+}

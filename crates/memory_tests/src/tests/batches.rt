@@ -1,4 +1,5 @@
 //! A receive of many that is refused memory takes nothing.
+use super::{expect_equal, expect_equal_at};
 use async_priority_channel::{Receiver, RecvFault, Sender, bounded_reserved};
 use futures::executor::block_on;
 use futures::task::Poll;
@@ -99,13 +100,13 @@ fn a_task_that_waits_takes_nothing(rt: HostRuntime) -> Result<(), Fail> {
             refused = refused.wrapping_add(1);
         } else {
             assert!(rt; !batch.is_empty(), "at {n}");
-            assert_eq!(rt; received, Ok(batch.len()), "at {n}");
+            expect_equal_at(&rt, n, received, Ok(batch.len()));
         }
         assert!(rt; are_all_there(&batch, &rx), "at {n}");
         if met_none {
-            assert_eq!(rt; received, Ok(3));
+            expect_equal(&rt, received, Ok(3));
             // Its waiter, and its entry in the list.
-            assert_eq!(rt; refused, 2);
+            expect_equal(&rt, refused, 2);
         }
     }
     Ok(())
@@ -122,11 +123,11 @@ fn a_thread_that_would_wait_takes_nothing(rt: HostRuntime) -> Result<(), Fail> {
         alloc.refuse_nth(n);
         let received = rx.recv_many_blocking(&mut batch, 3);
         assert!(rt; !alloc.refuse_none(), "at {n}");
-        assert_eq!(rt; received, Err(RecvFault::Memory), "at {n}");
+        expect_equal_at(&rt, n, received, Err(RecvFault::Memory));
         alloc.refuse_all();
         let received = rx.recv_many_blocking(&mut batch, 3);
         alloc.refuse_none();
-        assert_eq!(rt; received, Err(RecvFault::Memory), "at {n}");
+        expect_equal_at(&rt, n, received, Err(RecvFault::Memory));
         assert!(rt; batch.is_empty(), "at {n}");
         assert!(rt; send_all(&tx));
         assert!(rt; are_all_there(&batch, &rx), "at {n}");

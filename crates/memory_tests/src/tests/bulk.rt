@@ -1,4 +1,5 @@
 //! A bulk send that is refused memory has sent a front of its list, and gives back the rest.
+use super::expect_equal;
 use async_priority_channel::{Receiver, TryRecvError, bounded};
 use futures::task::Poll;
 use futures::test::MockTask;
@@ -50,7 +51,7 @@ fn a_refused_try_gives_back_the_rest(rt: HostRuntime) -> Result<(), Fail> {
         let received = receive_behind(&rx, 0).ok_or("another pair came")?;
         if met_none {
             assert!(rt; sent.is_ok());
-            assert_eq!(rt; received, 9);
+            expect_equal(&rt, received, 9);
             // One for the first slots, and others for more of them.
             assert!(rt; n > 2);
             continue;
@@ -92,7 +93,7 @@ fn a_refused_future_gives_back_the_rest(rt: HostRuntime) -> Result<(), Fail> {
         let sent = answer.ok_or("it waits for ever")?;
         if met_none {
             assert!(rt; sent.is_ok());
-            assert_eq!(rt; received, 9);
+            expect_equal(&rt, received, 9);
             // For its waiter, for messages, and in the list at each poll that waits.
             assert!(rt; n > 5);
             continue;

@@ -1,4 +1,5 @@
 //! Where a handle is refused, the counts are of the handles that there are.
+use super::{expect_equal, expect_equal_at};
 use async_priority_channel::{TryRecvError, bounded};
 use refusing::Refusing;
 use std::alloc::{AllocError, Global};
@@ -51,24 +52,26 @@ fn a_refused_handle_is_not_counted(rt: HostRuntime) -> Result<(), Fail> {
             continue;
         };
         let (weak_tx, weak_rx) = (tx.downgrade().ok(), rx.downgrade().ok());
-        assert_eq!(rt; (tx.sender_count(), tx.receiver_count()), (1, 1), "at {n}");
+        expect_equal_at(&rt, n, (tx.sender_count(), tx.receiver_count()), (1, 1));
         let (other_tx, other_rx) = (tx.clone().ok(), rx.clone().ok());
         let senders = count(&other_tx).wrapping_add(1);
         let receivers = count(&other_rx).wrapping_add(1);
-        assert_eq!(rt;
+        expect_equal_at(
+            &rt,
+            n,
             (tx.sender_count(), tx.receiver_count()),
             (senders, receivers),
-            "at {n}"
         );
         let third_tx = weak_tx.as_ref().and_then(|weak| weak.upgrade());
         let third_rx = weak_rx.as_ref().and_then(|weak| weak.upgrade());
-        assert_eq!(rt;
+        expect_equal_at(
+            &rt,
+            n,
             (tx.sender_count(), tx.receiver_count()),
             (
                 senders.wrapping_add(count(&third_tx)),
-                receivers.wrapping_add(count(&third_rx))
+                receivers.wrapping_add(count(&third_rx)),
             ),
-            "at {n}"
         );
         let met_none = alloc.refuse_none();
         let refused = [
@@ -80,21 +83,21 @@ fn a_refused_handle_is_not_counted(rt: HostRuntime) -> Result<(), Fail> {
             weak_rx.is_some() && third_rx.is_none(),
         ];
         let named = [n == 4, n == 5, n == 6, n == 7, n == 8, n == 9];
-        assert_eq!(rt; refused, named, "at {n}");
+        expect_equal_at(&rt, n, refused, named);
         drop((other_tx, other_rx, third_tx, third_rx));
         // Who was refused an upgrade has one later.
         let fourth_tx = weak_tx.as_ref().and_then(|weak| weak.upgrade());
         let fourth_rx = weak_rx.as_ref().and_then(|weak| weak.upgrade());
-        assert_eq!(rt; fourth_tx.is_some(), weak_tx.is_some(), "at {n}");
-        assert_eq!(rt; fourth_rx.is_some(), weak_rx.is_some(), "at {n}");
+        expect_equal_at(&rt, n, fourth_tx.is_some(), weak_tx.is_some());
+        expect_equal_at(&rt, n, fourth_rx.is_some(), weak_rx.is_some());
         drop((fourth_tx, fourth_rx));
-        assert_eq!(rt; (tx.sender_count(), tx.receiver_count()), (1, 1), "at {n}");
-        assert_eq!(rt; tx.try_send("x", n), Ok(()));
+        expect_equal_at(&rt, n, (tx.sender_count(), tx.receiver_count()), (1, 1));
+        expect_equal(&rt, tx.try_send("x", n), Ok(()));
         drop(tx);
-        assert_eq!(rt; (rx.sender_count(), rx.receiver_count()), (0, 1), "at {n}");
-        assert_eq!(rt; rx.try_recv(), Ok(("x", n)));
-        assert_eq!(rt; rx.try_recv(), Err(TryRecvError::Closed));
-        assert_eq!(rt; met_none, n == 10, "at {n}");
+        expect_equal_at(&rt, n, (rx.sender_count(), rx.receiver_count()), (0, 1));
+        expect_equal(&rt, rx.try_recv(), Ok(("x", n)));
+        expect_equal(&rt, rx.try_recv(), Err(TryRecvError::Closed));
+        expect_equal_at(&rt, n, met_none, n == 10);
     }
     Ok(())
 }

@@ -1,4 +1,5 @@
 //! Where memory is refused, what was to be sent comes back.
+use super::{expect_equal, expect_equal_at};
 use async_priority_channel::{
     RecvError, RecvFault, SendError, SendFault, TryRecvError, TrySendError, bounded,
     bounded_reserved, unbounded,
@@ -28,24 +29,24 @@ fn what_was_accepted_comes_out(rt: HostRuntime) -> Result<(), Fail> {
         let n = round?;
         alloc.refuse_nth(n);
         let Ok((tx, rx)) = unbounded(&rt, &alloc) else {
-            assert_eq!(rt; n, 1);
+            expect_equal(&rt, n, 1);
             continue;
         };
         let mut accepted = Vec::new(rt.alloc());
         for i in [1u64, 3, 2] {
             match tx.try_send(i, i) {
                 Ok(()) => accepted.push(i)?,
-                refused => assert_eq!(rt; refused, Err(TrySendError::Memory((i, i)))),
+                refused => expect_equal(&rt, refused, Err(TrySendError::Memory((i, i)))),
             }
         }
         let met_none = alloc.refuse_none();
-        assert_eq!(rt; accepted.len() == 3, met_none, "at {n}");
+        expect_equal_at(&rt, n, accepted.len() == 3, met_none);
         for i in [3u64, 2, 1] {
             if accepted.contains(&i) {
-                assert_eq!(rt; rx.try_recv(), Ok((i, i)), "at {n}");
+                expect_equal_at(&rt, n, rx.try_recv(), Ok((i, i)));
             }
         }
-        assert_eq!(rt; rx.try_recv(), Err(TryRecvError::Empty), "at {n}");
+        expect_equal_at(&rt, n, rx.try_recv(), Err(TryRecvError::Empty));
         if met_none {
             assert!(rt; n > 2);
         }
@@ -58,19 +59,19 @@ fn a_reserved_channel_asks_for_no_more(rt: HostRuntime) -> Result<(), Fail> {
     let alloc = Refusing::new(rt.alloc());
     let (tx, rx) = bounded_reserved(&rt, &alloc, 2)?;
     alloc.refuse_nth(1);
-    assert_eq!(rt; tx.try_send("x", 1u64), Ok(()));
+    expect_equal(&rt, tx.try_send("x", 1u64), Ok(()));
     assert!(rt; tx.try_sendv([("y", 2)].into_iter().peekable()).is_ok());
-    assert_eq!(rt; tx.try_send("z", 3), Err(TrySendError::Full(("z", 3))));
-    assert_eq!(rt; rx.try_recv(), Ok(("y", 2)));
-    assert_eq!(rt; tx.try_send("z", 3), Ok(()));
-    assert_eq!(rt; rx.try_recv(), Ok(("z", 3)));
-    assert_eq!(rt; rx.try_recv(), Ok(("x", 1)));
-    assert_eq!(rt; rx.try_recv(), Err(TryRecvError::Empty));
+    expect_equal(&rt, tx.try_send("z", 3), Err(TrySendError::Full(("z", 3))));
+    expect_equal(&rt, rx.try_recv(), Ok(("y", 2)));
+    expect_equal(&rt, tx.try_send("z", 3), Ok(()));
+    expect_equal(&rt, rx.try_recv(), Ok(("z", 3)));
+    expect_equal(&rt, rx.try_recv(), Ok(("x", 1)));
+    expect_equal(&rt, rx.try_recv(), Err(TryRecvError::Empty));
     assert!(rt; tx.is_empty() && !tx.is_full() && !tx.is_closed());
-    assert_eq!(rt; (tx.len(), tx.capacity()), (0, Some(2)));
-    assert_eq!(rt; (tx.sender_count(), tx.receiver_count()), (1, 1));
+    expect_equal(&rt, (tx.len(), tx.capacity()), (0, Some(2)));
+    expect_equal(&rt, (tx.sender_count(), tx.receiver_count()), (1, 1));
     assert!(rt; tx.close());
-    assert_eq!(rt; rx.try_recv(), Err(TryRecvError::Closed));
+    expect_equal(&rt, rx.try_recv(), Err(TryRecvError::Closed));
     // Nothing was asked for: the request to be refused is still to come.
     assert!(rt; alloc.refuse_none());
     Ok(())
@@ -82,16 +83,17 @@ fn a_future_that_answers_at_once_takes_no_memory(rt: HostRuntime) -> Result<(), 
     let alloc = Refusing::new(rt.alloc());
     let (tx, rx) = bounded_reserved(&rt, &alloc, 1)?;
     alloc.refuse_nth(1);
-    assert_eq!(rt; block_on(&rt, tx.send("x", 1u64))?, Ok(()));
-    assert_eq!(rt; block_on(&rt, rx.recv())?, Ok(("x", 1)));
+    expect_equal(&rt, block_on(&rt, tx.send("x", 1u64))?, Ok(()));
+    expect_equal(&rt, block_on(&rt, rx.recv())?, Ok(("x", 1)));
     assert!(rt; block_on(&rt, tx.sendv([("z", 3)].into_iter().peekable()))?.is_ok());
-    assert_eq!(rt; block_on(&rt, rx.recv())?, Ok(("z", 3)));
+    expect_equal(&rt, block_on(&rt, rx.recv())?, Ok(("z", 3)));
     assert!(rt; tx.close());
     let unsent = block_on(&rt, tx.send("y", 2))?;
-    assert_eq!(rt; unsent, Err(SendFault::Closed(SendError(("y", 2)))));
-    assert_eq!(rt;
+    expect_equal(&rt, unsent, Err(SendFault::Closed(SendError(("y", 2)))));
+    expect_equal(
+        &rt,
         block_on(&rt, rx.recv())?,
-        Err(RecvFault::Closed(RecvError))
+        Err(RecvFault::Closed(RecvError)),
     );
     assert!(rt; alloc.refuse_none());
     Ok(())
@@ -107,14 +109,14 @@ fn a_refused_send_comes_back(rt: HostRuntime) -> Result<(), Fail> {
         let sent = block_on(&rt, tx.send("x", n))?;
         let met_none = alloc.refuse_none();
         // The slot for the message alone: it need not wait.
-        assert_eq!(rt; met_none, n == 2);
+        expect_equal(&rt, met_none, n == 2);
         let wanted = if met_none {
             Ok(())
         } else {
             Err(SendFault::Memory(("x", n)))
         };
-        assert_eq!(rt; sent, wanted);
-        assert_eq!(rt; rx.is_empty(), !met_none);
+        expect_equal(&rt, sent, wanted);
+        expect_equal(&rt, rx.is_empty(), !met_none);
     }
     Ok(())
 }
@@ -134,8 +136,8 @@ fn a_refused_bulk_send_comes_back(rt: HostRuntime) -> Result<(), Fail> {
     };
     assert!(rt; rx.is_empty());
     assert!(rt; tx.try_sendv(rest).is_ok());
-    assert_eq!(rt; rx.try_recv(), Ok(("y", 2)));
-    assert_eq!(rt; rx.try_recv(), Ok(("x", 1)));
+    expect_equal(&rt, rx.try_recv(), Ok(("y", 2)));
+    expect_equal(&rt, rx.try_recv(), Ok(("x", 1)));
     Ok(())
 }
 
@@ -144,13 +146,13 @@ fn a_receive_may_be_refused(rt: HostRuntime) -> Result<(), Fail> {
     let alloc = Refusing::new(rt.alloc());
     let (tx, rx) = bounded::<u64, u64, _, _>(&rt, &alloc, 1)?;
     alloc.refuse_all();
-    assert_eq!(rt; block_on(&rt, rx.recv())?, Err(RecvFault::Memory));
+    expect_equal(&rt, block_on(&rt, rx.recv())?, Err(RecvFault::Memory));
     // The waiter is had, and its entry in the waiting list is not.
     alloc.refuse_nth(2);
-    assert_eq!(rt; block_on(&rt, rx.recv())?, Err(RecvFault::Memory));
+    expect_equal(&rt, block_on(&rt, rx.recv())?, Err(RecvFault::Memory));
     alloc.refuse_none();
     assert!(rt; tx.try_send(1, 1).is_ok());
-    assert_eq!(rt; block_on(&rt, rx.recv())?, Ok((1, 1)));
+    expect_equal(&rt, block_on(&rt, rx.recv())?, Ok((1, 1)));
     Ok(())
 }
 
@@ -160,11 +162,11 @@ fn a_receive_may_be_refused(rt: HostRuntime) -> Result<(), Fail> {
 fn a_dropped_send_waits_no_more(rt: HostRuntime) -> Result<(), Fail> {
     let alloc = Refusing::new(rt.alloc());
     let (tx, _rx) = bounded(&rt, &alloc, 1)?;
-    assert_eq!(rt; tx.try_send("x", 1u64), Ok(()));
-    assert_eq!(rt; block_on(&rt, poll_immediate(tx.send("y", 2)))?, None);
+    expect_equal(&rt, tx.try_send("x", 1u64), Ok(()));
+    expect_equal(&rt, block_on(&rt, poll_immediate(tx.send("y", 2)))?, None);
     for _ in 0..20 {
         alloc.refuse_nth(2);
-        assert_eq!(rt; block_on(&rt, poll_immediate(tx.send("y", 2)))?, None);
+        expect_equal(&rt, block_on(&rt, poll_immediate(tx.send("y", 2)))?, None);
         assert!(rt; alloc.refuse_none());
     }
     Ok(())
@@ -174,7 +176,7 @@ fn a_dropped_send_waits_no_more(rt: HostRuntime) -> Result<(), Fail> {
 fn a_dropped_bulk_send_waits_no_more(rt: HostRuntime) -> Result<(), Fail> {
     let alloc = Refusing::new(rt.alloc());
     let (tx, _rx) = bounded(&rt, &alloc, 1)?;
-    assert_eq!(rt; tx.try_send("x", 1u64), Ok(()));
+    expect_equal(&rt, tx.try_send("x", 1u64), Ok(()));
     let more = [("y", 2)];
     assert!(rt; block_on(&rt, poll_immediate(tx.sendv(more.into_iter().peekable())))?.is_none());
     for _ in 0..20 {
@@ -191,10 +193,10 @@ fn a_dropped_bulk_send_waits_no_more(rt: HostRuntime) -> Result<(), Fail> {
 fn a_dropped_receive_waits_no_more(rt: HostRuntime) -> Result<(), Fail> {
     let alloc = Refusing::new(rt.alloc());
     let (_tx, rx) = bounded::<u64, u64, _, _>(&rt, &alloc, 1)?;
-    assert_eq!(rt; block_on(&rt, poll_immediate(rx.recv()))?, None);
+    expect_equal(&rt, block_on(&rt, poll_immediate(rx.recv()))?, None);
     for _ in 0..20 {
         alloc.refuse_nth(2);
-        assert_eq!(rt; block_on(&rt, poll_immediate(rx.recv()))?, None);
+        expect_equal(&rt, block_on(&rt, poll_immediate(rx.recv()))?, None);
         assert!(rt; alloc.refuse_none());
     }
     Ok(())

@@ -1,4 +1,5 @@
 //! Nobody sleeps for ever because another was refused memory.
+use super::{expect_equal, expect_equal_at};
 use async_priority_channel::{Send, SendFault, Sender, bounded};
 use futures::task::Poll;
 use futures::test::MockTask;
@@ -47,7 +48,7 @@ fn two_sends_wait_and_one_is_refused(rt: HostRuntime) -> Result<(), Fail> {
     for round in alloc.rounds() {
         let n = round?;
         let (tx, rx) = bounded(&rt, &alloc, 1)?;
-        assert_eq!(rt; tx.try_send(1, 1), Ok(()));
+        expect_equal(&rt, tx.try_send(1, 1), Ok(()));
         let mut second = Sending::new(&rt, &tx, 2)?;
         let mut third = Sending::new(&rt, &tx, 3)?;
         alloc.refuse_nth(n);
@@ -60,18 +61,18 @@ fn two_sends_wait_and_one_is_refused(rt: HostRuntime) -> Result<(), Fail> {
             }
         }
         let met_none = alloc.refuse_none();
-        assert_eq!(rt; ended.len() == 3, met_none, "at {n}");
+        expect_equal_at(&rt, n, ended.len() == 3, met_none);
         for answer in [second.answer, third.answer] {
             let sent = answer.ok_or("it sleeps for ever")?;
             if let Err(SendFault::Memory((number, _))) = sent {
                 ended.push(number)?;
             } else {
-                assert_eq!(rt; sent, Ok(()), "at {n}");
+                expect_equal_at(&rt, n, sent, Ok(()));
             }
         }
         // Each was received once, or came back once.
         ended.sort()?;
-        assert_eq!(rt; ended.as_slice(), [1, 2, 3].as_slice(), "at {n}");
+        expect_equal_at(&rt, n, ended.as_slice(), [1, 2, 3].as_slice());
         if met_none {
             // The waiters of both, an entry in the list, and one again for who finds no room.
             assert!(rt; n > 4);
