@@ -3,7 +3,8 @@
 //!
 //! `bounded`, `bounded_reserved` and `unbounded` make one. `Sender` and `Receiver` are its handles,
 //! whose pages list their calls; `WeakSender` and `WeakReceiver` know a channel and do not keep it
-//! open. `recorded` has channels that keep the history of their calls.
+//! open. `witnessed` has channels whose calls tell a history of all calls in their contracts, and
+//! `recorded` those that also keep it.
 //!
 //! # Kinds of channels
 //!
@@ -248,6 +249,7 @@ pub use priority_channel_core::errors::{
 pub use priority_channel_laws::laws;
 pub use priority_channel_recorded as recorded;
 pub use priority_channel_waits::timeouts::{RecvTimeoutError, SendTimeoutError};
+pub use priority_channel_witnessed as witnessed;
 pub use receiver::Receiver;
 pub use sender::Sender;
 pub use stream::{IntoStream, RecvStream};

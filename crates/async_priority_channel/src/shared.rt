@@ -177,10 +177,7 @@ impl<T, P: Ord, R: Wait + Clone, A: Allocator + Copy> Handle<T, P, R, A> {
     /// The waiter of a party, which is made where it waits for the first time. None where memory
     /// was refused.
     pub fn waiter_in<'k>(&self, waiter: &'k mut Option<Waiter<A>>) -> Option<&'k Waiter<A>> {
-        if waiter.is_none() {
-            *waiter = Some(Waiter::new(self.shared.alloc).ok()?);
-        }
-        waiter.as_ref()
+        Waiter::of_party(self.shared.alloc, waiter)
     }
 
     /// Leaves the task's waker in a future's waiter. None where either was refused.
@@ -193,12 +190,7 @@ impl<T, P: Ord, R: Wait + Clone, A: Allocator + Copy> Handle<T, P, R, A> {
         ensures heard { IsSome result → IsArmed cx.new × Hears cx.new source.now.id }
         ensures kept { Keeps cx.old cx.new }
     {
-        let kept = self.waiter_in(waiter)?;
-        if kept.register(&self.rt, cx, source) {
-            Some(kept)
-        } else {
-            None
-        }
+        Waiter::register_party(&self.rt, self.shared.alloc, cx, source, waiter)
     }
 
     /// What is pending once the last receiver goes will go with it.

@@ -44,26 +44,14 @@ where
         bail!("no pass");
     };
     for number in 0..pending {
-        let is_sent = send(
-            rt,
-            &channel,
-            &mut pass,
-            number,
-            Load::Random.priority(number),
-        );
+        let is_sent = send(rt, &channel, &mut pass, number);
         ensure!(is_sent, "{number} was not sent");
     }
     let start = rt.thread_cpu_time()?;
     let mut sum = 0u64;
     for position in 0..count {
         let number = pending.wrapping_add(position);
-        let is_sent = send(
-            rt,
-            &channel,
-            &mut pass,
-            number,
-            Load::Random.priority(number),
-        );
+        let is_sent = send(rt, &channel, &mut pass, number);
         ensure!(is_sent, "{number} was not sent");
         let Some(msg) = recv(rt, &channel, &mut pass) else {
             bail!("no message came");
@@ -81,10 +69,9 @@ fn send<J: Recording, R: Wait>(
     rt: &R,
     channel: &Channel<J>,
     pass: &mut Caller<J>,
-    msg: u64,
-    priority: i64,
+    number: u64,
 ) -> bool {
-    let (sent, wakes) = channel.try_send(rt, pass, msg, priority);
+    let (sent, wakes) = channel.try_send(rt, pass, number, Load::Random.priority(number));
     let (_for_room, _for_message) = wakes.into_lists();
     sent.is_ok()
 }

@@ -20,7 +20,7 @@ module _ {A : Type 0} (f g : A → ℕ) where
       omega (arith, sum_by-cons f x xs, sum_by-cons g x xs, All-head (λ y. f y ≤ g y) x xs h, sums_le xs (All-tail (λ y. f y ≤ g y) x xs h))
 
   -- where none is above, and the sum is not, all are equal
-  same_sums : (xs : List A) → All (λ x. f x ≤ g x) xs → sum_by g xs ≤ sum_by f xs → All (λ x. g x ≡ f x) xs
+  pub same_sums : (xs : List A) → All (λ x. f x ≤ g x) xs → sum_by g xs ≤ sum_by f xs → All (λ x. g x ≡ f x) xs
   same_sums [] h le = All-nil (λ x. g x ≡ f x)
   same_sums (x ∷ xs) h le =
       let first : f x ≤ g x = All-head (λ y. f y ≤ g y) x xs h in

@@ -1,4 +1,5 @@
 //! What the channel keeps of a task or a thread that waits.
+ghost use Rattle.std.specs.Prelude.{IsSome};
 ghost use Rattle.futures.specs.Task.{Hears, IsArmed, Keeps};
 
 use futures::task::{Context, Poll, Source, Waker};
@@ -59,6 +60,34 @@ impl<A: Allocator + Copy> Waiter<A> {
         };
         let inner = Arc::new(alloc, inner)?;
         Ok(Waiter { inner })
+    }
+
+    /// The waiter of a party, which is made where the party waits for the first time. None where
+    /// memory was refused.
+    pub fn of_party(alloc: A, party: &mut Option<Self>) -> Option<&Self> {
+        if party.is_none() {
+            *party = Some(Waiter::new(alloc).ok()?);
+        }
+        party.as_ref()
+    }
+
+    /// Leaves the task's waker in the waiter of a party. None where either was refused.
+    pub fn register_party<'w, R: Wait>(
+        rt: &R,
+        alloc: A,
+        cx: &mut Context<'_>,
+        source: &Source,
+        party: &'w mut Option<Self>,
+    ) -> Option<&'w Self>
+        ensures heard { IsSome result → IsArmed cx.new × Hears cx.new source.now.id }
+        ensures kept { Keeps cx.old cx.new }
+    {
+        let waiter = Waiter::of_party(alloc, party)?;
+        if waiter.register(rt, cx, source) {
+            Some(waiter)
+        } else {
+            None
+        }
     }
 }
 

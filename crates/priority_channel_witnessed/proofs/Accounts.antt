@@ -84,14 +84,20 @@ module _ {T P W : Type 0} where
       All-weaker (λ pass. IsPrefix pass.seen xs) (λ pass. IsPrefix pass.seen ys) (λ pass saw. prefix_trans pass.seen xs ys saw more) passes all
 
   -- whether the entry stands under this number
-  abbrev hit : ℕ → Entry T P W → ℕ
+  abbrev pub hit : ℕ → Entry T P W → ℕ
   hit number entry = cond (entry.who == number) 1 0
+
+  -- no fewer entries stand under a number than in what was seen
+  pub calls_seen : (number count : ℕ) (seen history : List (Entry T P W)) → IsPrefix seen history → count ≤ calls_of number seen
+      → count ≤ calls_of number history
+  calls_seen number count seen history front counted =
+      omega (arith, counted, sym (ap (calls_of number) front.1) ∙ sum_by-append (hit number) seen front.0)
 
   calls_with : (number count : ℕ) (seen kept : List (Entry T P W)) (last : Entry T P W) → IsPrefix seen kept → count ≤ calls_of number seen
       → last.who ≡ number → count + 1 ≤ calls_of number (kept ++ last ∷ [])
   calls_with number count seen kept last front counted is =
       let one : hit number last ≡ 1 = grind (arith, nat_tests) in
-      omega (arith, counted, one, sym (ap (calls_of number) front.1) ∙ sum_by-append (hit number) seen front.0, sum_by_push (hit number) kept last)
+      omega (arith, calls_seen number count seen kept front counted, one, sum_by_push (hit number) kept last)
 
   -- after a call a pass has seen all that was kept, and its own entry
   pub told_more : (cmp : P → P → Ordering) (is_clone : W → W → Type 0) (capacity : ℕ) (is_reserved : Bool) (old new : Carried T P W) (kept : List (Entry T P W)) (last : Entry T P W)

@@ -7,8 +7,10 @@ use Rattle.std.proofs.lemmas.List.Sorted.{sum_by_popped, sum_by-IsPermutation, I
 use Rattle.std.proofs.lemmas.List.Elements.{All-nil, All-cons, All-head, All-tail}
 use Rattle.std.proofs.lemmas.Bool.Decides.{nat_tests}
 use mathlib.Core.List.{IsPrefix}
+use Rattle.priority_channel_recorded.proofs.Accounts.{same_sums}
 use Rattle.priority_channel_witnessed.specs.declared.entry.Entry.{Entry}
 use Rattle.priority_channel_witnessed.specs.Passes.{Carried, calls_of, calls_made, is_of_others, calls_of_others, calls_under, times_in, AreApart, AreGiven, IsShared}
+use Rattle.priority_channel_witnessed.proofs.Accounts.{hit, calls_seen}
 
 -- whether it is this number
 abbrev same_as : ℕ → ℕ → ℕ
@@ -44,23 +46,6 @@ pub struck_at : (numbers after : List ℕ) (at number : ℕ) → at < length num
 struck_at numbers after at number within is gone =
     subst (λ l. IsPermutation numbers (number ∷ l)) (sym gone) (IsPermutation-remove numbers at number within is)
 
--- where one function is nowhere above another, and the sum is not below, both are equal
-module _ {A : Type 0} (f g : A → ℕ) where
-  sums_le : (xs : List A) → All (λ x. f x ≤ g x) xs → sum_by f xs ≤ sum_by g xs
-  sums_le [] le = omega arith
-  sums_le (x ∷ xs) le =
-      omega (arith, sum_by-cons f x xs, sum_by-cons g x xs, All-head (λ y. f y ≤ g y) x xs le, sums_le xs (All-tail (λ y. f y ≤ g y) x xs le))
-
-  same_sums : (xs : List A) → All (λ x. f x ≤ g x) xs → sum_by g xs ≤ sum_by f xs → All (λ x. g x ≡ f x) xs
-  same_sums [] le sums = All-nil (λ x. g x ≡ f x)
-  same_sums (x ∷ xs) le sums =
-      let first : f x ≤ g x = All-head (λ y. f y ≤ g y) x xs le in
-      let others = All-tail (λ y. f y ≤ g y) x xs le in
-      let less = sums_le xs others in
-      let fs = sum_by-cons f x xs in
-      let gs = sum_by-cons g x xs in
-      All-cons (λ y. g y ≡ f y) x xs (omega (arith, first, less, fs, gs, sums)) (same_sums xs others (omega (arith, first, less, fs, gs, sums)))
-
 module _ {A B : Type 0} (f : B → ℕ) (g : A → B) where
   sum_by_map : (xs : List A) → sum_by f (map g xs) ≡ sum_by (λ x. f (g x)) xs
   sum_by_map [] = refl
@@ -74,10 +59,6 @@ module _ (T P W : Type 0) where
       omega (arith, none, sum_by-cons (λ other. calls_of {T = T} {P = P} {W = W} other []) number more, under_none more)
 
 module _ {T P W : Type 0} where
-  -- whether the entry stands under this number
-  abbrev hit : ℕ → Entry T P W → ℕ
-  hit number entry = cond (entry.who == number) 1 0
-
   abbrev number_of : Carried T P W → ℕ
   number_of pass = pass.number
 
@@ -115,12 +96,6 @@ module _ {T P W : Type 0} where
     below = λ number past. shared.below number (omega (arith, past));
     others = omega (arith, shared.others, sum_by_push (λ other. calls_of other history) out next, shared.below next (omega arith));
   }
-
-  -- no fewer entries stand under a number than in what was seen
-  calls_seen : (number count : ℕ) (seen history : List (Entry T P W)) → IsPrefix seen history → count ≤ calls_of number seen
-      → count ≤ calls_of number history
-  calls_seen number count seen history front counted =
-      omega (arith, counted, sym (ap (calls_of number) front.1) ∙ sum_by-append (hit number) seen front.0)
 
   -- a pass that goes
   pub shared_go : (out rest : List ℕ) (next left number count : ℕ) (seen history : List (Entry T P W)) → IsShared out next left history

@@ -1,6 +1,6 @@
 -- What a pass is told over the calls of a wait.
-use Rattle.std.proofs.Common.{◌≡◌, ◌+◌, ℕ, Bool, List, [], ◌∷◌, ◌++◌, length, refl, sym, ap, arith, length-append, Option}
-use Rattle.std.specs.Prelude.{Result, Ok, Err, IfErr, IfSome}
+use Rattle.std.proofs.Common.{◌≡◌, ◌+◌, ℕ, Bool, List, [], ◌∷◌, ◌++◌, length, refl, sym, subst, ap, arith, length-append, append_assoc, ◌∙◌, Option}
+use Rattle.std.specs.Prelude.{◌<◌, Some, Result, Ok, Err, IfOk, IfErr, IfSome}
 use Rattle.std.specs.declared.cmp.Ordering.{Ordering}
 use Rattle.std.specs.declared.vec.IntoIter.{IntoIter}
 use Rattle.std.specs.declared.iter.Ahead.{Ahead}
@@ -22,13 +22,30 @@ use Rattle.priority_channel_core.proofs.Polls.{kept_callable}
 use Rattle.priority_channel_witnessed.specs.History.{entry}
 use Rattle.priority_channel_witnessed.specs.Items.{list_in, listed, listed_poll}
 use Rattle.priority_channel_witnessed.specs.Passes.{Carried, IsTold}
-use Rattle.priority_channel_witnessed.specs.Waits.{AnswersTry, AnswersSendv, Leaves, IsSentOn, at_last, before, listed_in_time, send_in_time}
+use Rattle.priority_channel_witnessed.specs.Waits.{AnswersTry, AnswersSendv, Leaves, IsAnswered, IsSentOn, at_last, before, listed_in_time, send_in_time}
+use mathlib.Core.List.{IsPrefix}
+use Rattle.futures.specs.declared.task.Poll.{Poll}
+use Rattle.futures.specs.declared.task.Poll.TheVariants as poll
+use Rattle.futures.specs.Poll.{OnPending}
+use Rattle.priority_channel_witnessed.specs.declared.entry.Entry.{Entry}
+use Rattle.priority_channel_witnessed.specs.Futures.{Continues, HasCalled, GivesRecv, GivesSend, GivesSendv, ListsSendv, GoesOn}
 use Rattle.priority_channel_witnessed.proofs.Histories.{told_step}
+
+-- what holds of a result, of the one that it is
+module _ {X E : Type 0} (result : Result X E) where
+  pub on_ok : (P : X → Type 0) (x : X) → result ≡ Ok x → IfOk result P → P x
+  on_ok P x is holds = subst (λ (k : Result X E). IfOk k P) is holds
+
+  pub on_err : (P : E → Type 0) (e : E) → result ≡ Err e → IfErr result P → P e
+  on_err P e is holds = subst (λ (k : Result X E). IfErr k P) is holds
 
 -- who gets the only pair back gets that pair
 last_one : {X : Type 0} (x y : X) (front : List X) → x ∷ [] ≡ front ++ y ∷ [] → y ≡ x
 last_one x y [] e = cc
 last_one x y (z ∷ front) e = let l = ap length e in let m = length-append front (y ∷ []) in absurd (omega arith)
+
+pub on_pending : {X : Type 0} (polled : Poll X) (fact : Type 0) → polled ≡ poll.Pending → OnPending polled fact → fact
+on_pending polled fact is holds = subst (λ (k : Poll _). OnPending k fact) is holds
 
 module _ {T P W : Type 0} where
   back_is : (old new : State T P W) (msg : T) (priority : P) (reply : Result (Unit {0}) (TrySendError (T × P))) (handed : Handed W)
@@ -67,6 +84,13 @@ module _ {T P W : Type 0} (cmp : P → P → Ordering) (is_clone : W → W → T
       → IsSentOn cmp is_clone capacity is_reserved old pairs result new
   gave_up old mid new pairs result ticket handed told number count more =
       before {made = call.GiveUp ticket} {reply = answer.GiveUp} told number count refl more
+
+  -- what is sent on from the rest is sent on from all
+  pub goes_further : {X E : Type 0} (old mid new : Carried T P W) (pairs rest : List (T × P)) (list : E → List (T × P)) (polled : Result X E)
+      → GoesOn cmp is_clone capacity is_reserved old pairs mid rest → IfErr polled (λ kept. GoesOn cmp is_clone capacity is_reserved mid rest new (list kept))
+      → IfErr polled (λ kept. GoesOn cmp is_clone capacity is_reserved old pairs new (list kept))
+  goes_further old mid new pairs rest list (Ok answer) first more = tt
+  goes_further old mid new pairs rest list (Err kept) first more = λ result later sent. first result later (more result later sent)
 
 module _ {T P Z W : Type 0} where
   ready_answers : (pairs : List (T × P)) (ticket : Option ℕ) (waker : W) (sent : Result (Unit {0}) (SendFault (Ahead (IntoIter (T × P) Z) (T × P))))
@@ -118,3 +142,64 @@ module _ {T P Z W : Type 0} (cmp : P → P → Ordering) (is_clone : W → W →
     polled_before ticket waker polled rest at told number count is more =
         let leaves : Leaves pairs (call.PollSendv pairs ticket waker) (answer.PollSendv (listed_poll polled)) (list_in rest) = rw is (refl, refl) in
         before {made = call.PollSendv pairs ticket waker} {reply = answer.PollSendv (listed_poll polled)} told.1 number count leaves more
+
+-- What a future gives is told from the pass that it holds now, and so from the one before.
+module _ {T P W : Type 0} (cmp : P → P → Ordering) (is_clone : W → W → Type 0) (capacity : ℕ) (is_reserved : Bool) (old mid : Carried T P W) where
+  answered_front : (answers_so : Calls T P W → Answers T P → Type 0) → IsAnswered cmp is_clone capacity is_reserved old answers_so mid → IsPrefix old.seen mid.seen
+  answered_front answers_so answered =
+      let told = answered.told in
+      let last : List (Entry T P W) = entry old.number answered.made answered.reply answered.handed ∷ [] in
+      (told.between ++ last, sym (append_assoc old.seen told.between last) ∙ sym told.seen)
+
+  pub answered_later : (new : Carried T P W) (answers_so : Calls T P W → Answers T P → Type 0) → mid.number ≡ old.number → IsPrefix old.seen mid.seen
+      → IsAnswered cmp is_clone capacity is_reserved mid answers_so new → IsAnswered cmp is_clone capacity is_reserved old answers_so new
+  answered_later new answers_so number front answered =
+      let told = answered.told in
+      record {
+        made = answered.made;
+        reply = answered.reply;
+        handed = answered.handed;
+        told = record {
+          between = front.0 ++ told.between;
+          seen = let whole = told.seen in let begun = front.1 in let assoc = append_assoc old.seen front.0 told.between in cc;
+          legal = told.legal;
+          counted = told.counted;
+        };
+        answers = answered.answers;
+      }
+
+  has_called_later : (new : Carried T P W) (fact more : Type 0) → mid.number ≡ old.number → old.count < mid.count → (more → fact) → HasCalled mid new more → HasCalled old new fact
+  has_called_later new fact more number counted goes later =
+      record { number = later.number ∙ number; counted = omega (arith, counted, later.counted); told = goes later.told }
+
+  pub lists_later : {X E : Type 0} (new : Carried T P W) (polled : Result X E) (lists : E → Calls T P W → Answers T P → Type 0) → mid.number ≡ old.number → IsPrefix old.seen mid.seen
+      → IfErr polled (λ kept. IsAnswered cmp is_clone capacity is_reserved mid (lists kept) new) → IfErr polled (λ kept. IsAnswered cmp is_clone capacity is_reserved old (lists kept) new)
+  lists_later new (Ok answer) lists number front listed = tt
+  lists_later new (Err kept) lists number front listed = answered_later new (lists kept) number front listed
+
+  pub receives_later : (holds : Option (Carried T P W)) (lists : Calls T P W → Answers T P → Type 0) → holds ≡ Some old → mid.number ≡ old.number → old.count < mid.count
+      → IsAnswered cmp is_clone capacity is_reserved old lists mid
+      → (given : _) → GivesRecv cmp is_clone capacity is_reserved (Some mid) given → GivesRecv cmp is_clone capacity is_reserved holds given
+  receives_later holds lists is number counted listed given gives =
+      rw is (has_called_later given.1 _ _ number counted (answered_later given.1 _ number (answered_front lists listed)) gives)
+
+  pub sends_later : (holds : Option (Carried T P W × (T × P))) (lists : Calls T P W → Answers T P → Type 0) (pair : T × P) → holds ≡ Some (old, pair) → mid.number ≡ old.number
+      → old.count < mid.count → IsAnswered cmp is_clone capacity is_reserved old lists mid
+      → (given : _) → GivesSend cmp is_clone capacity is_reserved (Some (mid, pair)) given → GivesSend cmp is_clone capacity is_reserved holds given
+  sends_later holds lists pair is number counted listed given gives =
+      rw is (has_called_later given.1 _ _ number counted (answered_later given.1 _ number (answered_front lists listed)) gives.0, gives.1)
+
+  module _ {Z : Type 0} (msgs rest : Ahead (IntoIter (T × P) Z) (T × P)) where
+    pub sends_on_later : (holds : Option (Carried T P W × Ahead (IntoIter (T × P) Z) (T × P))) → holds ≡ Some (old, msgs) → mid.number ≡ old.number → old.count < mid.count
+        → GoesOn cmp is_clone capacity is_reserved old (list_in msgs) mid (list_in rest)
+        → (given : _) → GivesSendv cmp is_clone capacity is_reserved (Some (mid, rest)) given → GivesSendv cmp is_clone capacity is_reserved holds given
+    sends_on_later holds is number counted goes given gives =
+        rw is (has_called_later given.1 _ _ number counted (goes _ given.1) gives)
+
+    pub waits_on : (holds : Option (Carried T P W × Ahead (IntoIter (T × P) Z) (T × P))) (polled listed was is_now : Option ℕ) → holds ≡ Some (old, msgs)
+        → mid.number ≡ old.number → old.count < mid.count → IsAnswered cmp is_clone capacity is_reserved old (ListsSendv (list_in rest) was is_now) mid
+        → GoesOn cmp is_clone capacity is_reserved old (list_in msgs) mid (list_in rest) → polled ≡ was → listed ≡ is_now
+        → Continues holds (Some (mid, rest)) (λ past present. HasCalled past.0 present.0 (IsAnswered cmp is_clone capacity is_reserved past.0 (ListsSendv (list_in present.1) polled listed) present.0
+        × GoesOn cmp is_clone capacity is_reserved past.0 (list_in past.1) present.0 (list_in present.1)))
+    waits_on holds polled listed was is_now is number counted lists goes first next =
+        rw is (record { number = number; counted = counted; told = (rw first (rw next lists), goes) })

@@ -1,7 +1,8 @@
 //! A channel whose calls tell, in their contracts, that each reply is the next step of one history.
 //!
-//! A `Witnessed` is for many threads, each with a `Pass`, and for messages, priorities and wakers
-//! of any type. No entry of the history takes memory: it exists in contracts alone.
+//! A `Witnessed` is for many threads and tasks, each with a `Pass`, and for messages, priorities
+//! and wakers of any type. No entry of the history takes memory: it exists in contracts alone. A
+//! caller has it as `async_priority_channel::witnessed`.
 #![tactic(auto)]
 
 mod entry;
@@ -11,9 +12,13 @@ pub mod laws;
 mod log;
 mod numbers;
 mod pass;
+pub mod waiting;
 mod witnessed;
 
 pub use entry::{Entry, Pairs};
 pub use log::{Fresh, Recording, Seen};
 pub use pass::Pass;
+pub use priority_channel_core::channel::PriorityQueueChannel;
+pub use priority_channel_waits::waiter::{Waiter, wake_all};
+pub use waiting::{Recv, Send, Sendv};
 pub use witnessed::Witnessed;

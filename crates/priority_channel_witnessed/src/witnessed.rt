@@ -11,6 +11,7 @@ use crate::kept::Kept;
 use crate::log::{Fresh, Log, Recording, Seen};
 use crate::numbers::first_numbers;
 use crate::pass::{Pass, new_passes};
+use futures::task::Source;
 use priority_channel_core::awaitable_atomics::Wakes;
 use priority_channel_core::calls::{Answer, Call};
 use priority_channel_core::channel::PriorityQueueChannel;
@@ -29,7 +30,8 @@ mod waits;
 /// Each call is one step, in one hold of the channel's lock, and hands out whom it lets go on, to be
 /// woken once the lock is free. A pass learns the history up to its own call, so what its holder has
 /// seen begins what it sees later, what it sees when it meets another, and what is told at the end.
-/// A call asks for no memory but what the core's call asks for. At 2^64 calls it waits for ever.
+/// A call asks for no memory but what the core's call asks for, and to wait for its waiter. At 2^64
+/// calls it waits for ever.
 ///
 /// Values without `Drop` are taken too, but by bulk sends and `new`; at other calls the compiler
 /// refuses a body that loses one.
@@ -61,8 +63,10 @@ mod waits;
 pub struct Witnessed<T, P: Ord, W: Clone, J: Recording, A: Allocator = Global> {
     log: Log<T, P, W, J>,
     kept: Mutex<Kept<T, P, W, J, A>>,
-    // For those who wait.
-    alloc: A,
+    // For those who wait: threads and tasks take memory, and tasks are woken at a source.
+    pub(crate) alloc: A,
+    pub(crate) room: Source,
+    pub(crate) message: Source,
 }
 
 impl<T: Drop, P: Ord + Drop, W: Clone + Drop, J: Recording, A: Allocator + Copy> Witnessed<
@@ -116,6 +120,8 @@ impl<T: Drop, P: Ord + Drop, W: Clone + Drop, J: Recording, A: Allocator + Copy>
                 log,
                 kept: Mutex::new(kept),
                 alloc,
+                room: Source::new(),
+                message: Source::new(),
             },
             passes,
         ))
@@ -218,6 +224,8 @@ impl<T, P: Ord, W: Clone, J: Recording, A: Allocator + Copy> Witnessed<T, P, W, 
             log,
             kept,
             alloc: _,
+            room: _,
+            message: _,
         } = self;
         let Kept { core, journal } = kept.into_inner();
         let seen = journal.end(rt, &log, passes);
@@ -237,6 +245,13 @@ impl<T, P: Ord, W: Clone, J: Recording, A: Allocator + Copy> Witnessed<T, P, W, 
     }
 
     /// A new pass, as `admit` gives, whose holder has seen all that the holder of this one has.
+    ///
+    /// ```
+    /// if let Some(mut guest) = channel.fork(rt, &own) {
+    ///     let is_empty = channel.is_empty(rt, &mut guest);
+    ///     channel.leave(rt, guest);
+    /// }
+    /// ```
     pub fn fork<R: Wait>(&self, rt: &R, pass: &Pass<T, P, W, J>) -> Option<Pass<T, P, W, J>>
         ensures count { IfSome result (λ new. new.count ≡ 0) }
         ensures begins { IfSome result (λ new. IsPrefix pass.now.seen new.seen) }
@@ -256,6 +271,13 @@ impl<T, P: Ord, W: Clone, J: Recording, A: Allocator + Copy> Witnessed<T, P, W, 
 
     /// Ends the channel, where these are all passes that are out: then it gives the core back, and
     /// the history of all calls, with those of the passes that left. Else all come back.
+    ///
+    /// ```
+    /// match channel.try_end(rt, passes) {
+    ///     Ok((core, _seen)) => Ok(core.len()),
+    ///     Err((channel, passes)) => go_on(channel, passes),
+    /// }
+    /// ```
     pub fn try_end<R: Wait>(
         self,
         rt: &R,
@@ -275,13 +297,25 @@ impl<T, P: Ord, W: Clone, J: Recording, A: Allocator + Copy> Witnessed<T, P, W, 
             ≡ calls_made passes.items + calls_of_others passes.items ended.1) }
         ensures back { IfErr result (λ back. back.1 ≡ passes) }
     {
-        let Witnessed { log, kept, alloc } = self;
+        let Witnessed {
+            log,
+            kept,
+            alloc,
+            room,
+            message,
+        } = self;
         let Kept { core, journal } = kept.into_inner();
         match journal.try_end(rt, &log, passes) {
             Ok(seen) => Ok((core, seen)),
             Err((journal, passes)) => {
-                let kept = Mutex::new(Kept { core, journal });
-                Err((Witnessed { log, kept, alloc }, passes))
+                let channel = Witnessed {
+                    log,
+                    kept: Mutex::new(Kept { core, journal }),
+                    alloc,
+                    room,
+                    message,
+                };
+                Err((channel, passes))
             }
         }
     }

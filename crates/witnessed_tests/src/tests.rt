@@ -4,6 +4,8 @@ use std::process::Abort;
 
 mod calls;
 mod passes;
+mod replay;
+mod tasks;
 mod threads;
 mod waits;
 

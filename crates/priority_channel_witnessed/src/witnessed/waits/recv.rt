@@ -173,7 +173,7 @@ impl<T, P: Ord, J: Recording, A: Allocator + Copy> Witnessed<T, P, Waiter<A>, J,
     }
 
     // `try_recv`, and wakes whom it hands out.
-    fn recv_now<R: Wait>(
+    pub(crate) fn recv_now<R: Wait>(
         &self,
         rt: &R,
         pass: &mut Pass<T, P, Waiter<A>, J>,
@@ -190,7 +190,7 @@ impl<T, P: Ord, J: Recording, A: Allocator + Copy> Witnessed<T, P, Waiter<A>, J,
     }
 
     // `poll_recv`, and wakes whom it hands out.
-    fn recv_or_list<R: Wait>(
+    pub(crate) fn recv_or_list<R: Wait>(
         &self,
         rt: &R,
         pass: &mut Pass<T, P, Waiter<A>, J>,

@@ -10,7 +10,7 @@ ghost use Rattle.priority_channel_witnessed.specs.Waits.{IsAnswered, AnswersSend
 use crate::log::Recording;
 use crate::pass::Pass;
 use crate::witnessed::Witnessed;
-use crate::witnessed::waits::Sent;
+use crate::witnessed::waits::{Sent, in_time};
 use priority_channel_core::calls::{Answer, Call, CorePoll};
 use priority_channel_core::errors::{SendError, SendFault, TrySendError};
 use priority_channel_waits::timeouts::SendTimeoutError;
@@ -72,10 +72,7 @@ impl<T, P: Ord, J: Recording, A: Allocator + Copy> Witnessed<T, P, Waiter<A>, J,
         ensures unsent { IfErr result (λ error. unsent_in_time error ≡ (msg, priority)) }
     {
         let deadline = Deadline::after(rt, timeout);
-        match self.send_until(rt, pass, (msg, priority), &deadline) {
-            Ok(sent) => Ok(sent?),
-            Err((unsent, _overdue)) => Err(SendTimeoutError::Timeout(unsent)),
-        }
+        in_time(self.send_until(rt, pass, (msg, priority), &deadline))
     }
 
     /// As `send_timeout`, but waits no longer than until then.
@@ -94,10 +91,7 @@ impl<T, P: Ord, J: Recording, A: Allocator + Copy> Witnessed<T, P, Waiter<A>, J,
         ensures unsent { IfErr result (λ error. unsent_in_time error ≡ (msg, priority)) }
     {
         let deadline = Deadline::at(rt, deadline);
-        match self.send_until(rt, pass, (msg, priority), &deadline) {
-            Ok(sent) => Ok(sent?),
-            Err((unsent, _overdue)) => Err(SendTimeoutError::Timeout(unsent)),
-        }
+        in_time(self.send_until(rt, pass, (msg, priority), &deadline))
     }
 
     // Sends at once, or waits, where the time is not over.
@@ -188,7 +182,7 @@ impl<T, P: Ord, J: Recording, A: Allocator + Copy> Witnessed<T, P, Waiter<A>, J,
     }
 
     // `try_send`, and wakes whom it hands out.
-    fn send_now<R: Wait>(
+    pub(crate) fn send_now<R: Wait>(
         &self,
         rt: &R,
         pass: &mut Pass<T, P, Waiter<A>, J>,
@@ -208,7 +202,7 @@ impl<T, P: Ord, J: Recording, A: Allocator + Copy> Witnessed<T, P, Waiter<A>, J,
     }
 
     // `poll_send`, and wakes whom it hands out.
-    fn send_or_list<R: Wait>(
+    pub(crate) fn send_or_list<R: Wait>(
         &self,
         rt: &R,
         pass: &mut Pass<T, P, Waiter<A>, J>,

@@ -67,8 +67,7 @@ impl<T: Drop, P: Ord + Drop, J: Recording, A: Allocator + Copy> Witnessed<T, P, 
             pass.old (list_in msgs) (listed_in_time result) pass.new }
     {
         let deadline = Deadline::after(rt, timeout);
-        let sent = self.sendv_until(rt, pass, msgs, &deadline);
-        in_time(sent)
+        in_time(self.sendv_until(rt, pass, msgs, &deadline))
     }
 
     /// As `sendv_timeout`, but waits no longer than until then.
@@ -85,8 +84,7 @@ impl<T: Drop, P: Ord + Drop, J: Recording, A: Allocator + Copy> Witnessed<T, P, 
             pass.old (list_in msgs) (listed_in_time result) pass.new }
     {
         let deadline = Deadline::at(rt, deadline);
-        let sent = self.sendv_until(rt, pass, msgs, &deadline);
-        in_time(sent)
+        in_time(self.sendv_until(rt, pass, msgs, &deadline))
     }
 
     // Sends at once, or waits, where the time is not over.
@@ -174,7 +172,7 @@ impl<T: Drop, P: Ord + Drop, J: Recording, A: Allocator + Copy> Witnessed<T, P, 
     }
 
     // `try_sendv`, and wakes whom it hands out.
-    fn sendv_now<R: Wait>(
+    pub(crate) fn sendv_now<R: Wait>(
         &self,
         rt: &R,
         pass: &mut Pass<T, P, Waiter<A>, J>,
@@ -192,7 +190,7 @@ impl<T: Drop, P: Ord + Drop, J: Recording, A: Allocator + Copy> Witnessed<T, P, 
     }
 
     // `poll_sendv`, and wakes whom it hands out.
-    fn sendv_or_list<R: Wait>(
+    pub(crate) fn sendv_or_list<R: Wait>(
         &self,
         rt: &R,
         pass: &mut Pass<T, P, Waiter<A>, J>,

@@ -2,4 +2,4 @@ use Rattle.priority_channel_witnessed.proofs.witnessed.waits.sendv.Witnessed+T+P
 
 pub returns-clause-told : goal.returns-clause-told
 returns-clause-told g c =
-    rw c.in_time.ensures c.sendv_until-sent.ensures.told
+    rw c.in_time.ensures c.sendv_until.ensures.told

@@ -1,0 +1,54 @@
+//! What a thread notes of its calls.
+
+pub(super) type Pair = (u64, u64);
+
+/// How long a call waits.
+#[derive(Clone, Copy, Debug, Drop, PartialEq, Eq)]
+pub(super) enum Way {
+    AtOnce,
+    InTime,
+    Blocking,
+}
+
+#[derive(Clone, Copy, Debug, Drop, PartialEq, Eq)]
+pub(super) enum Call {
+    Send(Way, Pair),
+    Sendv([Pair; 3]),
+    Recv(Way),
+    Len,
+    IsEmpty,
+    IsFull,
+    IsClosed,
+    Close,
+}
+
+/// Why a call has not done its work: there was no room, or no message; the channel is closed; or
+/// memory was refused.
+#[derive(Clone, Copy, Debug, Drop, PartialEq, Eq)]
+pub(super) enum Refusal {
+    Blocked,
+    Closed,
+    Memory,
+}
+
+/// A pair that came back.
+pub(super) type Refused = (Refusal, Pair);
+
+#[derive(Clone, Copy, Debug, Drop, PartialEq, Eq)]
+pub(super) enum Reply {
+    Sent(Result<(), Refused>),
+    /// What came back, in order.
+    SentMany([Option<Refused>; 3]),
+    Received(Result<Pair, Refusal>),
+    Number(u64),
+    Bool(bool),
+}
+
+/// A call, its reply, and a stamp from before it and one from after it.
+#[derive(Clone, Copy, Debug, Drop, PartialEq, Eq)]
+pub(super) struct Noted {
+    pub(super) begin: u64,
+    pub(super) end: u64,
+    pub(super) call: Call,
+    pub(super) reply: Reply,
+}
