@@ -23,11 +23,11 @@ type Caller<J> = Pass<u64, u64, Waiter<Global>, J>;
 type Answered = (
     [Result<(), SendFault<(u64, u64)>>; 2],
     [Result<(u64, u64), RecvFault>; 2],
-    Result<(), usize>,
+    Result<(), [Option<(u64, u64)>; 3]>,
 );
 
 // A send and a receive that need not wait, and each of the three futures after a close, of which the
-// bulk send tells how many pairs came back.
+// bulk send tells what came back.
 fn answers<J: Recording, R: Wait + RandomSource + AllocGlobal>(
     rt: &R,
     alloc: Global,
@@ -51,7 +51,10 @@ fn answers<J: Recording, R: Wait + RandomSource + AllocGlobal>(
     let (rest, pass) = block_on(rt, channel.sendv(rt, pass, pairs.into_iter().peekable()))?;
     let rest = match rest {
         Ok(()) => Ok(()),
-        Err(fault) => Err(fault.into_inner().count()),
+        Err(fault) => {
+            let mut rest = fault.into_inner();
+            Err([rest.next(), rest.next(), rest.next()])
+        }
     };
     passes.push(pass)?;
     channel.end(rt, passes);
@@ -66,7 +69,7 @@ fn futures_answer(rt: HostRuntime) -> Result<(), Fail> {
     expect_equal(&rt, sent, [Ok(()), unsent]);
     let closed = Err(RecvFault::Closed(RecvError));
     expect_equal(&rt, received, [Ok((7, 1)), closed]);
-    expect_equal(&rt, rest, Err(2));
+    expect_equal(&rt, rest, Err([Some((9, 3)), Some((10, 4)), None]));
     Ok(())
 }
 
