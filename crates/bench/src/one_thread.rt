@@ -2,7 +2,7 @@
 
 use crate::load::Load;
 use crate::measure::{Measure, add_at};
-use anyhow::ensure;
+use anyhow::{bail, ensure};
 use priority_channel_core::awaitable_atomics::Wakes;
 use priority_channel_core::channel::PriorityQueueChannel;
 use std::alloc::AllocGlobal;
@@ -22,8 +22,12 @@ where
     let mut sum = 0u64;
     for position in 0..count {
         let number = pending.wrapping_add(position);
-        send(&mut core, number, load.priority(number))?;
-        sum = add_at(sum, position, recv(&mut core)?);
+        let is_sent = send(&mut core, number, load.priority(number));
+        ensure!(is_sent, "{number} was not sent");
+        let Some(msg) = recv(&mut core) else {
+            bail!("no message came");
+        };
+        sum = add_at(sum, position, msg);
     }
     let end = rt.thread_cpu_time()?;
     Ok(Measure::of_time(end.saturating_sub(start), sum))
@@ -59,7 +63,10 @@ where
         send_all(&mut core, load, size)?;
         let start = rt.thread_cpu_time()?;
         for position in 0..size {
-            sum = add_at(sum, position, recv(&mut core)?);
+            let Some(msg) = recv(&mut core) else {
+                bail!("no message came");
+            };
+            sum = add_at(sum, position, msg);
         }
         let end = rt.thread_cpu_time()?;
         took = took.saturating_add(end.saturating_sub(start));
@@ -74,23 +81,25 @@ fn rounds(size: u64, count: u64) -> u64 {
 /// Sends the numbers below `count`.
 pub fn send_all(core: &mut Core, load: Load, count: u64) -> anyhow::Result<()> {
     for number in 0..count {
-        send(core, number, load.priority(number))?;
+        let is_sent = send(core, number, load.priority(number));
+        ensure!(is_sent, "{number} was not sent");
     }
     Ok(())
 }
 
-fn send(core: &mut Core, msg: u64, priority: i64) -> anyhow::Result<()> {
+// Neither makes an error of `anyhow`, for which it would clear much memory each time.
+
+fn send(core: &mut Core, msg: u64, priority: i64) -> bool {
     let (sent, wakes) = core.try_send(msg, priority);
     let_go(wakes);
-    ensure!(sent.is_ok(), "{msg} was not sent");
-    Ok(())
+    sent.is_ok()
 }
 
-fn recv(core: &mut Core) -> anyhow::Result<u64> {
+fn recv(core: &mut Core) -> Option<u64> {
     let (received, wakes) = core.try_recv();
     let_go(wakes);
-    let (msg, _) = received?;
-    Ok(msg)
+    let (msg, _) = received.ok()?;
+    Some(msg)
 }
 
 fn let_go(wakes: Wakes<u64>) {
