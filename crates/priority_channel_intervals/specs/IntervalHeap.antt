@@ -34,8 +34,10 @@ module _ {X : Type 0} (R : X → X → Ordering) where
 
   -- xs is an interval heap but for the item at h, whatever that is
   pub record InOrderBut (xs : List X) (h : ℕ) : Type 0 where
-    pub apart : (a b : ℕ) → IsOver a b → a < length xs → b < length xs → a ≢ h → b ≢ h → ComparesAt R xs a b false
-    pub across : (a b : ℕ) → IsOver a h → IsOver h b → a < length xs → b < length xs → ComparesAt R xs a b false
+    pub apart : (a b : ℕ) → IsOver a b → a < length xs → b < length xs → a ≢ h → b ≢ h
+        → ComparesAt R xs a b false
+    pub across : (a b : ℕ) → IsOver a h → IsOver h b → a < length xs → b < length xs
+        → ComparesAt R xs a b false
 
   -- the item at h may be greater than those over it
   pub record AtMostTooGreat (xs : List X) (h : ℕ) : Type 0 where

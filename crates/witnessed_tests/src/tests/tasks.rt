@@ -26,8 +26,8 @@ type Answered = (
     Result<(), [Option<(u64, u64)>; 3]>,
 );
 
-// A send and a receive that need not wait, and each of the three futures after a close, of which the
-// bulk send tells what came back.
+// A send and a receive that need not wait, and each of the three futures after a close, of which
+// the bulk send tells what came back.
 fn answers<J: Recording, R: Wait + RandomSource + AllocGlobal>(
     rt: &R,
     alloc: Global,
@@ -73,9 +73,9 @@ fn futures_answer(rt: HostRuntime) -> Result<(), Fail> {
     Ok(())
 }
 
-// How many a send and a receive hand out after a future that waited for what they bring was dropped;
-// the numbers of the passes that came, each where the one before had left; and whether the channel
-// ends once none of them is out.
+// How many a send and a receive hand out after a future that waited for what they bring was
+// dropped; the numbers of the passes that came, each where the one before had left; and whether the
+// channel ends once none of them is out.
 fn drops<J: Recording, R: Wait + RandomSource + AllocGlobal>(
     rt: &R,
     alloc: Global,
