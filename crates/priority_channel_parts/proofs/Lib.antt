@@ -1,9 +1,3 @@
-pub mod ByKey
-pub mod Digits
-pub mod Exchange
-pub mod Greatest
-pub mod Heaps
-pub mod ItemOrder
 pub mod Packed
 pub mod Tickets
 pub mod Waiting

@@ -1,7 +1,7 @@
 -- Who waits for a channel, on each of its two sides.
 use Rattle.std.specs.Prelude.{◌≡◌, true, false, ℕ, ◌+◌, ◌<◌, List, [], length, Option, Some, None}
 use Rattle.std.specs.List.{All}
-use Rattle.priority_channel_parts.specs.Digits.{digits}
+use Rattle.priority_channel_bag.specs.Digits.{digits}
 use Rattle.priority_channel_parts.specs.declared.side.Side.{Side}
 use Rattle.priority_channel_parts.specs.declared.side.Side.TheVariants.{Room, Message}
 use Rattle.priority_channel_parts.specs.Waiting.{Listing, IsRising, is_listed, without_given, listing}

@@ -8,9 +8,9 @@ ghost use Rattle.priority_channel_parts.specs.Waiting.{is_given_listed};
 ghost use Rattle.priority_channel_parts.specs.Waiters.{HasOwnTickets, no_waiters, on_side, unlist, Enlists, search_bound};
 ghost use Rattle.priority_channel_parts.specs.Word.{closed_bit, count_below};
 
-use crate::comparisons::Comparisons;
 use crate::side::Side;
 use crate::waiting_list::WaitingList;
+use priority_channel_bag::comparisons::Comparisons;
 use std::alloc::{Allocator, Global};
 use std::marker::Model;
 

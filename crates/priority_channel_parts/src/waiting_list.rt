@@ -1,13 +1,13 @@
 //! The parties that wait for one thing.
 ghost use Rattle.std.specs.Prelude.{◌≡◌, ℕ, ◌+◌, ◌<◌, ◌≤◌, false, IfSome, IsSome, true, IfNone, None, List, [], ◌++◌, length, option_to_list, ◌^◌};
 ghost use Rattle.std.specs.List.{All, HoldsAt};
-ghost use Rattle.priority_channel_parts.specs.Digits.{digits};
+ghost use Rattle.priority_channel_bag.specs.Digits.{digits};
 ghost use Rattle.priority_channel_parts.specs.Waiting.{is_listed, is_given_listed, without, with_waker, without_given, IsListing};
 
 mod entries;
 
-use crate::comparisons::Comparisons;
 use entries::Entries;
+use priority_channel_bag::comparisons::Comparisons;
 use std::alloc::{Allocator, Global};
 use std::cmp::Ordering;
 use std::marker::Model;

@@ -4,7 +4,7 @@ ghost use Rattle.std.specs.Prelude.{◌≡◌, ◌+◌, ◌<◌, OnErr, OnOk, If
 ghost use Rattle.std.specs.List.{HoldsAt, remove};
 ghost use Rattle.std.specs.Ordering.{nat_cmp};
 
-use crate::comparisons::Comparisons;
+use priority_channel_bag::comparisons::Comparisons;
 use std::alloc::{AllocError, Allocator, Global};
 use std::cmp::Ordering;
 use std::marker::Model;

@@ -1,0 +1,53 @@
+-- How the number of binary digits grows.
+use Rattle.std.proofs.Common.{◌≡◌, ℕ, ◌+◌, ◌-◌, ◌*◌, ◌/◌, ◌^◌, ◌<◌, ◌≤◌, length, subst, arith, inl, inr}
+use Rattle.std.specs.Int.Digits.{digits_of}
+use Rattle.std.proofs.lemmas.Bool.{cases_lt}
+use Rattle.std.proofs.lemmas.Nat.{mul-le}
+use Rattle.std.proofs.lemmas.Int.Digits.{length-digits_of_step, length-digits_of-le, number_lt, all_below_base_digits_of, number_digits_of}
+use Rattle.priority_channel_bag.specs.Digits.{digits}
+
+-- a number is below this power of two
+pub lt-digits : (n : ℕ) → n < 2 ^ digits n
+unfolding digits
+lt-digits n =
+    let P : ℕ → Type 0 = λ m. m < 2 ^ length (digits_of 2 n) in
+    subst P (number_digits_of 2 n (omega arith)) (number_lt 2 (digits_of 2 n) (all_below_base_digits_of 2 n (omega arith)))
+
+pub digits-mono : (m n : ℕ) → m ≤ n → digits m ≤ digits n
+unfolding digits
+digits-mono m n le =
+    let h = lt-digits n in
+    length-digits_of-le 2 (digits n) m (omega arith) (omega arith)
+
+-- a half has a digit less
+pub digits-half : (m n : ℕ) → 0 < n → m ≤ n / 2 → digits m + 1 ≤ digits n
+unfolding digits
+digits-half m n positive le =
+    let h = digits-mono m (n / 2) le in let e = length-digits_of_step 2 n (omega arith) positive in omega arith
+
+-- and at least the power before it
+pub digits-least : (n : ℕ) → 0 < n → 2 ^ (digits n - 1) ≤ n
+unfolding digits
+digits-least n positive =
+    elim (cases_lt n (2 ^ (digits n - 1))) [
+      | inl less ↦
+          let le = length-digits_of-le 2 (digits n - 1) n (omega arith) less in
+          let some = digits-half 0 n positive (omega arith) in
+          absurd (omega (arith, le, some))
+      | inr least ↦ least
+    ]
+
+-- from a child's position to its parent's
+pub digits_parent : (at : ℕ) → 0 < at → digits ((at - 1) / 2 + 1) + 1 ≤ digits (at + 1)
+digits_parent at positive = digits-half ((at - 1) / 2 + 1) (at + 1) (omega arith) (omega arith)
+
+-- from a parent's position to a child's
+pub digits_child : (at child : ℕ) → at * 2 + 1 ≤ child → digits at + 1 ≤ digits child
+digits_child at child le = digits-half at child (omega arith) (omega arith)
+
+-- a push more, into a longer bag
+pub push_costs : (n before after : ℕ) → before ≤ after → n * digits before + digits after ≤ (n + 1) * digits after
+push_costs n before after le =
+    let h = mul-le n (digits before) n (digits after) (omega arith) (digits-mono before after le) in
+    let e : (n + 1) * digits after ≡ n * digits after + digits after = grind arith in
+    omega (arith, h, e)

@@ -1,0 +1,24 @@
+use Rattle.std.proofs.Common.{true, false, slice_index_or, sym, ap, subst, ◌∙◌, arith, refl, inl, inr}
+use Rattle.std.proofs.lemmas.List.{get_or_default}
+use Rattle.std.proofs.Permutation.{which}
+use Rattle.priority_channel_bag.specs.Heap.{pair_of}
+use Rattle.priority_channel_bag.specs.Least.{Tells}
+use Rattle.priority_channel_bag.proofs.by_test.find.Goals as goal
+
+pub returns-then-test-clause-found : goal.returns-then-test-clause-found
+returns-then-test-clause-found g c = λ d.
+    let told : Tells g.F.Fn c.args.test.now (pair_of c.index-items-at.result) c.test.result = record { msg = _; priority = _; shows = (refl, refl); says = record { met = c.test.ensures } } in
+    let is_true = subst (Tells g.F.Fn c.args.test.now (pair_of c.index-items-at.result)) c.if-test.true told in
+    subst (λ x. Tells g.F.Fn c.args.test.now (pair_of x) true) (c.index-items-at.is ∙ get_or_default c.args.items.now c.loop-at.at c.index-items-at.result d (omega arith)) is_true
+
+pub loop-at-preserved : goal.loop-at-preserved
+loop-at-preserved g c =
+    let told : Tells g.F.Fn c.args.test.now (pair_of c.index-items-at.result) c.test.result = record { msg = _; priority = _; shows = (refl, refl); says = record { met = c.test.ensures } } in
+    let is_false = subst (Tells g.F.Fn c.args.test.now (pair_of c.index-items-at.result)) c.if-test.false told in
+    let xs = c.args.items.now in
+    let at = c.loop-at.at in
+    λ k d p. elim (which k at) [
+      | inl e ↦ subst (λ x. Tells g.F.Fn c.args.test.now (pair_of x) false)
+          (c.index-items-at.is ∙ get_or_default xs at c.index-items-at.result d (omega arith) ∙ ap (λ m. slice_index_or xs m d) (sym e)) is_false
+      | inr u ↦ c.loop-at.invariant k d (omega arith)
+    ]

@@ -1,0 +1,43 @@
+-- Where the items of an interval heap lie, and in which order they are.
+--
+-- They lie in pairs: at each even place a high, and right behind it its low. Below a pair lie two
+-- more. Where its high is at h, their four items are from h * 2 + 2 on, which is l * 2 for its low.
+use Rattle.std.specs.Prelude.{◌≡◌, ℕ, ◌+◌, ◌*◌, ◌%◌, ◌<◌, ◌≤◌, ◌≢◌, false, List, length}
+use Rattle.std.specs.BinaryHeap.Sift.{ComparesAt}
+use Rattle.std.specs.declared.cmp.Ordering.{Ordering}
+
+-- the item at a may not be less than the one at b: a high is over its low, and each item of the two
+-- pairs below lies between both
+pub data IsOver (a b : ℕ) : Type 0 where
+  own_low : a % 2 ≡ 0 → b ≡ a + 1 → IsOver a b
+  high : a % 2 ≡ 0 → a * 2 + 2 ≤ b → b ≤ a * 2 + 5 → IsOver a b
+  low : b % 2 ≡ 1 → b * 2 ≤ a → a ≤ b * 2 + 3 → IsOver a b
+
+module _ {X : Type 0} (R : X → X → Ordering) where
+  -- the first n items are an interval heap
+  unfoldable pub IsIntervalHeapWithin : List X → ℕ → Type 0
+  IsIntervalHeapWithin xs n = (a b : ℕ) → IsOver a b → a < n → b < n → ComparesAt R xs a b false
+
+  abbrev pub IsIntervalHeap : List X → Type 0
+  IsIntervalHeap xs = IsIntervalHeapWithin xs (length xs)
+
+  -- no item is less than the one at i
+  abbrev pub IsLeastAt : List X → ℕ → Type 0
+  IsLeastAt xs i = (k : ℕ) → k < length xs → ComparesAt R xs k i false
+
+  -- xs is an interval heap but for the item at h, whatever that is
+  pub record InOrderBut (xs : List X) (h : ℕ) : Type 0 where
+    pub apart : (a b : ℕ) → IsOver a b → a < length xs → b < length xs → a ≢ h → b ≢ h
+        → ComparesAt R xs a b false
+    pub across : (a b : ℕ) → IsOver a h → IsOver h b → a < length xs → b < length xs
+        → ComparesAt R xs a b false
+
+  -- the item at h may be greater than those over it
+  pub record AtMostTooGreat (xs : List X) (h : ℕ) : Type 0 where
+    pub others : InOrderBut xs h
+    pub under : (b : ℕ) → IsOver h b → b < length xs → ComparesAt R xs h b false
+
+  -- the item at h may be less than those that it is over
+  pub record AtMostTooSmall (xs : List X) (h : ℕ) : Type 0 where
+    pub others : InOrderBut xs h
+    pub over : (a : ℕ) → IsOver a h → a < length xs → ComparesAt R xs a h false

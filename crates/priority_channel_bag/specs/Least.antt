@@ -1,0 +1,54 @@
+-- Which pending pair makes room for a more urgent one, and which a test takes out.
+use Rattle.std.specs.Prelude.{◌≡◌, Bool, false, List, [], ◌∷◌, ◌++◌}
+use Rattle.std.specs.List.{All}
+use Rattle.std.specs.Fn.{Shared, FnReturns}
+use Rattle.std.specs.Borrow.{Bor}
+use Rattle.std.specs.Ordering.{is_lt}
+use Rattle.std.specs.declared.cmp.Ordering.{Ordering}
+use Rattle.std.specs.declared.cmp.Ordering.TheVariants.{Less, Greater}
+
+module _ {T P : Type 0} (cmp : P → P → Ordering) where
+  -- `pair` is the last of `pending` among those that exceed no pair in priority, and `rest` is the
+  -- others
+  pub record TakesLeast (pending : List (T × P)) (pair : T × P) (rest : List (T × P))
+      : Type 0 where
+    pub before : List (T × P)
+    pub after : List (T × P)
+    pub split : pending ≡ before ++ pair ∷ after
+    pub closed_up : rest ≡ before ++ after
+    pub not_below : All (λ other. is_lt (cmp other.1 pair.1) ≡ false) before
+    pub above : All (λ other. cmp other.1 pair.1 ≡ Greater) after
+
+  -- no pair of `pending` has a lesser priority than this
+  abbrev pub NoneBelow : List (T × P) → P → Type 0
+  NoneBelow pending priority = All (λ other. is_lt (cmp other.1 priority) ≡ false) pending
+
+  -- the least pair `out`, which is less urgent than `pair`, makes room for it
+  pub record Displaces (pending : List (T × P)) (pair out : T × P) (new : List (T × P))
+      : Type 0 where
+    pub rest : List (T × P)
+    pub less : cmp out.1 pair.1 ≡ Less
+    pub least : TakesLeast pending out rest
+    pub added : new ≡ rest ++ pair ∷ []
+
+-- `pair` is one of `pending`, and `rest` is the others, in their order
+pub record TakesOne {T P : Type 0} (pending : List (T × P)) (pair : T × P) (rest : List (T × P))
+    : Type 0 where
+  pub before : List (T × P)
+  pub after : List (T × P)
+  pub split : pending ≡ before ++ pair ∷ after
+  pub closed_up : rest ≡ before ++ after
+
+-- these pairs are taken out, one after another
+abbrev pub TakesAll : {T P : Type 0} → List (T × P) → List (T × P) → List (T × P) → Type 0
+TakesAll pending [] rest = rest ≡ pending
+TakesAll {T} {P} pending (pair ∷ more) rest =
+    (left : List (T × P)) × TakesOne pending pair left × TakesAll left more rest
+
+-- a call of the test at this pair may tell `answer`
+pub record Tells {F T P : Type 0} (g : Shared F (Bor T × (Bor P × Unit {0})) Bool) (test : F)
+    (pair : T × P) (answer : Bool) : Type 0 where
+  pub msg : Bor T
+  pub priority : Bor P
+  pub shows : (msg.now ≡ pair.0) × (priority.now ≡ pair.1)
+  pub says : FnReturns g test (msg, (priority, tt)) answer

@@ -1,0 +1,6 @@
+pub mod Digits
+pub mod Greatest
+pub mod Least
+pub mod IntervalHeap
+pub mod Heap
+pub mod Bag

@@ -1,0 +1,59 @@
+//! What a test of the caller's chooses.
+ghost use Rattle.std.specs.Prelude.{◌≡◌, ℕ, true, false, List, ◌++◌, ◌+◌, ◌<◌, ◌≤◌, length, map, slice_index_or, All, IfNone, IfSome, vec_capacity};
+ghost use Rattle.std.specs.List.Sorted.{IsPermutation};
+ghost use Rattle.priority_channel_bag.specs.Heap.{pair_of};
+ghost use Rattle.priority_channel_bag.specs.Least.{Tells};
+ghost use Rattle.priority_channel_bag.specs.declared.item.Item.{Item};
+
+use crate::item::Item;
+use std::alloc::Allocator;
+
+/// The place of an item of whose pair the test tells true.
+pub(crate) fn find<T, P, F: Fn(&T, &P) -> bool>(items: &[Item<T, P>], test: &F) -> Option<usize>
+    requires { F.IsAlwaysCallable test.now }
+    ensures within { IfSome result (λ at. at < length items.now) }
+    ensures found { IfSome result (λ at. (d : Item T P)
+        → Tells F.Fn test.now (pair_of (slice_index_or items.now at d)) true) }
+    ensures none { IfNone result ((k : ℕ) (d : Item T P) → k < length items.now
+        → Tells F.Fn test.now (pair_of (slice_index_or items.now k d)) false) }
+{
+    for at in 0..items.len() {
+        let item = &items[at];
+        if test(&item.msg, &item.priority) {
+            return Some(at);
+        }
+    }
+    None
+}
+
+/// Moves the pairs of which the test tells false to the end of `out`. What is left changes its
+/// order.
+pub(crate) fn divide<T, P, F: Fn(&T, &P) -> bool, A: Allocator, B: Allocator>(
+    items: &mut Vec<Item<T, P>, A>,
+    test: &F,
+    out: &mut Vec<(T, P), B>,
+)
+    requires callable { F.IsAlwaysCallable test.now }
+    requires fits { length out.old.items + length items.old.items ≤ vec_capacity out.old }
+    ensures taken { (others : List (Item T P))
+        × (out.new.items ≡ out.old.items ++ map pair_of others)
+        × IsPermutation items.old.items (others ++ items.new.items)
+        × All (λ item. Tells F.Fn test.now (pair_of item) false) others }
+    ensures kept { All (λ item. Tells F.Fn test.now (pair_of item) true) items.new.items }
+    ensures slots { vec_capacity items.new ≡ vec_capacity items.old }
+    ensures out_slots { vec_capacity out.new ≡ vec_capacity out.old }
+{
+    let mut at = items.len();
+    while 0 < at {
+        at -= 1;
+        let item = &items[at];
+        if !test(&item.msg, &item.priority) {
+            let Item {
+                msg,
+                priority,
+                number: _,
+            } = items.swap_remove(at);
+            out.push_reserved((msg, priority));
+        }
+    }
+}

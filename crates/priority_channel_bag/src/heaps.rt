@@ -1,0 +1,136 @@
+//! What a bag asks of its heap, whichever of the two that is.
+//!
+//! A pair that is less urgent than all others, as each of equal priorities is, compares once as it
+//! enters a binary heap, and rises to the top of an interval heap's lows. So a bag is a binary heap
+//! until its least item is asked for.
+ghost use Rattle.std.specs.Prelude.{◌≡◌, List, ◌+◌, ◌-◌, ◌*◌, ◌<◌, ◌≤◌, [], ◌∷◌, ◌++◌, length, take, slice_index_or, vec_capacity};
+ghost use Rattle.std.specs.List.Sorted.{IsPermutation};
+ghost use Rattle.priority_channel_bag.specs.Digits.{digits};
+ghost use Rattle.priority_channel_bag.specs.Heap.{item_cmp, IsOrdered, MendsAt};
+ghost use Rattle.priority_channel_bag.specs.declared.item.Item.{Item};
+
+use crate::comparisons::Comparisons;
+use crate::interval_heap;
+use crate::item::Item;
+use crate::sift::{rise, sink};
+use std::alloc::Allocator;
+use std::mem;
+
+/// Puts an item in, for which there is a slot.
+#[inline(always)]
+pub(crate) fn push<T, P: Ord, A: Allocator>(
+    items: &mut Vec<Item<T, P>, A>,
+    comparisons: &mut Comparisons,
+    has_two_ends: bool,
+    item: Item<T, P>,
+)
+    requires { length items.old.items < vec_capacity items.old }
+    ensures moves { IsPermutation (items.old.items ++ item ∷ []) items.new.items }
+    ensures order { IsOrdered (item_cmp P.cmp) has_two_ends items.old.items
+        → IsOrdered (item_cmp P.cmp) has_two_ends items.new.items }
+    ensures slots { vec_capacity items.new ≡ vec_capacity items.old }
+    ensures cost { comparisons.new.count
+        ≤ comparisons.old.count + digits (length items.new.items) }
+{
+    items.push_reserved(item);
+    settle(items.as_mut_slice(), comparisons, has_two_ends);
+}
+
+/// Takes the item at `at` out.
+#[inline(always)]
+pub(crate) fn remove<T, P: Ord, A: Allocator>(
+    items: &mut Vec<Item<T, P>, A>,
+    comparisons: &mut Comparisons,
+    has_two_ends: bool,
+    at: usize,
+) -> Item<T, P>
+    requires { at < length items.old.items }
+    ensures item { result ≡ slice_index_or items.old.items at result }
+    ensures moves { IsPermutation items.old.items (result ∷ items.new.items) }
+    ensures order { IsOrdered (item_cmp P.cmp) has_two_ends items.old.items
+        → IsOrdered (item_cmp P.cmp) has_two_ends items.new.items }
+    ensures slots { vec_capacity items.new ≡ vec_capacity items.old }
+    ensures cost { comparisons.new.count
+        ≤ comparisons.old.count + 2 * digits (length items.old.items) }
+{
+    let item = items.swap_remove(at);
+    mend(items.as_mut_slice(), comparisons, has_two_ends, at);
+    item
+}
+
+/// Puts an item in the place of the one at `at`, and gives that back.
+pub(crate) fn replace<T, P: Ord>(
+    items: &mut [Item<T, P>],
+    comparisons: &mut Comparisons,
+    has_two_ends: bool,
+    at: usize,
+    item: Item<T, P>,
+) -> Item<T, P>
+    requires { at < length items.old }
+    ensures item { result ≡ slice_index_or items.old at result }
+    ensures moves { (others : List (Item T P)) × IsPermutation items.old (result ∷ others)
+        × IsPermutation (others ++ item ∷ []) items.new }
+    ensures order { IsOrdered (item_cmp P.cmp) has_two_ends items.old
+        → IsOrdered (item_cmp P.cmp) has_two_ends items.new }
+    ensures cost { comparisons.new.count ≤ comparisons.old.count + 2 * digits (length items.old) }
+{
+    let out = mem::replace(&mut items[at], item);
+    mend(items, comparisons, has_two_ends, at);
+    out
+}
+
+/// Makes a heap of any items.
+pub(crate) fn arrange<T, P: Ord>(
+    items: &mut [Item<T, P>],
+    comparisons: &mut Comparisons,
+    has_two_ends: bool,
+)
+    ensures moves { IsPermutation items.old items.new }
+    ensures order { IsOrdered (item_cmp P.cmp) has_two_ends items.new }
+    ensures cost { comparisons.new.count
+        ≤ comparisons.old.count + length items.old * digits (length items.old) }
+{
+    for last in 0..items.len() {
+        settle(&mut items[..=last], comparisons, has_two_ends);
+    }
+}
+
+// Makes a heap of items that are one but for the last of them, which was just added.
+#[inline(always)]
+fn settle<T, P: Ord>(items: &mut [Item<T, P>], comparisons: &mut Comparisons, has_two_ends: bool)
+    requires { 0 < length items.old }
+    ensures moves { IsPermutation items.old items.new }
+    ensures order { IsOrdered (item_cmp P.cmp) has_two_ends (take (length items.old - 1) items.old)
+        → IsOrdered (item_cmp P.cmp) has_two_ends items.new }
+    ensures cost { comparisons.new.count ≤ comparisons.old.count + digits (length items.old) }
+{
+    if has_two_ends {
+        interval_heap::settle(items, comparisons);
+    } else {
+        let last = items.len() - 1;
+        rise(items, comparisons, last);
+    }
+}
+
+// Makes a heap of items that were one until another came in at `at`. Where there are not so many,
+// they stay as they are.
+#[inline(always)]
+fn mend<T, P: Ord>(
+    items: &mut [Item<T, P>],
+    comparisons: &mut Comparisons,
+    has_two_ends: bool,
+    at: usize,
+)
+    ensures moves { IsPermutation items.old items.new }
+    ensures order { MendsAt (item_cmp P.cmp) has_two_ends at items.old items.new }
+    ensures cost { comparisons.new.count ≤ comparisons.old.count + 2 * digits (length items.old) }
+{
+    if items.len() <= at {
+        return;
+    }
+    if has_two_ends {
+        interval_heap::mend(items, comparisons, at);
+    } else {
+        sink(items, comparisons, at);
+    }
+}

@@ -1,0 +1,55 @@
+//! An interval heap. The items lie in pairs, a high and behind it its low, and each pair lies
+//! between the high and the low of the pair over it. So the first item is the greatest and the
+//! second the least. Where the number of items is odd, the last high is without a low.
+//!
+//! As a binary heap it takes no memory of its own, and each call makes a number of comparisons that
+//! grows as the logarithm of the length.
+ghost use Rattle.std.specs.Prelude.{◌≡◌, ◌+◌, ◌-◌, ◌*◌, ◌<◌, ◌≤◌, true, [], length, IfSome, MatchOption};
+ghost use Rattle.std.specs.List.Sorted.{IsPermutation};
+ghost use Rattle.priority_channel_bag.specs.Digits.{digits};
+ghost use Rattle.priority_channel_bag.specs.Heap.{item_cmp, MendsAt};
+ghost use Rattle.priority_channel_bag.specs.IntervalHeap.{IsIntervalHeap, IsIntervalHeapWithin, IsLeastAt};
+
+use crate::comparisons::Comparisons;
+use crate::interval_heap::sift::{fall, settle_at};
+use crate::item::Item;
+
+mod sift;
+
+/// Makes an interval heap of items that are one but for the last of them, which was just added.
+pub(crate) fn settle<T, P: Ord>(items: &mut [Item<T, P>], comparisons: &mut Comparisons)
+    ensures moves { IsPermutation items.old items.new }
+    ensures order { IsIntervalHeapWithin (item_cmp P.cmp) items.old (length items.old - 1)
+        → IsIntervalHeap (item_cmp P.cmp) items.new }
+    ensures cost { comparisons.new.count ≤ comparisons.old.count + digits (length items.old) }
+{
+    if items.is_empty() {
+        return;
+    }
+    let last = items.len() - 1;
+    settle_at(items, comparisons, last);
+}
+
+/// Makes an interval heap of items that were one until another came in at `at`.
+pub(crate) fn mend<T, P: Ord>(items: &mut [Item<T, P>], comparisons: &mut Comparisons, at: usize)
+    requires { at < length items.old }
+    ensures moves { IsPermutation items.old items.new }
+    ensures order { MendsAt (item_cmp P.cmp) true at items.old items.new }
+    ensures cost { comparisons.new.count ≤ comparisons.old.count + 2 * digits (length items.old) }
+{
+    let bottom = fall(items, comparisons, at);
+    settle_at(items, comparisons, bottom);
+}
+
+/// Where the least item of an interval heap is, if it has any.
+pub(crate) fn least_place<T, P: Ord>(items: &[Item<T, P>]) -> Option<usize>
+    ensures place { MatchOption result (items.now ≡ []) (λ i. i < length items.now) }
+    ensures least { IfSome result (λ i. IsIntervalHeap (item_cmp P.cmp) items.now
+        → IsLeastAt (item_cmp P.cmp) items.now i) }
+{
+    match items.len() {
+        0 => None,
+        1 => Some(0),
+        _ => Some(1),
+    }
+}

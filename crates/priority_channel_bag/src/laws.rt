@@ -1,0 +1,30 @@
+//! What follows from the definitions alone.
+ghost use Rattle.std.specs.Prelude.{◌≡◌, ◌-◌, ◌<◌, ◌≤◌, ◌^◌, ℕ, List};
+ghost use Rattle.priority_channel_bag.specs.Digits.{digits};
+ghost use Rattle.priority_channel_bag.specs.Greatest.{TakesGreatest};
+ghost use Rattle.priority_channel_bag.specs.Least.{TakesLeast};
+
+/// A list of pairs has at most one first greatest pair, and leaves one rest. So which pair a
+/// receive gives is decided by what is pending.
+pub fn one_greatest_law<T, P: Ord>()
+    ensures { (pending : List (T × P)) (pair other : T × P) (rest others : List (T × P))
+        → TakesGreatest P.cmp pending pair rest → TakesGreatest P.cmp pending other others
+        → (pair ≡ other) × (rest ≡ others) }
+{}
+
+/// A list of pairs has at most one last least pair, and leaves one rest. So which pair makes room
+/// for a more urgent one is decided by what is pending.
+pub fn one_least_law<T, P: Ord>()
+    ensures { (pending : List (T × P)) (pair other : T × P) (rest others : List (T × P))
+        → TakesLeast P.cmp pending pair rest → TakesLeast P.cmp pending other others
+        → (pair ≡ other) × (rest ≡ others) }
+{}
+
+/// How many binary digits a length has, in which the bounds on comparisons are: one more than its
+/// logarithm, rounded down.
+pub fn digits_law()
+    ensures above { (n : ℕ) → n < 2 ^ digits n }
+    ensures least { (n : ℕ) → 0 < n → 2 ^ (digits n - 1) ≤ n }
+    ensures samples { (digits 0 ≡ 0) × (digits 1 ≡ 1) × (digits 2 ≡ 2) × (digits 3 ≡ 2)
+        × (digits 4 ≡ 3) × (digits 1000 ≡ 10) × (digits 1024 ≡ 11) }
+{}

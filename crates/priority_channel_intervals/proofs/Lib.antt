@@ -1,4 +1,0 @@
-pub mod Moves
-pub mod Places
-pub mod IntervalHeaps
-pub mod Costs
