@@ -4,13 +4,13 @@ use Rattle.std.proofs.Common.{◌≡◌, ℕ, ◌+◌, ◌-◌, ◌<◌, ◌≤�
 use Rattle.std.specs.Prelude.{◌==◌, if◌then◌else◌}
 use Rattle.priority_channel_core.specs.machine.State.{State, Handed, nobody}
 use Rattle.priority_channel_core.specs.machine.Sends.{AddsFront}
-use Rattle.priority_channel_parts.specs.Bag.{Contents}
+use Rattle.priority_channel_bag.specs.Bag.{Contents}
 use Rattle.priority_channel_parts.specs.Word.{Word}
 use Rattle.priority_channel_parts.specs.Waiters.{HasOwnTickets}
 use Rattle.priority_channel_core.specs.code.Channel.{state_of, IsSound}
 use Rattle.std.proofs.lemmas.Bool.{cases_lt}
-use Rattle.priority_channel_parts.specs.Digits.{digits}
-use Rattle.priority_channel_parts.proofs.Digits.{digits-mono}
+use Rattle.priority_channel_bag.specs.Digits.{digits}
+use Rattle.priority_channel_bag.proofs.Digits.{digits-mono}
 use Rattle.priority_channel_core.proofs.Sends.{good_adds}
 
 module _ {T P W : Type 0} (bag bag' : Contents T P) (word word' : Word W) (handed : Handed W) (capacity : ℕ) (is_reserved : Bool)

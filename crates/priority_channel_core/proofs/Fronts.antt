@@ -2,7 +2,7 @@
 use Rattle.std.proofs.Common.{◌≡◌, ℕ, ◌+◌, ◌<◌, ◌≤◌, List, [], ◌∷◌, ◌++◌, length, refl, sym, ap, ◌∙◌, arith, append_assoc, length-append, Option, Some, Bool, true, false, IsTrue, ◌↔◌}
 use Rattle.std.specs.Iterator.Adapters.{peekable_steps}
 use Rattle.std.specs.declared.iter.Ahead.{Ahead}
-use Rattle.priority_channel_parts.specs.Bag.{Contents}
+use Rattle.priority_channel_bag.specs.Bag.{Contents}
 use Rattle.priority_channel_core.specs.code.Lists.{HasList}
 use Rattle.priority_channel_core.specs.machine.State.{State, Handed}
 use Rattle.priority_channel_core.specs.code.Front.{Takes, HasMore, HasEnded, MovesFront, SendsFront, StopsFor, sent_before}

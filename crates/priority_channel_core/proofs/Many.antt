@@ -10,12 +10,12 @@ use Rattle.priority_channel_core.specs.declared.calls.Answer.TheVariants as answ
 use Rattle.priority_channel_parts.specs.declared.errors.TryRecvError.{TryRecvError}
 use Rattle.priority_channel_parts.specs.declared.errors.TryRecvError.TheVariants.{Empty, Closed}
 use Rattle.priority_channel_core.specs.machine.State.{State, Handed, nobody}
-use Rattle.priority_channel_parts.specs.Digits.{digits}
-use Rattle.priority_channel_parts.specs.Greatest.{TakesGreatest}
+use Rattle.priority_channel_bag.specs.Digits.{digits}
+use Rattle.priority_channel_bag.specs.Greatest.{TakesGreatest}
 use Rattle.priority_channel_core.specs.machine.Step.{Step}
 use Rattle.priority_channel_core.specs.machine.Run.{Operation, Run}
 use Rattle.priority_channel_core.specs.code.Many.{receives, ReceivesInTurn}
-use Rattle.priority_channel_parts.proofs.Digits.{digits-mono}
+use Rattle.priority_channel_bag.proofs.Digits.{digits-mono}
 use Rattle.priority_channel_core.proofs.Runs.{Run-more}
 
 taken_length : {T P : Type 0} (cmp : P → P → Ordering) (pending rest : List (T × P)) (pair : T × P) → TakesGreatest cmp pending pair rest
@@ -47,7 +47,7 @@ module _ {T P W : Type 0} (cmp : P → P → Ordering) (is_clone : W → W → T
       → Received old before count mid now → Step cmp is_clone mid call.TryRecv (answer.TryRecv (Ok pair)) handed new → after ≡ now ++ pair ∷ []
       → Received old before (count + 1) new after
   received_more old mid new before now after count pair handed r s is =
-      let handed_is : handed ≡ nobody = s.moves.1 ∙ ap (λ (l : List (ℕ × W)). record { room = l; message = [] }) r.nobody_waits in
+      let handed_is : handed ≡ nobody = s.moves.1.0 ∙ ap (λ (l : List (ℕ × W)). record { room = l; message = [] }) r.nobody_waits in
       let taken = taken_length cmp mid.pending new.pending pair s.moves.0 in
       record {
         pairs = r.pairs ++ pair ∷ [];
@@ -57,7 +57,7 @@ module _ {T P W : Type 0} (cmp : P → P → Ordering) (is_clone : W → W → T
         run = subst (λ (run : List (Operation T P W)). Run cmp is_clone old run new) (sym (receives-push r.pairs pair))
             (Run-more cmp is_clone old mid new (receives r.pairs nobody) (record { call = call.TryRecv; answer = answer.TryRecv (Ok pair); handed = nobody }) r.run
             (subst (λ (h : Handed W). Step cmp is_clone mid call.TryRecv (answer.TryRecv (Ok pair)) h new) handed_is s));
-        nobody_waits = ap (λ (s : State T P W). s.waiters.room) s.moves.2;
+        nobody_waits = ap (λ (s : State T P W). s.waiters.room) s.moves.1.1;
       }
 
   -- a first receive, which hands out all who wait for room, and then so many others

@@ -19,7 +19,7 @@ use Rattle.priority_channel_parts.specs.declared.errors.TryRecvError.TheVariants
 use Rattle.priority_channel_parts.specs.declared.errors.RecvFault.{RecvFault}
 use Rattle.priority_channel_parts.specs.declared.errors.RecvFault.TheVariants as recv
 use Rattle.priority_channel_parts.specs.Errors.{rest_of}
-use Rattle.priority_channel_parts.specs.Digits.{digits}
+use Rattle.priority_channel_bag.specs.Digits.{digits}
 use Rattle.priority_channel_parts.specs.Waiting.{is_given_listed}
 use Rattle.priority_channel_parts.specs.Waiters.{Waiters, unlist, search_bound}
 use Rattle.priority_channel_core.specs.machine.State.{State, Handed, nobody}
@@ -105,8 +105,8 @@ sent_searches_less {T} {P} {W} old mid front handed adds =
 pub received_searches_less : {T P W : Type 0} (cmp : P → P → Ordering) (old mid : State T P W) (reply : Result (T × P) TryRecvError) (handed : Handed W)
     → Receives cmp old reply handed mid → search_bound mid.waiters ≤ search_bound old.waiters
 received_searches_less {T} {P} {W} cmp old mid (Ok pair) handed received =
-    let room = ap (λ (s : State T P W). length s.waiters.room) received.2 in
-    let message = ap (λ (s : State T P W). length s.waiters.message) received.2 in
+    let room = ap (λ (s : State T P W). length s.waiters.room) received.1.1 in
+    let message = ap (λ (s : State T P W). length s.waiters.message) received.1.1 in
     digits_shorter old.waiters.room old.waiters.message mid.waiters.room mid.waiters.message (omega (arith, room)) (omega (arith, message))
 received_searches_less cmp old mid (Err try_recv.Closed) handed received = let same = received.2.1 in rw same (omega arith)
 received_searches_less cmp old mid (Err try_recv.Empty) handed received = let same = received.2.1 in rw same (omega arith)
@@ -118,7 +118,7 @@ module _ {T P W : Type 0} (is_clone : W → W → Type 0) (old mid new : Counted
       → ComparesAtMost (n * digits (length new.state.pending)) (search_bound old.state.waiters) old new
   poll_costs n tried waited =
       let same = ap (λ (s : State T P W). n * digits (length s.pending)) ends.1 in
-      (omega (arith, tried.0, waited.0, same), omega (arith, tried.1, waited.1, sent_searches_less old.state mid.state front handed adds))
+      (omega (arith, tried.0, waited.0, same), omega (arith, tried.1, waited.1, sent_searches_less old.state mid.state front handed adds), λ known. waited.2 (tried.2 known))
 
   -- a poll of a bulk send, whether or not its iterator has one list
   pub polls_front : ComparesAtMost (length front * digits (length mid.state.pending)) 0 old mid

@@ -7,7 +7,12 @@ use crate::errors::{RecvFault, SendFault, TryRecvError, TrySendError};
 pub enum Call<T, P, W, M> {
     TrySend(T, P),
     TrySendv(M),
+    TrySendEvicting(T, P),
     TryRecv,
+    /// What a `take_where` is in definitions and histories. A test is no value, so the call carries
+    /// which pair it takes: its place among those pending, in the order of their acceptance. `run`
+    /// does not make it.
+    TakeWhere(u64),
     Close,
     IsClosed,
     IsEmpty,
@@ -31,7 +36,9 @@ pub enum Call<T, P, W, M> {
 pub enum Answer<T, P, M> {
     TrySend(Result<(), TrySendError<(T, P)>>),
     TrySendv(Result<(), TrySendError<M>>),
+    TrySendEvicting(Result<Option<(T, P)>, TrySendError<(T, P)>>),
     TryRecv(Result<(T, P), TryRecvError>),
+    TakeWhere(Option<(T, P)>),
     Close(bool),
     IsClosed(bool),
     IsEmpty(bool),

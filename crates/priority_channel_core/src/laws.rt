@@ -5,7 +5,7 @@ ghost use Rattle.std.specs.Iterator.Adapters.{peekable_peeked, peekable_source};
 ghost use Rattle.std.specs.declared.iter.Ahead.{Ahead};
 ghost use Rattle.priority_channel_core.specs.code.Lists.{HasList};
 
-pub use priority_channel_parts::laws::{digits_law, one_greatest_law};
+pub use priority_channel_bag::laws::{digits_law, one_greatest_law, one_least_law};
 
 /// An iterator at which nobody has peeked has the list that it always yields. So of a vector's, a
 /// range's or a slice's iterator, or a map of one, a caller knows what a bulk send does with it.

@@ -9,4 +9,5 @@ pub mod calls;
 pub mod channel;
 pub mod laws;
 
-pub use priority_channel_parts::{awaitable_atomics, bag, comparisons, errors, item, side};
+pub use priority_channel_bag::{bag, comparisons, item};
+pub use priority_channel_parts::{awaitable_atomics, errors, side};

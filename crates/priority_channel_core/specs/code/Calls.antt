@@ -22,10 +22,12 @@ pub record Response (T P W M : Type 0) : Type 0 where
   pub answer : Answer T P M
   pub handed : Handed W
 
--- a call may be made where the iterator of a bulk send may be called
+-- a call may be made where the iterator of a bulk send may be called; of a `take_where` the code
+-- has the test, and no place
 abbrev pub MayCall : {T P W M : Type 0} → (M → Type 0) → Call T P W M → Type 0
 MayCall can (call.TrySendv msgs) = can msgs
 MayCall can (call.PollSendv msgs given waker) = can msgs
+MayCall can (call.TakeWhere place) = ⊥
 MayCall can made = ⊤
 
 -- `holds m list` says that m holds the list
@@ -61,7 +63,9 @@ module _ {T P M : Type 0} (holds : M → List (T × P) → Type 0) where
       (p : CorePoll (Result (Unit {0}) (SendFault (List (T × P)))) (List (T × P)))
       × (told ≡ answer.PollSendv p) × SamePoll poll p
   SameAnswer (answer.TrySend reply) told = told ≡ answer.TrySend reply
+  SameAnswer (answer.TrySendEvicting reply) told = told ≡ answer.TrySendEvicting reply
   SameAnswer (answer.TryRecv reply) told = told ≡ answer.TryRecv reply
+  SameAnswer (answer.TakeWhere taken) told = told ≡ answer.TakeWhere taken
   SameAnswer (answer.Close was_open) told = told ≡ answer.Close was_open
   SameAnswer (answer.IsClosed b) told = told ≡ answer.IsClosed b
   SameAnswer (answer.IsEmpty b) told = told ≡ answer.IsEmpty b
@@ -86,7 +90,9 @@ module _ {T P M : Type 0} (holds : M → List (T × P) → Type 0) where
     SameCall (call.PollSendv msgs given waker) meant =
         (pairs : List (T × P)) × (meant ≡ call.PollSendv pairs given waker) × holds msgs pairs
     SameCall (call.TrySend msg priority) meant = meant ≡ call.TrySend msg priority
+    SameCall (call.TrySendEvicting msg priority) meant = meant ≡ call.TrySendEvicting msg priority
     SameCall call.TryRecv meant = meant ≡ call.TryRecv
+    SameCall (call.TakeWhere place) meant = meant ≡ call.TakeWhere place
     SameCall call.Close meant = meant ≡ call.Close
     SameCall call.IsClosed meant = meant ≡ call.IsClosed
     SameCall call.IsEmpty meant = meant ≡ call.IsEmpty

@@ -1,17 +1,20 @@
 -- What callers see of a channel, and how its parts agree.
-use Rattle.std.specs.Prelude.{◌≡◌, ℕ, ◌+◌, ◌≤◌, Bool, true, false, [], length}
+use Rattle.std.specs.Prelude.{◌≡◌, ℕ, ◌+◌, ◌*◌, ◌≤◌, Bool, true, false, if◌then◌else◌, [], length}
+use Rattle.priority_channel_bag.specs.Digits.{digits}
 use Rattle.priority_channel_parts.specs.declared.side.Side.{Side}
 use Rattle.priority_channel_parts.specs.declared.side.Side.TheVariants.{Room, Message}
 use Rattle.priority_channel_core.specs.machine.State.{State, room}
 use Rattle.priority_channel_core.specs.machine.Good.{IsGood}
-use Rattle.priority_channel_parts.specs.Bag.{Contents}
+use Rattle.priority_channel_bag.specs.Bag.{Contents}
 use Rattle.priority_channel_parts.specs.Word.{Word}
 
--- a state, and how many comparisons of two priorities and of two tickets were made
+-- a state, how many comparisons of two priorities and of two tickets were made, and whether the
+-- least urgent pair is known without a search
 pub record CountedState (T P W : Type 0) : Type 0 where
   pub state : State T P W
   pub priority_comparisons : ℕ
   pub ticket_comparisons : ℕ
+  pub knows_least : Bool
 
 -- the state that the parts of a channel make up
 abbrev pub state_of : {T P W : Type 0} → Contents T P → Word W → ℕ → Bool → ℕ → ℕ → State T P W
@@ -33,12 +36,20 @@ pub record IsSound {T P W : Type 0} (bag : Contents T P) (word : Word W)
   pub slots_kept : state.is_reserved ≡ true → state.capacity ≤ bag.slots
   pub good : IsGood state
 
--- a call made at most so many comparisons of priorities, and of tickets
+-- a call made at most so many comparisons of priorities, and of tickets, and the least urgent pair
+-- is known after it if it was known before
 abbrev pub ComparesAtMost : {T P W : Type 0} → ℕ → ℕ → CountedState T P W → CountedState T P W
     → Type 0
 ComparesAtMost priorities tickets old new =
     (new.priority_comparisons ≤ old.priority_comparisons + priorities)
     × (new.ticket_comparisons ≤ old.ticket_comparisons + tickets)
+    × (old.knows_least ≡ true → new.knows_least ≡ true)
+
+-- how many comparisons of priorities it takes at most until the least urgent pair is known
+abbrev pub search_for_least : {T P W : Type 0} → CountedState T P W → ℕ
+search_for_least channel =
+    if channel.knows_least then 0
+    else length channel.state.pending * digits (length channel.state.pending)
 
 -- a call on this side has to wait
 abbrev pub IsBlocked : {T P W : Type 0} → Side → State T P W → Type 0

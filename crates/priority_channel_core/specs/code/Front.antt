@@ -7,7 +7,7 @@ use Rattle.priority_channel_core.specs.machine.State.{State, Handed}
 use Rattle.priority_channel_core.specs.machine.Sends.{AddsFront}
 use Rattle.priority_channel_core.specs.machine.Polls.{Ends}
 use Rattle.priority_channel_parts.specs.declared.side.Side.TheVariants.{Room}
-use Rattle.priority_channel_parts.specs.Bag.{Contents}
+use Rattle.priority_channel_bag.specs.Bag.{Contents}
 use Rattle.priority_channel_core.specs.code.Lists.{HasList}
 
 -- how many pairs were sent before the stop

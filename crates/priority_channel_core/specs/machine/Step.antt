@@ -8,7 +8,8 @@ use Rattle.priority_channel_core.specs.declared.calls.Answer.TheVariants as answ
 use Rattle.priority_channel_core.specs.machine.State.{State, Handed}
 use Rattle.priority_channel_core.specs.machine.Good.{IsGood}
 use Rattle.priority_channel_core.specs.machine.Sends.{as_list, Refuses, Sends}
-use Rattle.priority_channel_core.specs.machine.OtherCalls.{Receives, Closes, Looks, capacity_told, Clones, Drops}
+use Rattle.priority_channel_core.specs.machine.Evicts.{Evicts}
+use Rattle.priority_channel_core.specs.machine.OtherCalls.{Receives, Takes, Closes, Looks, capacity_told, Clones, Drops}
 use Rattle.priority_channel_parts.specs.Waiters.{unlist}
 use Rattle.priority_channel_core.specs.machine.Polls.{send_answer, recv_answer, Polls}
 use Rattle.priority_channel_parts.specs.declared.side.Side.TheVariants.{Room, Message}
@@ -27,7 +28,10 @@ module _ {T P W : Type 0} (cmp : P → P → Ordering) (is_clone : W → W → T
   Moves old (call.TrySend msg priority) (answer.TrySend reply) =
       Sends old ((msg, priority) ∷ []) (as_list reply)
   Moves old (call.TrySendv pairs) (answer.TrySendv reply) = Sends old pairs reply
+  Moves old (call.TrySendEvicting msg priority) (answer.TrySendEvicting reply) =
+      Evicts cmp old (msg, priority) reply
   Moves old call.TryRecv (answer.TryRecv reply) = Receives cmp old reply
+  Moves old (call.TakeWhere place) (answer.TakeWhere taken) = Takes old place taken
   Moves old call.Close (answer.Close was_open) = Closes old was_open
   Moves old call.IsClosed (answer.IsClosed told) = Looks old old.is_closed told
   Moves old call.IsEmpty (answer.IsEmpty told) = Looks old (length old.pending == 0) told

@@ -1,7 +1,7 @@
 //! Sending many pairs in one step.
 ghost use Rattle.std.specs.Prelude.{◌≡◌, ◌+◌, ◌*◌, ◌-◌, ◌<◌, ◌≤◌, ◌^◌, ◌↔◌, ◌⊎◌, List, length, Err, IfErr, IsTrue, true, false, Option, Some, is_some};
 ghost use Rattle.std.specs.Iterator.Adapters.{peekable_can, peekable_peeked};
-ghost use Rattle.priority_channel_parts.specs.Digits.{digits};
+ghost use Rattle.priority_channel_bag.specs.Digits.{digits};
 ghost use Rattle.priority_channel_core.specs.code.Lists.{HasList};
 ghost use Rattle.priority_channel_core.specs.code.Front.{MovesFront, SendsFront, StopsFor, sent_before};
 
@@ -64,6 +64,7 @@ fn send_front<T: Drop, P: Ord + Drop, A: Allocator, I: Iterator<Item = (T, P)>>(
     ensures accepted { bag.new.accepted ≡ bag.old.accepted + sent_before result }
     ensures numbered { bag.old.accepted < 2 ^ 64 → bag.new.accepted < 2 ^ 64 }
     ensures slots { bag.old.slots ≤ bag.new.slots }
+    ensures least { bag.new.knows_least ≡ bag.old.knows_least }
     ensures limit { length bag.old.pending < 2 ^ 63 → length bag.new.pending < 2 ^ 63 }
     ensures stops { StopsFor I.next_gives
         (λ n. bag.new.accepted + 1 < 2 ^ 64 → bag.new.slots ≤ length bag.new.pending)

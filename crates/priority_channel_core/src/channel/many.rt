@@ -1,6 +1,6 @@
 //! Receiving many pairs in one hold of what guards the channel.
 ghost use Rattle.std.specs.Prelude.{◌≡◌, ◌↔◌, ◌+◌, ◌*◌, ◌<◌, ◌≤◌, List, ◌++◌, [], length, min, IfOk, IfErr, OnErr, IsOk, Err, vec_capacity};
-ghost use Rattle.priority_channel_parts.specs.Digits.{digits};
+ghost use Rattle.priority_channel_bag.specs.Digits.{digits};
 ghost use Rattle.priority_channel_core.specs.code.Many.{ReceivesInTurn};
 
 use crate::awaitable_atomics::Wakes;

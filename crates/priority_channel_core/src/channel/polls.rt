@@ -3,7 +3,7 @@
 ghost use Rattle.std.specs.Prelude.{◌≡◌, ◌≢◌, ◌⊎◌, ◌+◌, ◌-◌, ◌*◌, ◌^◌, ℕ, List, [], length, false, true, Option, Some, IfSome, IsSome, Result, Err};
 ghost use Rattle.std.specs.Iterator.Adapters.{peekable_can};
 ghost use Rattle.std.specs.declared.iter.Ahead.{Ahead};
-ghost use Rattle.priority_channel_parts.specs.Digits.{digits};
+ghost use Rattle.priority_channel_bag.specs.Digits.{digits};
 ghost use Rattle.priority_channel_parts.specs.Waiting.{is_given_listed};
 ghost use Rattle.priority_channel_parts.specs.Waiters.{on_side, unlist, search_bound};
 ghost use Rattle.priority_channel_core.specs.machine.Polls.{send_answer, recv_answer, Ends};

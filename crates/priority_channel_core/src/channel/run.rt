@@ -111,10 +111,15 @@ impl<T: Drop, P: Ord + Drop, W: Clone, A: Allocator + Copy> PriorityQueueChannel
                 let (reply, wakes) = self.try_sendv(msgs);
                 Response::new(Answer::TrySendv(reply), wakes)
             }
+            Call::TrySendEvicting(msg, priority) => {
+                let (reply, wakes) = self.try_send_evicting(msg, priority);
+                Response::new(Answer::TrySendEvicting(reply), wakes)
+            }
             Call::TryRecv => {
                 let (reply, wakes) = self.try_recv();
                 Response::new(Answer::TryRecv(reply), wakes)
             }
+            Call::TakeWhere(_) => unreachable!(),
             Call::Close => {
                 let (was_open, wakes) = self.close();
                 Response::new(Answer::Close(was_open), wakes)

@@ -7,4 +7,4 @@ returns-clause-cost g c =
     let tried = c.try_recv-reply.ensures in
     let less = received_searches_less g.P.Ord.cmp c.args.self.now.state c.try_recv-reply.new.self.state c.try_recv-reply.result.0 _ tried.step.moves in
     let gave_up = c.give_up_given.ensures.cost in
-    (omega (arith, tried.cost.0, gave_up.0), omega (arith, tried.cost.1, gave_up.1, less))
+    (omega (arith, tried.cost.0, gave_up.0), omega (arith, tried.cost.1, gave_up.1, less), λ known. gave_up.2 (tried.cost.2 known))

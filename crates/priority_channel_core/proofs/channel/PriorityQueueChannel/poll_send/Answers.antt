@@ -26,5 +26,5 @@ returns-clause-cost g c =
     let front = sends_front c.args.self.now.state c.try_send-reply.new.self.state ((c.args.msg, c.args.priority) ∷ [])
     (as_list c.try_send-reply.result.0) c.try_send-reply.result.1 tried.step.moves in
     let costs = poll_costs g.W.Clone.is_clone c.args.self.now c.try_send-reply.new.self c.end_send.new.self c.args.ticket ended.ends.0 c.args.waker.now
-    front.0 c.try_send-reply.result.1 front.1 ended.ends.2 1 (omega (arith, tried.cost.0), omega (arith, tried.cost.1)) ended.cost in
-    (omega (arith, costs.0), costs.1)
+    front.0 c.try_send-reply.result.1 front.1 ended.ends.2 1 (omega (arith, tried.cost.0), omega (arith, tried.cost.1), tried.cost.2) ended.cost in
+    (omega (arith, costs.0), costs.1, costs.2)

@@ -8,7 +8,7 @@ returns-in-Err-clause-cost g c =
     let before = c.loop-received.invariant.cost in
     let nothing = refusal_costs g.P.Ord.cmp g.W.Clone.is_clone c.loop-received.self.state c.try_recv-next.new.self.state c.in-Err.field-0 c.try_recv-next.result.1
     (rw c.in-Err.is at c.try_recv-next.ensures.step) in
-    (omega (arith, cost.0, before.0, nothing), omega (arith, cost.1, before.1))
+    (omega (arith, cost.0, before.0, nothing), omega (arith, cost.1, before.1), λ known. cost.2 (before.2 known))
 
 pub loop-received-preserved : goal.loop-received-preserved
 loop-received-preserved g c =
@@ -24,5 +24,5 @@ loop-received-preserved g c =
           c.push_reserved.ensures.items;
       kept = search rules;
       good = search rules;
-      cost = (omega (arith, more, before.0, cost.0), omega (arith, before.1, cost.1));
+      cost = (omega (arith, more, before.0, cost.0), omega (arith, before.1, cost.1), λ known. cost.2 (before.2 known));
     }

@@ -1,6 +1,6 @@
 use Rattle.std.proofs.Common.{◌-◌, ◌*◌, ◌<◌, [], ◌∷◌, length, refl, sym, ap, rules, arith}
 use Rattle.std.proofs.lemmas.List.{append-nil}
-use Rattle.priority_channel_parts.specs.Digits.{digits}
+use Rattle.priority_channel_bag.specs.Digits.{digits}
 use Rattle.priority_channel_core.proofs.Many.{received_first, first_length, refusal_costs, receives_cost, min_next}
 use Rattle.priority_channel_core.proofs.channel.PriorityQueueChannel.try_recv_many.Goals as goal
 use Rattle.priority_channel_core.proofs.channel.PriorityQueueChannel.try_recv_many.Goals.{else-limit-eq0-via-then-limit-eq0+else-not-is_empty, else-limit-eq0-via-else-limit-eq0}
@@ -13,7 +13,7 @@ returns-in-Err-clause-cost g c =
     let cost = c.try_recv-first.ensures.cost in
     let nothing = refusal_costs g.P.Ord.cmp g.W.Clone.is_clone c.args.self.now.state c.try_recv-first.new.self.state c.in-Err.error c.try_recv-first.result.1
     (rw c.in-Err.is at c.try_recv-first.ensures.step) in
-    (omega (arith, cost.0, nothing), omega (arith, cost.1))
+    (omega (arith, cost.0, nothing), omega (arith, cost.1), cost.2)
 
 pub returns-in-Ok-clause-received : goal.returns-in-Ok-clause-received
 returns-in-Ok-clause-received g c =
@@ -45,4 +45,4 @@ returns-in-Ok-clause-cost g c =
     let count = ap (λ n. n * (2 * digits all)) (returns-in-Ok-clause-count g c) in
     let one = c.try_recv-first.ensures.cost in
     let more = c.receive_more-more.ensures.cost in
-    (omega (arith, total, count, one.0, more.0), omega (arith, one.1, more.1))
+    (omega (arith, total, count, one.0, more.0), omega (arith, one.1, more.1), λ known. more.2 (one.2 known))

@@ -1,6 +1,6 @@
 use Rattle.std.proofs.Common.{[], ◌∷◌, length, length-append, ap, arith, rules}
-use Rattle.priority_channel_parts.specs.Bag.{Contents}
-use Rattle.priority_channel_parts.proofs.Digits.{push_costs}
+use Rattle.priority_channel_bag.specs.Bag.{Contents}
+use Rattle.priority_channel_bag.proofs.Digits.{push_costs}
 use Rattle.priority_channel_core.proofs.Fronts.{moved_more}
 use Rattle.priority_channel_core.proofs.channel.bulk.send_front.Goals as goal
 
@@ -18,6 +18,7 @@ loop-sent-preserved g c =
       accepted = search rules;
       numbered = search rules;
       slots = search rules;
+      least = search rules;
       limit = λ h. omega (arith, longer, one, ready.0, ready.2);
       cost = omega (arith, push_costs c.loop-sent.sent (length c.loop-sent.bag.pending) (length c.push.new.self.pending) (omega (arith, same, longer, one)), c.push.ensures.cost, c.loop-sent.invariant.cost, ap (λ (b : Contents g.row.T.Denot g.row.P.Denot). b.comparisons) c.prepare.ensures.same);
     }

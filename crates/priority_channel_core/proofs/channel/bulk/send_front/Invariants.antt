@@ -1,6 +1,6 @@
 use Rattle.std.proofs.Common.{◌≡◌, ◌+◌, ◌*◌, ◌<◌, ◌≤◌, ◌^◌, length}
 use Rattle.std.specs.Iterator.Adapters.{peekable_can}
-use Rattle.priority_channel_parts.specs.Digits.{digits}
+use Rattle.priority_channel_bag.specs.Digits.{digits}
 use Rattle.priority_channel_core.specs.code.Front.{MovesFront}
 use Rattle.priority_channel_core.proofs.channel.bulk.send_front.Given as goal
 
@@ -11,6 +11,7 @@ invariant-loop-sent g l = record {
   accepted : l.bag.accepted ≡ l.fn.bag.accepted + l.sent;
   numbered : l.fn.bag.accepted < 2 ^ 64 → l.bag.accepted < 2 ^ 64;
   slots : l.fn.bag.slots ≤ l.bag.slots;
+  least : l.bag.knows_least ≡ l.fn.bag.knows_least;
   limit : length l.fn.bag.pending < 2 ^ 63 → length l.bag.pending < 2 ^ 63;
   cost : l.bag.comparisons ≤ l.fn.bag.comparisons + l.sent * digits (length l.bag.pending);
 }

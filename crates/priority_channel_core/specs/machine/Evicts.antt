@@ -1,0 +1,34 @@
+-- A send that makes room in a full channel: a removal and a send, between which nobody looks.
+use Rattle.std.specs.Prelude.{◌≡◌, ◌-◌, ◌^◌, ◌⊎◌, false, [], ◌∷◌, Option, Some, None, Result, Ok, Err}
+use Rattle.std.specs.declared.cmp.Ordering.{Ordering}
+use Rattle.std.specs.declared.cmp.Ordering.TheVariants.{Less}
+use Rattle.priority_channel_bag.specs.Least.{TakesLeast, NoneBelow}
+use Rattle.priority_channel_parts.specs.declared.errors.TrySendError.{TrySendError}
+use Rattle.priority_channel_parts.specs.declared.errors.TrySendError.TheVariants.{Full, Closed, Memory}
+use Rattle.priority_channel_core.specs.machine.State.{State, Handed, room}
+use Rattle.priority_channel_core.specs.machine.Sends.{Refuses, Sends}
+
+module _ {T P W : Type 0} (cmp : P → P → Ordering) where
+  -- of a full channel the last of the least pairs is taken out, which is less urgent than the new
+  -- one
+  pub record MakesRoom (old : State T P W) (pair out : T × P) (new : State T P W) : Type 0 where
+    pub full : room old ≡ 0
+    pub less : cmp out.1 pair.1 ≡ Less
+    pub least : TakesLeast cmp old.pending out new.pending
+    pub same : new ≡ record old { pending = new.pending }
+
+  abbrev pub Evicts : State T P W → T × P → Result (Option (T × P)) (TrySendError (T × P))
+      → Handed W → State T P W → Type 0
+  Evicts old pair (Ok None) handed new = Sends old (pair ∷ []) (Ok tt) handed new
+  Evicts old pair (Ok (Some out)) handed new =
+      (mid : State T P W) × MakesRoom old pair out mid × Sends mid (pair ∷ []) (Ok tt) handed new
+  Evicts old pair (Err (Closed held)) handed new =
+      Sends old (pair ∷ []) (Err (Closed (held ∷ []))) handed new
+  -- where no pending pair is less urgent
+  Evicts old pair (Err (Full held)) handed new =
+      NoneBelow cmp old.pending pair.1 × Sends old (pair ∷ []) (Err (Full (held ∷ []))) handed new
+  -- as of a send, or where the last number of a pair was used
+  Evicts old pair (Err (Memory held)) handed new =
+      Sends old (pair ∷ []) (Err (Memory (held ∷ []))) handed new
+      ⊎ ((old.is_closed ≡ false) × (room old ≡ 0) × (old.accepted ≡ 2 ^ 64 - 1) × (held ≡ pair)
+      × Refuses old handed new)

@@ -1,0 +1,85 @@
+//! A send that makes room in a full channel.
+ghost use Rattle.std.specs.Prelude.{◌≡◌, ◌+◌, ◌*◌, ◌<◌, ◌^◌, true, false, length, IfOk, IfErr, IfSome, OnOk, OnErr, IsOk, Ok, Err, Some, None};
+ghost use Rattle.std.specs.declared.cmp.Ordering.TheVariants.{Less};
+ghost use Rattle.priority_channel_bag.specs.Digits.{digits};
+
+use crate::awaitable_atomics::Wakes;
+use crate::calls::{Answer, Call};
+use crate::channel::PriorityQueueChannel;
+use crate::errors::TrySendError;
+use std::alloc::Allocator;
+
+impl<T, P: Ord, W: Clone, A: Allocator + Copy> PriorityQueueChannel<T, P, W, A> {
+    ghost use Rattle.priority_channel_core.specs.machine.State.{nobody};
+    ghost use Rattle.priority_channel_core.specs.machine.Step.{Step};
+    ghost use Rattle.priority_channel_bag.specs.Least.{NoneBelow};
+    ghost use Rattle.priority_channel_parts.specs.Errors.{rest_of};
+    ghost use Rattle.priority_channel_core.specs.code.Channel.{ComparesAtMost, search_for_least};
+
+    /// Sends a pair, and into a full channel in place of the least urgent one that is pending, the
+    /// last accepted among those of the least priority, if the new pair is more urgent. What is
+    /// displaced comes back. Where nothing that is pending is less urgent the new pair comes back,
+    /// as `Full`.
+    ///
+    /// Into a full channel it takes no memory, and passes those who wait for room. `Memory` comes
+    /// as of `try_send`, and where the last number of a pair was used.
+    ///
+    /// The first such call into a full channel makes the least urgent pair known; from then on each
+    /// send keeps it so, which costs a send of a pair that is less urgent than all others what it
+    /// costs a pair that is more urgent.
+    pub fn try_send_evicting(
+        &mut self,
+        msg: T,
+        priority: P,
+    ) -> (Result<Option<(T, P)>, TrySendError<(T, P)>>, Wakes<W, A>)
+        ensures step { Step P.cmp W.is_clone self.old.state (Call.TrySendEvicting msg priority)
+            (Answer.TrySendEvicting result.0) result.1 self.new.state }
+        ensures closed { self.old.state.is_closed ≡ true
+            → result.0 ≡ Err (TrySendError.Closed (msg, priority)) }
+        ensures full { self.old.state.is_closed ≡ false
+            → length self.old.state.pending ≡ self.old.state.capacity
+            → self.old.state.accepted + 1 < 2 ^ 64
+            → NoneBelow P.cmp self.old.state.pending priority
+            → result.0 ≡ Err (TrySendError.Full (msg, priority)) }
+        ensures displaces { self.old.state.is_closed ≡ false
+            → length self.old.state.pending ≡ self.old.state.capacity
+            → self.old.state.accepted + 1 < 2 ^ 64
+            → (NoneBelow P.cmp self.old.state.pending priority → ⊥)
+            → (out : T × P) × (result.0 ≡ Ok (Some out)) }
+        ensures room { self.old.state.is_closed ≡ false
+            → length self.old.state.pending < self.old.state.capacity
+            → OnOk result.0 (result.0 ≡ Ok None) }
+        ensures reserved { self.old.state.is_closed ≡ false
+            → length self.old.state.pending < self.old.state.capacity
+            → self.old.state.is_reserved ≡ true → self.old.state.accepted + 1 < 2 ^ 64
+            → IsOk result.0 }
+        ensures displaced { IfOk result.0 (λ displaced. IfSome displaced (λ out.
+            (P.cmp out.1 priority ≡ Less) × (result.1 ≡ nobody)
+            × (self.new.state.waiters ≡ self.old.state.waiters)
+            × (length self.new.state.pending ≡ length self.old.state.pending))) }
+        ensures handed_back { IfErr result.0 (λ error. rest_of error ≡ (msg, priority)) }
+        ensures unchanged { OnErr result.0 (self.new.state ≡ self.old.state) }
+        ensures cost { ComparesAtMost
+            (search_for_least self.old + 2 * digits (length self.new.state.pending) + 1) 0 self.old
+            self.new }
+        ensures known { length self.old.state.pending ≡ self.old.state.capacity
+            → OnOk result.0 (self.new.knows_least ≡ true) }
+    {
+        let (is_closed, count) = self.word.load();
+        if is_closed || count < self.capacity {
+            let (sent, wakes) = self.try_send(msg, priority);
+            return (sent.map(|()| None), wakes);
+        }
+        if !self.bag.can_push() {
+            return (
+                Err(TrySendError::Memory((msg, priority))),
+                Wakes::nobody(self.alloc),
+            );
+        }
+        let reply = match self.bag.displace(msg, priority) {
+            Ok(out) => Ok(Some(out)),
+            Err(pair) => Err(TrySendError::Full(pair)),
+        };
+        (reply, Wakes::nobody(self.alloc))
+    }
+}
