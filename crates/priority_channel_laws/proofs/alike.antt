@@ -1,4 +1,5 @@
 pub mod Calls
+pub mod Evicting
 pub mod Lists
 pub mod Polls
 pub mod Steps

@@ -1,5 +1,5 @@
 -- What calls accepted and received, read from the calls and their answers alone.
-use Rattle.std.specs.Prelude.{◌≡◌, ◌-◌, false, List, [], ◌∷◌, length, take, Result, Ok, Err}
+use Rattle.std.specs.Prelude.{◌≡◌, ◌-◌, false, List, [], ◌∷◌, length, take, Some, Result, Ok, Err}
 use Rattle.std.specs.List.{AllPairs, flat_map}
 use Rattle.std.specs.Ordering.{is_gt}
 use Rattle.std.specs.declared.cmp.Ordering.{Ordering}
@@ -38,6 +38,8 @@ abbrev pub accepted_by : {T P W : Type 0} → Calls T P W → Answers T P → Li
 accepted_by (call.TrySend msg priority) (answer.TrySend reply) =
     sent ((msg, priority) ∷ []) (as_list reply)
 accepted_by (call.TrySendv pairs) (answer.TrySendv reply) = sent pairs reply
+accepted_by (call.TrySendEvicting msg priority) (answer.TrySendEvicting (Ok displaced)) =
+    (msg, priority) ∷ []
 accepted_by (call.PollSend msg priority given waker) (answer.PollSend (Ready (Ok done))) =
     (msg, priority) ∷ []
 accepted_by (call.PollSendv pairs given waker) (answer.PollSendv reply) = poll_sent pairs reply
@@ -48,12 +50,28 @@ received_by (answer.TryRecv (Ok pair)) = pair ∷ []
 received_by (answer.PollRecv (Ready (Ok pair))) = pair ∷ []
 received_by _ = []
 
--- all pairs that a run accepted, and all that it received, in order
+-- the pair that made room for a more urgent one, and the one that a test took out: neither is
+-- received
+abbrev pub displaced_by : {T P : Type 0} → Answers T P → List (T × P)
+displaced_by (answer.TrySendEvicting (Ok (Some pair))) = pair ∷ []
+displaced_by _ = []
+
+abbrev pub taken_by : {T P : Type 0} → Answers T P → List (T × P)
+taken_by (answer.TakeWhere (Some pair)) = pair ∷ []
+taken_by _ = []
+
+-- all pairs that a run accepted, and all that went each way, in order
 abbrev pub accepted_in : {T P W : Type 0} → List (Operation T P W) → List (T × P)
 accepted_in run = flat_map (λ made. accepted_by made.call made.answer) run
 
 abbrev pub received_in : {T P W : Type 0} → List (Operation T P W) → List (T × P)
 received_in run = flat_map (λ made. received_by made.answer) run
+
+abbrev pub displaced_in : {T P W : Type 0} → List (Operation T P W) → List (T × P)
+displaced_in run = flat_map (λ made. displaced_by made.answer) run
+
+abbrev pub taken_in : {T P W : Type 0} → List (Operation T P W) → List (T × P)
+taken_in run = flat_map (λ made. taken_by made.answer) run
 
 -- no pair has a greater priority than one before it
 abbrev pub NeverRise : {T P : Type 0} → (P → P → Ordering) → List (T × P) → Type 0

@@ -16,6 +16,7 @@ use Rattle.priority_channel_laws.specs.Accepted.{accepted_by}
 abbrev pub is_memory : {T P : Type 0} → Answers T P → Bool
 is_memory (answer.TrySend (Err (send_error.Memory pair))) = true
 is_memory (answer.TrySendv (Err (send_error.Memory rest))) = true
+is_memory (answer.TrySendEvicting (Err (send_error.Memory pair))) = true
 is_memory (answer.PollSend (Ready (Err (send_fault.Memory pair)))) = true
 is_memory (answer.PollSendv (Ready (Err (send_fault.Memory rest)))) = true
 is_memory (answer.PollRecv (Ready (Err recv_fault.Memory))) = true

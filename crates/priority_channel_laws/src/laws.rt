@@ -8,16 +8,18 @@ ghost use Rattle.priority_channel_core.specs.declared.calls.Answer.TheVariants a
 ghost use Rattle.priority_channel_parts.specs.declared.errors.TryRecvError.TheVariants as recv_error;
 ghost use Rattle.priority_channel_core.specs.machine.State.{State, Handed};
 ghost use Rattle.priority_channel_core.specs.machine.Run.{Run, Operation};
-ghost use Rattle.priority_channel_laws.specs.Accepted.{accepted_in, received_in, NeverRise};
+ghost use Rattle.priority_channel_laws.specs.Accepted.{accepted_in, received_in, displaced_in, taken_in, NeverRise};
 ghost use Rattle.priority_channel_laws.specs.World.{World, Event, Happens, IsOpening, Leads};
 ghost use Rattle.priority_channel_laws.specs.WaitingLaw.{NobodyIsForgotten, GivenOnce, CalledBy};
 
-/// No pair is lost, made up or received twice, and a closed channel stays closed and accepts
-/// nothing.
+/// No pair is lost, made up or given twice: each that was pending or accepted is received,
+/// displaced by a more urgent one, taken out by a test, or still pending. A closed channel stays
+/// closed and accepts nothing.
 pub fn conservation_law<T, P: Ord, W: Clone>()
     ensures conserved { (old new : State T P W) (run : List (Operation T P W))
         → Run P.cmp W.is_clone old run new
-        → IsPermutation (old.pending ++ accepted_in run) (received_in run ++ new.pending) }
+        → IsPermutation (old.pending ++ accepted_in run)
+        (received_in run ++ displaced_in run ++ taken_in run ++ new.pending) }
     ensures closed { (old new : State T P W) (run : List (Operation T P W))
         → Run P.cmp W.is_clone old run new
         → old.is_closed ≡ true → (new.is_closed ≡ true) × (accepted_in run ≡ []) }

@@ -3,7 +3,7 @@
 ghost use Rattle.std.specs.Prelude.{◌≡◌, ◌↔◌, ◌*◌, List, [], length, false, IsTrue, IfSome, MatchOption, Some, None, is_some};
 ghost use Rattle.std.specs.Option.{ForSome};
 ghost use Rattle.std.specs.Iterator.Adapters.{peekable_can};
-ghost use Rattle.priority_channel_parts.specs.Digits.{digits};
+ghost use Rattle.priority_channel_bag.specs.Digits.{digits};
 ghost use Rattle.priority_channel_core.specs.machine.State.{nobody, room};
 ghost use Rattle.priority_channel_core.specs.machine.Good.{IsGood};
 ghost use Rattle.priority_channel_core.specs.code.Lists.{HasList};

@@ -5,7 +5,7 @@ use Rattle.std.specs.declared.cmp.Ordering.{Ordering}
 use Rattle.priority_channel_core.specs.declared.calls.Answer.TheVariants as answer
 use Rattle.priority_channel_parts.specs.declared.errors.TrySendError.TheVariants as send_error
 use Rattle.priority_channel_parts.specs.declared.errors.TryRecvError.TheVariants as recv_error
-use Rattle.priority_channel_parts.specs.Greatest.{TakesGreatest}
+use Rattle.priority_channel_bag.specs.Greatest.{TakesGreatest}
 use Rattle.priority_channel_core.specs.machine.State.{Handed, opening}
 use Rattle.priority_channel_core.specs.machine.Sends.{AddsFront}
 use Rattle.priority_channel_core.specs.machine.Step.{Moves, Step, Answers}
@@ -63,7 +63,7 @@ module _ {T P : Type 0} (cmp : P → P → Ordering)
   same_state old new other handed others TryRecv (answer.TryRecv (Ok pair)) m n =
       let same = one_greatest old.pending pair pair new.pending other.pending m.0 n.0 in
       let after : List (T × P) → Machine T P = λ rest. record old { pending = rest; waiters = record old.waiters { room = [] } } in
-      m.2 ∙ ap after same.1 ∙ sym n.2
+      m.1.1 ∙ ap after same.1 ∙ sym n.1.1
   same_state old new other handed others TryRecv (answer.TryRecv (Err recv_error.Closed)) m n = m.2.1 ∙ sym n.2.1
   same_state old new other handed others TryRecv (answer.TryRecv (Err recv_error.Empty)) m n = m.2.1 ∙ sym n.2.1
   same_state old new other handed others Close (answer.Close true) m n = m.1.1 ∙ sym n.1.1

@@ -22,7 +22,7 @@ module _ {T P : Type 0} (cmp : P → P → Ordering) where
   same_capacity old new handed (TrySend msg priority) (answer.TrySend (Err (send_error.Closed pair))) m = cc
   same_capacity old new handed (TrySend msg priority) (answer.TrySend (Err (send_error.Full pair))) m = cc
   same_capacity old new handed (TrySend msg priority) (answer.TrySend (Err (send_error.Memory pair))) m = cc
-  same_capacity old new handed TryRecv (answer.TryRecv (Ok pair)) m = let n = m.2 in cc
+  same_capacity old new handed TryRecv (answer.TryRecv (Ok pair)) m = let n = m.1.1 in cc
   same_capacity old new handed TryRecv (answer.TryRecv (Err recv_error.Closed)) m = cc
   same_capacity old new handed TryRecv (answer.TryRecv (Err recv_error.Empty)) m = cc
   same_capacity old new handed Close (answer.Close true) m = cc

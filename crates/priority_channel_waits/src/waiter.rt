@@ -1,5 +1,5 @@
 //! What the channel keeps of a task or a thread that waits.
-ghost use Rattle.std.specs.Prelude.{IsSome};
+ghost use Rattle.std.specs.Prelude.{◌≡◌, IsSome, IsSomeAnd, IfSome};
 ghost use Rattle.futures.specs.Task.{Hears, IsArmed, Keeps};
 
 use futures::task::{Context, Poll, Source, Waker};
@@ -64,7 +64,9 @@ impl<A: Allocator + Copy> Waiter<A> {
 
     /// The waiter of a party, which is made where the party waits for the first time. None where
     /// memory was refused.
-    pub fn of_party(alloc: A, party: &mut Option<Self>) -> Option<&Self> {
+    pub fn of_party(alloc: A, party: &mut Option<Self>) -> Option<&Self>
+        ensures own { IfSome party.old (λ own. IsSomeAnd result (λ waiter. waiter.now ≡ own)) }
+    {
         if party.is_none() {
             *party = Some(Waiter::new(alloc).ok()?);
         }
@@ -79,6 +81,7 @@ impl<A: Allocator + Copy> Waiter<A> {
         source: &Source,
         party: &'w mut Option<Self>,
     ) -> Option<&'w Self>
+        ensures own { IfSome party.old (λ own. IfSome result (λ waiter. waiter.now ≡ own)) }
         ensures heard { IsSome result → IsArmed cx.new × Hears cx.new source.now.id }
         ensures kept { Keeps cx.old cx.new }
     {

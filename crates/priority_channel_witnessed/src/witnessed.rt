@@ -27,9 +27,10 @@ mod waits;
 
 /// A channel that many threads call, each with its pass.
 ///
-/// Each call is one step, in one hold of the channel's lock, and hands out whom it lets go on, to be
-/// woken once the lock is free. A pass learns the history up to its own call, so what its holder has
-/// seen begins what it sees later, what it sees when it meets another, and what is told at the end.
+/// Each call is one step, in one hold of the channel's lock, and hands out whom it lets go on, to
+/// be woken once the lock is free. A pass learns the history up to its own call, so what its holder
+/// has seen begins what it sees later, what it sees when it meets another, and what is told at the
+/// end.
 /// A call asks for no memory but what the core's call asks for, and to wait for its waiter. At 2^64
 /// calls it waits for ever.
 ///
@@ -40,7 +41,11 @@ mod waits;
 /// ghost use Rattle.std.specs.Prelude.{◌≡◌, false};
 /// ghost use Rattle.priority_channel_witnessed.specs.Log.{names};
 ///
-/// fn served<J: Recording, R: Wait>(rt: &R, alloc: Global, fresh: Fresh<u64, u8, ()>) -> Result<u64, AllocError>
+/// fn served<J: Recording, R: Wait>(
+///     rt: &R,
+///     alloc: Global,
+///     fresh: Fresh<u64, u8, ()>,
+/// ) -> Result<u64, AllocError>
 ///     requires names { fresh ≡ names J.log J.capacity J.is_reserved J.name J.parts }
 ///     requires capacity { fresh.capacity ≡ 4 }
 ///     requires reserved { fresh.is_reserved ≡ false }

@@ -1,7 +1,7 @@
 //! The end of a channel, with its balance.
 ghost use Rattle.std.specs.Prelude.{◌≡◌, ◌++◌, map, vec_len};
 ghost use Rattle.std.specs.List.Sorted.{IsPermutation};
-ghost use Rattle.priority_channel_laws.specs.Accepted.{accepted_in, received_in};
+ghost use Rattle.priority_channel_laws.specs.Accepted.{accepted_in, received_in, displaced_in, taken_in};
 ghost use Rattle.priority_channel_witnessed.specs.History.{operation_of};
 
 use priority_channel_core::channel::PriorityQueueChannel;
@@ -9,8 +9,8 @@ use priority_channel_witnessed::{Pass, Recording, Seen, Witnessed};
 use std::alloc::Allocator;
 use std::sync::Wait;
 
-/// Ends a channel. All pairs that its callers sent, on however many threads, were received or are
-/// left, each once.
+/// Ends a channel. All pairs that its callers sent, on however many threads, were received,
+/// displaced by a more urgent one, taken out by a test, or are left, each once.
 pub fn settle<T, P: Ord, W: Clone, J: Recording, A: Allocator + Copy, R: Wait>(
     rt: &R,
     channel: Witnessed<T, P, W, J, A>,
@@ -18,7 +18,8 @@ pub fn settle<T, P: Ord, W: Clone, J: Recording, A: Allocator + Copy, R: Wait>(
 ) -> (PriorityQueueChannel<T, P, W, A>, Seen<T, P, W, J>)
     requires all { vec_len passes ≡ J.parts }
     ensures balanced { IsPermutation (accepted_in (map operation_of result.1))
-        (received_in (map operation_of result.1) ++ result.0.state.pending) }
+        (received_in (map operation_of result.1) ++ displaced_in (map operation_of result.1)
+        ++ taken_in (map operation_of result.1) ++ result.0.state.pending) }
 {
     channel.end(rt, passes)
 }

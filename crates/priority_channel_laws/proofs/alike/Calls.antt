@@ -1,6 +1,6 @@
 -- Two calls from states that are the same, of which none waits, with as many pairs accepted.
-use Rattle.std.proofs.Common.{◌≡◌, ℕ, Bool, true, false, List, [], ◌∷◌, ◌++◌, ◌+◌, length, refl, sym, ap, ◌∙◌, inl, inr, zero, suc, arith, length-append}
-use Rattle.std.specs.Prelude.{Result, Ok, Err, ◌==◌, if◌then◌else◌}
+use Rattle.std.proofs.Common.{◌≡◌, ℕ, Bool, true, false, List, [], ◌∷◌, ◌++◌, ◌+◌, ◌<◌, length, refl, sym, ap, ◌∙◌, inl, inr, zero, suc, arith, length-append}
+use Rattle.std.specs.Prelude.{Option, Some, None, Result, Ok, Err, ◌==◌, if◌then◌else◌}
 use Rattle.std.specs.Cmp.{IsTotalOrder}
 use Rattle.std.specs.declared.cmp.Ordering.{Ordering}
 use Rattle.priority_channel_parts.specs.declared.errors.TrySendError.{TrySendError}
@@ -9,11 +9,11 @@ use Rattle.priority_channel_parts.specs.declared.errors.TryRecvError.{TryRecvErr
 use Rattle.priority_channel_parts.specs.declared.errors.TryRecvError.TheVariants as recv_error
 use Rattle.priority_channel_core.specs.machine.State.{State, Handed, nobody, room}
 use Rattle.priority_channel_core.specs.machine.Sends.{Refuses, Accepts, Sends}
-use Rattle.priority_channel_core.specs.machine.OtherCalls.{Receives, Shuts, Closes, Looks, Clones, Drops}
+use Rattle.priority_channel_core.specs.machine.OtherCalls.{Frees, Receives, Takes, Shuts, Closes, Looks, Clones, Drops}
 use Rattle.priority_channel_laws.specs.Accepted.{all_but, sent}
 use Rattle.priority_channel_laws.specs.Alike.{SameHanded, SameState}
 use Rattle.priority_channel_laws.proofs.runs.Effects.{all_but-front}
-use Rattle.priority_channel_parts.proofs.Greatest.{one_greatest}
+use Rattle.priority_channel_bag.proofs.Extremes.{one_greatest}
 use Rattle.priority_channel_laws.proofs.alike.Lists.{SameList, same_after, handed_same, nobody_same, same_pending, same_closed, same_capacity}
 
 -- two splits of one list, after as many items
@@ -35,10 +35,10 @@ module _ {T P W : Type 0} (is_clone : W → W → Type 0) where
     pub state : SameState is_clone k k'
 
   module _ (s r k k' : State T P W) (h h' : Handed W) (same : SameState is_clone s r) where
-    rooms : room r ≡ room s
+    pub rooms : room r ≡ room s
     rooms = rw (same_pending is_clone same, same_capacity is_clone same) refl
 
-    refuses_same : Refuses s h k → Refuses r h' k' → Both h h' k k'
+    pub refuses_same : Refuses s h k → Refuses r h' k' → Both h h' k k'
     refuses_same a b = record { handed = nobody_same is_clone h h' a.0 b.0; state = same_after is_clone k k' s r a.1 b.1 same }
 
     accepts_same : (front : List (T × P)) → Accepts s front h k → Accepts r front h' k' → Both h h' k k'
@@ -138,24 +138,45 @@ module _ {T P W : Type 0} (is_clone : W → W → Type 0) where
     drops_same (suc zero) s' r' e a b = shuts_same s' r' e a b
     drops_same (suc (suc n)) s' r' e a b = record { handed = nobody_same is_clone h h' a.0 b.0; state = same_after is_clone k k' s' r' a.1 b.1 e }
 
+    -- the same pairs are left, where those who waited for room are handed out
+    frees_same : k.pending ≡ k'.pending → Frees s h k → Frees r h' k' → Both h h' k k'
+    frees_same left a b = record {
+      handed = handed_same is_clone h h' _ _ a.0 b.0 (record { room = same.waiters.room; message = tt });
+      state = same_after is_clone k k' (record s { pending = k.pending; waiters = record s.waiters { room = [] } })
+          (record r { pending = k'.pending; waiters = record r.waiters { room = [] } }) a.1 b.1 (record {
+            waiters = record { room = tt; message = same.waiters.message; next_ticket = same.waiters.next_ticket };
+            others = ap (λ (x : State T P W). record x { pending = k'.pending; waiters = record r.waiters { room = [] } }) same.others
+                ∙ ap (λ (l : List (T × P)). record s { pending = l; waiters = record r.waiters { room = [] } }) (sym left);
+          });
+    }
+
+    place_long : (pending before after : List (T × P)) (pair : T × P) → pending ≡ before ++ pair ∷ after → length before < length pending
+    place_long pending before after pair e = omega (arith, ap length e, length-append before (pair ∷ after))
+
+    pub takes_same : (place : ℕ) (x y : Option (T × P)) → Takes s place x h k → Takes r place y h' k' → (y ≡ x) × Both h h' k k'
+    takes_same place (Some p) (Some q) a b =
+        let t = a.0 in let u = b.0 in
+        let one = split_same t.before (p ∷ t.after) u.before (q ∷ u.after) (sym t.split ∙ sym (same_pending is_clone same) ∙ u.split) (b.1 ∙ sym a.1) in
+        let left : k.pending ≡ k'.pending = t.closed_up ∙ (λ i. sym one.0 i ++ tail_same p q t.after u.after one.1 i) ∙ sym u.closed_up in
+        (head_same p q t.after u.after one.1, frees_same left a.2 b.2)
+      where
+        head_same : (p q : T × P) (xs ys : List (T × P)) → q ∷ ys ≡ p ∷ xs → Some q ≡ Some p
+        head_same p q xs ys e = cc
+
+        tail_same : (p q : T × P) (xs ys : List (T × P)) → q ∷ ys ≡ p ∷ xs → xs ≡ ys
+        tail_same p q xs ys e = cc
+    takes_same place (Some p) None a b = let l = place_long s.pending a.0.before a.0.after p a.0.split in let e = ap length (same_pending is_clone same) in absurd (omega (arith, l, e, a.1, b.0))
+    takes_same place None (Some q) a b = let l = place_long r.pending b.0.before b.0.after q b.0.split in let e = ap length (same_pending is_clone same) in absurd (omega (arith, l, e, b.1, a.0))
+    takes_same place None None a b = (refl, refuses_same a.1 b.1)
+
     module _ {cmp : P → P → Ordering} (o : IsTotalOrder cmp) where
       nothing_taken : (pending before after : List (T × P)) (pair : T × P) → pending ≡ before ++ pair ∷ after → pending ≡ [] → ⊥
       nothing_taken pending before after pair e f = let l = ap length e in let m = ap length f in let n = length-append before (pair ∷ after) in omega arith
 
       pub receives_same : (x y : Result (T × P) TryRecvError) → Receives cmp s x h k → Receives cmp r y h' k' → (y ≡ x) × Both h h' k k'
       receives_same (Ok p) (Ok q) a b =
-          let one = one_greatest o s.pending p q k.pending k'.pending a.0 (rw (same_pending is_clone same) at b.0) in (
-            ap (λ (z : T × P). Ok z) (sym one.0),
-            record {
-              handed = handed_same is_clone h h' _ _ a.1 b.1 (record { room = same.waiters.room; message = tt });
-              state = same_after is_clone k k' (record s { pending = k.pending; waiters = record s.waiters { room = [] } })
-                  (record r { pending = k'.pending; waiters = record r.waiters { room = [] } }) a.2 b.2 (record {
-                    waiters = record { room = tt; message = same.waiters.message; next_ticket = same.waiters.next_ticket };
-                    others = ap (λ (x : State T P W). record x { pending = k'.pending; waiters = record r.waiters { room = [] } }) same.others
-                        ∙ ap (λ (l : List (T × P)). record s { pending = l; waiters = record r.waiters { room = [] } }) (sym one.1);
-                  });
-            },
-          )
+          let one = one_greatest o s.pending p q k.pending k'.pending a.0 (rw (same_pending is_clone same) at b.0) in
+          (ap (λ (z : T × P). Ok z) (sym one.0), frees_same one.1 a.1 b.1)
       receives_same (Ok p) (Err recv_error.Closed) a b = absurd (nothing_taken _ _ _ p a.0.split (sym (same_pending is_clone same) ∙ b.0))
       receives_same (Ok p) (Err recv_error.Empty) a b = absurd (nothing_taken _ _ _ p a.0.split (sym (same_pending is_clone same) ∙ b.0))
       receives_same (Err recv_error.Closed) (Ok q) a b = absurd (nothing_taken _ _ _ q b.0.split (same_pending is_clone same ∙ a.0))

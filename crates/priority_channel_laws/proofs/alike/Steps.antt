@@ -15,7 +15,8 @@ use Rattle.priority_channel_laws.specs.Alike.{is_memory, SameState, SameOutcome,
 use Rattle.priority_channel_core.specs.machine.Step.{Moves, Calls, Answers}
 use Rattle.priority_channel_core.specs.machine.Run.{Operation, Run}
 use Rattle.priority_channel_laws.proofs.alike.Lists.{same_after, same_unlisted, nobody_same, same_pending, same_closed, same_capacity, same_senders, same_receivers}
-use Rattle.priority_channel_laws.proofs.alike.Calls.{Both, sends_same, receives_same, closes_same, looks_same, clones_same, drops_same}
+use Rattle.priority_channel_laws.proofs.alike.Calls.{Both, sends_same, takes_same, receives_same, closes_same, looks_same, clones_same, drops_same}
+use Rattle.priority_channel_laws.proofs.alike.Evicting.{evicts_same}
 use Rattle.priority_channel_laws.proofs.alike.Polls.{is_memory-poll_send, is_memory-poll_sendv, as_list_one, polls_send_same, polls_sendv_same, polls_receive_same}
 
 module _ {T P W : Type 0} (is_clone : W → W → Type 0) {cmp : P → P → Ordering} (o : IsTotalOrder cmp) where
@@ -33,6 +34,10 @@ module _ {T P W : Type 0} (is_clone : W → W → Type 0) {cmp : P → P → Ord
         let t = sends_same is_clone s r k k' h h' same ((m, p) ∷ []) (as_list x) (as_list y) a b count in (ap (λ z. answer.TrySend z) (as_list_one x y t.0), t.1)
     step_same (call.TrySendv pairs) (answer.TrySendv x) (answer.TrySendv y) a b count memory =
         let t = sends_same is_clone s r k k' h h' same pairs x y a b count in (ap (λ z. answer.TrySendv z) t.0, t.1)
+    step_same (call.TrySendEvicting m p) (answer.TrySendEvicting x) (answer.TrySendEvicting y) a b count memory =
+        let t = evicts_same is_clone o s r k k' h h' same m p x y a b count memory in (ap (λ z. answer.TrySendEvicting z) t.0, t.1)
+    step_same (call.TakeWhere place) (answer.TakeWhere x) (answer.TakeWhere y) a b count memory =
+        let t = takes_same is_clone s r k k' h h' same place x y a b in (ap (λ z. answer.TakeWhere z) t.0, t.1)
     step_same call.TryRecv (answer.TryRecv x) (answer.TryRecv y) a b count memory =
         let t = receives_same is_clone s r k k' h h' same o x y a b in (ap (λ z. answer.TryRecv z) t.0, t.1)
     step_same call.Close (answer.Close x) (answer.Close y) a b count memory =
@@ -83,7 +88,9 @@ module _ {T P W : Type 0} (is_clone : W → W → Type 0) {cmp : P → P → Ord
         (refl, record { handed = nobody_same is_clone h h' a.0 b.0; state = same_after is_clone k k' _ _ a.1 b.1 (same_unlisted is_clone (Some ticket) s r same) })
     step_same (call.TrySend m p) (answer.TrySend x) y a b count memory = absurd b
     step_same (call.TrySendv pairs) (answer.TrySendv x) y a b count memory = absurd b
+    step_same (call.TrySendEvicting m p) (answer.TrySendEvicting x) y a b count memory = absurd b
     step_same call.TryRecv (answer.TryRecv x) y a b count memory = absurd b
+    step_same (call.TakeWhere place) (answer.TakeWhere x) y a b count memory = absurd b
     step_same call.Close (answer.Close x) y a b count memory = absurd b
     step_same call.IsClosed (answer.IsClosed x) y a b count memory = absurd b
     step_same call.IsEmpty (answer.IsEmpty x) y a b count memory = absurd b

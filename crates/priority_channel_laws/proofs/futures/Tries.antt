@@ -12,7 +12,7 @@ use Rattle.priority_channel_parts.specs.declared.errors.SendFault.TheVariants as
 use Rattle.priority_channel_parts.specs.declared.errors.TryRecvError.TheVariants as recv_error
 use Rattle.priority_channel_parts.specs.declared.errors.TrySendError.{TrySendError}
 use Rattle.priority_channel_parts.specs.declared.errors.TrySendError.TheVariants as send_error
-use Rattle.priority_channel_parts.specs.Digits.{digits}
+use Rattle.priority_channel_bag.specs.Digits.{digits}
 use Rattle.priority_channel_parts.specs.Errors.{rest_of}
 use Rattle.priority_channel_core.specs.declared.calls.Call.TheVariants as call
 use Rattle.priority_channel_core.specs.declared.calls.Answer.TheVariants as answer
@@ -141,7 +141,7 @@ module _ {T P W R : Type 0} (cmp : P → P → Ordering) (is_clone : W → W →
       let less = sent_searches_less old.state mid.state front handed adds in (
         front,
         record { mid = mid.state; adds = adds; answered = answered_unlisted told good gave; waits = waits_same told waits },
-        (omega (arith, tried.0, ended.0, same), omega (arith, tried.1, ended.1, less)),
+        (omega (arith, tried.0, ended.0, same), omega (arith, tried.1, ended.1, less), λ known. ended.2 (tried.2 known)),
       )
 
   pub tried_good : (told : Poll R) → IsGood mid.state → IfReady told (λ _. GivesUpTicket cmp is_clone mid.state given new.state)

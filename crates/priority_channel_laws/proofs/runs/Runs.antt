@@ -4,7 +4,7 @@ use Rattle.std.specs.Prelude.{Result, Ok, Err}
 use Rattle.std.proofs.lemmas.List.{append-nil}
 use Rattle.std.specs.List.{All, AllByRecursion}
 use Rattle.std.specs.List.Sorted.{IsPermutation}
-use Rattle.std.proofs.lemmas.List.Sorted.{IsPermutation-refl, IsPermutation-trans, IsPermutation-append_left, IsPermutation-append_right, IsPermutation-cons, IsPermutation-middle, length_permutation, All-permutation}
+use Rattle.std.proofs.lemmas.List.Sorted.{IsPermutation-refl, IsPermutation-trans, IsPermutation-append_left, IsPermutation-append_right, IsPermutation-append_comm, IsPermutation-cons, IsPermutation-middle, length_permutation, All-permutation}
 use Rattle.std.proofs.lemmas.List.Elements.{All-from_recursion, recursion_from_All}
 use Rattle.std.proofs.lemmas.List.Kept.{AllPairs-cons}
 use Rattle.std.proofs.Permutation.{every_append}
@@ -18,8 +18,8 @@ use Rattle.priority_channel_core.specs.machine.State.{State, Handed}
 use Rattle.priority_channel_core.specs.machine.OtherCalls.{Receives}
 use Rattle.priority_channel_core.specs.machine.Step.{Moves, Step, Answers}
 use Rattle.priority_channel_core.specs.machine.Run.{Operation, Run}
-use Rattle.priority_channel_parts.proofs.Heaps.{every_part}
-use Rattle.priority_channel_laws.specs.Accepted.{accepted_by, received_by, accepted_in, received_in, NeverRise}
+use Rattle.priority_channel_bag.proofs.Kept.{every_part}
+use Rattle.priority_channel_laws.specs.Accepted.{accepted_by, received_by, displaced_by, taken_by, accepted_in, received_in, displaced_in, taken_in, NeverRise}
 use Rattle.priority_channel_laws.proofs.runs.Effects.{Effect, effect}
 
 empty_parts : {A : Type 0} (xs ys : List A) → xs ++ ys ≡ [] → (xs ≡ []) × (ys ≡ [])
@@ -30,9 +30,18 @@ map_none : {A B : Type 0} (f : A → B) (xs : List A) → map f xs ≡ [] → xs
 map_none f [] h = refl
 map_none f (x ∷ xs) h = absurd (cc)
 
+-- the first parts of both, and then the others
+sorted_out : {A : Type 0} (a b c d : List A) → IsPermutation ((a ++ b) ++ (c ++ d)) ((a ++ c) ++ (b ++ d))
+sorted_out a b c d =
+    rw (append_assoc a b (c ++ d), append_assoc a c (b ++ d), ← append_assoc b c d, ← append_assoc c b d)
+    (IsPermutation-append_right a _ _ (IsPermutation-append_left d _ _ (IsPermutation-append_comm b c)))
+
+each_way : {A : Type 0} (a b c x y z : List A) → IsPermutation ((a ++ b ++ c) ++ (x ++ y ++ z)) ((a ++ x) ++ (b ++ y) ++ (c ++ z))
+each_way a b c x y z = IsPermutation-trans _ _ _ (sorted_out (a ++ b) c (x ++ y) z) (IsPermutation-append_left (c ++ z) _ _ (sorted_out a b x y))
+
 module _ {T P W : Type 0} (cmp : P → P → Ordering) (is_clone : W → W → Type 0) where
   step_effect : (old new : State T P W) (made : Operation T P W) → Step cmp is_clone old made.call made.answer made.handed new
-      → Effect cmp old (accepted_by made.call made.answer) (received_by made.answer) new
+      → Effect cmp old (accepted_by made.call made.answer) (received_by made.answer) (displaced_by made.answer) (taken_by made.answer) new
   step_effect old new made step = effect cmp is_clone old new made.handed made.call made.answer step.moves
 
   -- a run of two parts
@@ -43,16 +52,22 @@ module _ {T P W : Type 0} (cmp : P → P → Ordering) (is_clone : W → W → T
       let r = Run-split run.0 new front back run.2 in (r.0, (run.0, run.1, r.1), r.2)
 
   pub run_conserves : (old new : State T P W) (run : List (Operation T P W)) → Run cmp is_clone old run new
-      → IsPermutation (old.pending ++ accepted_in run) (received_in run ++ new.pending)
+      → IsPermutation (old.pending ++ accepted_in run) (received_in run ++ displaced_in run ++ taken_in run ++ new.pending)
   run_conserves old new [] run = rw (append-nil old.pending, run) (IsPermutation-refl old.pending)
   run_conserves old new (made ∷ more) run =
       let mid = run.0 in
       let e = step_effect old mid made run.1 in
       let a = accepted_by made.call made.answer in
       let r = received_by made.answer in
-      rw (← append_assoc old.pending a (accepted_in more), append_assoc r (received_in more) new.pending)
+      let d = displaced_by made.answer in
+      let t = taken_by made.answer in
+      let rest = received_in more ++ displaced_in more ++ taken_in more in
+      rw (← append_assoc old.pending a (accepted_in more))
       (IsPermutation-trans _ _ _ (IsPermutation-append_left (accepted_in more) _ _ e.moves)
-      (rw (append_assoc r mid.pending (accepted_in more)) (IsPermutation-append_right r _ _ (run_conserves mid new more run.2))))
+      (rw (append_assoc (r ++ d ++ t) mid.pending (accepted_in more))
+      (IsPermutation-trans _ _ _ (IsPermutation-append_right (r ++ d ++ t) _ _ (run_conserves mid new more run.2))
+      (rw (← append_assoc (r ++ d ++ t) rest new.pending)
+      (IsPermutation-append_left new.pending _ _ (each_way r d t (received_in more) (displaced_in more) (taken_in more)))))))
 
   pub run_closed : (old new : State T P W) (run : List (Operation T P W)) → Run cmp is_clone old run new → old.is_closed ≡ true
       → (new.is_closed ≡ true) × (accepted_in run ≡ [])
@@ -72,8 +87,8 @@ module _ {T P W : Type 0} (cmp : P → P → Ordering) (is_clone : W → W → T
       let e = step_effect old mid made run.1 in
       let parts = empty_parts (accepted_by made.call made.answer) (accepted_in more) none in
       let same : old.pending ++ accepted_by made.call made.answer ≡ old.pending = rw parts.0 (append-nil old.pending) in
-      let both = every_part Q (received_by made.answer) mid.pending (recursion_from_All Q _ (All-permutation Q _ _ e.moves (rw same all))) in
-      every_append Q _ _ both.0 (received_were_pending Q mid new more run.2 parts.1 (All-from_recursion Q _ both.1))
+      let both = every_part Q (received_by made.answer ++ displaced_by made.answer ++ taken_by made.answer) mid.pending (recursion_from_All Q _ (All-permutation Q _ _ e.moves (rw same all))) in
+      every_append Q _ _ (every_part Q (received_by made.answer) (displaced_by made.answer) (every_part Q (received_by made.answer ++ displaced_by made.answer) (taken_by made.answer) both.0).0).0 (received_were_pending Q mid new more run.2 parts.1 (All-from_recursion Q _ both.1))
 
   pub run_never_rises : (old new : State T P W) (run : List (Operation T P W)) → Run cmp is_clone old run new
       → accepted_in run ≡ [] → NeverRise cmp (received_in run)
@@ -142,7 +157,7 @@ module _ {T P W : Type 0} (cmp : P → P → Ordering) (is_clone : W → W → T
       one_more n old mid made more closed long (Ok pair) is h next =
           let taken = h.0 in
           let perm : IsPermutation old.pending (pair ∷ mid.pending) = rw (taken.split, taken.closed_up) (IsPermutation-middle taken.before pair taken.after) in
-          let r = next (ap (λ (s : State T P W). s.is_closed) h.2 ∙ closed) (let l = length_permutation _ _ perm in omega arith) in
+          let r = next (ap (λ (s : State T P W). s.is_closed) h.1.1 ∙ closed) (let l = length_permutation _ _ perm in omega arith) in
           record {
             pairs = pair ∷ r.pairs;
             all = IsPermutation-trans _ _ _ perm (IsPermutation-cons pair _ _ r.all);

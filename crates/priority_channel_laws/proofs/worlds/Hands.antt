@@ -1,6 +1,6 @@
 -- Each waiting list stays as it was, or is handed out whole.
 use Rattle.std.proofs.Common.{◌≡◌, ℕ, ◌⊎◌, Bool, true, false, List, [], ◌∷◌, refl, ap, ◌∙◌, inl, inr, zero, suc, length}
-use Rattle.std.specs.Prelude.{Result, Ok, Err, ◌==◌, if◌then◌else◌}
+use Rattle.std.specs.Prelude.{Option, Some, None, Result, Ok, Err, ◌==◌, if◌then◌else◌}
 use Rattle.std.specs.declared.cmp.Ordering.{Ordering}
 use Rattle.priority_channel_core.specs.declared.calls.Call.TheVariants as call
 use Rattle.priority_channel_core.specs.declared.calls.Answer.TheVariants as answer
@@ -10,7 +10,8 @@ use Rattle.priority_channel_parts.specs.declared.errors.TryRecvError.{TryRecvErr
 use Rattle.priority_channel_parts.specs.declared.errors.TryRecvError.TheVariants as recv_error
 use Rattle.priority_channel_core.specs.machine.State.{State, Handed, nobody}
 use Rattle.priority_channel_core.specs.machine.Sends.{as_list, Refuses, Accepts, Sends}
-use Rattle.priority_channel_core.specs.machine.OtherCalls.{Receives, Shuts, Clones, Drops}
+use Rattle.priority_channel_core.specs.machine.Evicts.{Evicts}
+use Rattle.priority_channel_core.specs.machine.OtherCalls.{Frees, Receives, Takes, Shuts, Clones, Drops}
 use Rattle.priority_channel_core.specs.machine.Step.{Moves, Calls, Answers}
 use Rattle.priority_channel_laws.specs.World.{IsDirect}
 use Rattle.priority_channel_parts.specs.declared.side.Side.{Side}
@@ -63,13 +64,20 @@ module _ {T P W : Type 0} (old new : State T P W) (handed : Handed W) where
   hands_sends pairs (Err (send_error.Full rest)) h = hands_accepts h.0 h.4
   hands_sends pairs (Err (send_error.Memory rest)) h = hands_accepts h.0 h.4
 
-  pub hands_receives : (cmp : P → P → Ordering) (reply : Result (T × P) TryRecvError) → Receives cmp old reply handed new → Hands
-  hands_receives cmp (Ok pair) h =
+  hands_frees : Frees old handed new → Hands
+  hands_frees h =
       record {
-        room = inr (ap (λ (s : State T P W). s.waiters.room) h.2, ap (λ (x : Handed W). x.room) h.1);
-        message = inl (ap (λ (s : State T P W). s.waiters.message) h.2, ap (λ (x : Handed W). x.message) h.1);
-        next = ap (λ (s : State T P W). s.waiters.next_ticket) h.2;
+        room = inr (ap (λ (s : State T P W). s.waiters.room) h.1, ap (λ (x : Handed W). x.room) h.0);
+        message = inl (ap (λ (s : State T P W). s.waiters.message) h.1, ap (λ (x : Handed W). x.message) h.0);
+        next = ap (λ (s : State T P W). s.waiters.next_ticket) h.1;
       }
+
+  hands_takes : (place : ℕ) (reply : Option (T × P)) → Takes old place reply handed new → Hands
+  hands_takes place (Some pair) h = hands_frees h.2
+  hands_takes place None h = hands_refuses h.1
+
+  pub hands_receives : (cmp : P → P → Ordering) (reply : Result (T × P) TryRecvError) → Receives cmp old reply handed new → Hands
+  hands_receives cmp (Ok pair) h = hands_frees h.1
   hands_receives cmp (Err recv_error.Closed) h = hands_refuses h.2
   hands_receives cmp (Err recv_error.Empty) h = hands_refuses h.2
 
@@ -91,24 +99,45 @@ module _ {T P W : Type 0} (old new : State T P W) (handed : Handed W) where
   hands_drops (suc zero) fewer h w = hands_shuts fewer h w
   hands_drops (suc (suc others)) fewer h w = hands_nobody fewer h.0 h.1 w
 
+-- of states where the same parties wait
+hands_same : {T P W : Type 0} (old mid new : State T P W) (handed : Handed W) → mid.waiters ≡ old.waiters → Hands mid new handed → Hands old new handed
+hands_same old mid new handed same h = record {
+  room = rw (← same) h.room;
+  message = rw (← same) h.message;
+  next = rw (← same) h.next;
+}
+
+hands_evicts : {T P W : Type 0} (old new : State T P W) (handed : Handed W) (cmp : P → P → Ordering) (pair : T × P) (reply : Result (Option (T × P)) (TrySendError (T × P)))
+    → Evicts cmp old pair reply handed new → Hands old new handed
+hands_evicts old new handed cmp pair (Ok None) h = hands_sends old new handed (pair ∷ []) (Ok tt) h
+hands_evicts {T} {P} {W} old new handed cmp pair (Ok (Some out)) h =
+    hands_same old h.0 new handed (ap (λ (s : State T P W). s.waiters) h.1.same) (hands_sends h.0 new handed (pair ∷ []) (Ok tt) h.2)
+hands_evicts old new handed cmp pair (Err (send_error.Closed held)) h = hands_sends old new handed (pair ∷ []) (Err (send_error.Closed (held ∷ []))) h
+hands_evicts old new handed cmp pair (Err (send_error.Full held)) h = hands_sends old new handed (pair ∷ []) (Err (send_error.Full (held ∷ []))) h.1
+hands_evicts old new handed cmp pair (Err (send_error.Memory held)) (inl h) = hands_sends old new handed (pair ∷ []) (Err (send_error.Memory (held ∷ []))) h
+hands_evicts old new handed cmp pair (Err (send_error.Memory held)) (inr h) = hands_refuses old new handed h.4
+
+module _ {T P W : Type 0} (old new : State T P W) (handed : Handed W) where
   module _ (cmp : P → P → Ordering) (is_clone : W → W → Type 0) where
-    pub hands : (made : Calls T P W) (reply : Answers T P) → IsDirect made → Moves cmp is_clone old made reply handed new → Hands
-    hands (call.TrySend msg priority) (answer.TrySend reply) d h = hands_sends ((msg, priority) ∷ []) (as_list reply) h
-    hands (call.TrySendv pairs) (answer.TrySendv reply) d h = hands_sends pairs reply h
-    hands call.TryRecv (answer.TryRecv reply) d h = hands_receives cmp reply h
-    hands call.Close (answer.Close true) d h = hands_shuts old h.1 refl
-    hands call.Close (answer.Close false) d h = hands_refuses h.1
-    hands call.IsClosed (answer.IsClosed told) d h = hands_refuses h.1
-    hands call.IsEmpty (answer.IsEmpty told) d h = hands_refuses h.1
-    hands call.IsFull (answer.IsFull told) d h = hands_refuses h.1
-    hands call.Len (answer.Len told) d h = hands_refuses h.1
-    hands call.Capacity (answer.Capacity told) d h = hands_refuses h.1
-    hands call.SenderCount (answer.SenderCount told) d h = hands_refuses h.1
-    hands call.ReceiverCount (answer.ReceiverCount told) d h = hands_refuses h.1
-    hands call.CloneSender (answer.CloneSender done) d h = hands_clones _ _ done h refl
-    hands call.CloneReceiver (answer.CloneReceiver done) d h = hands_clones _ _ done h refl
-    hands call.DropSender answer.DropSender d h = hands_drops _ _ h refl
-    hands call.DropReceiver answer.DropReceiver d h = hands_drops _ _ h refl
+    pub hands : (made : Calls T P W) (reply : Answers T P) → IsDirect made → Moves cmp is_clone old made reply handed new → Hands old new handed
+    hands (call.TrySend msg priority) (answer.TrySend reply) d h = hands_sends old new handed ((msg, priority) ∷ []) (as_list reply) h
+    hands (call.TrySendv pairs) (answer.TrySendv reply) d h = hands_sends old new handed pairs reply h
+    hands (call.TrySendEvicting msg priority) (answer.TrySendEvicting reply) d h = hands_evicts old new handed cmp (msg, priority) reply h
+    hands call.TryRecv (answer.TryRecv reply) d h = hands_receives old new handed cmp reply h
+    hands (call.TakeWhere place) (answer.TakeWhere reply) d h = hands_takes old new handed place reply h
+    hands call.Close (answer.Close true) d h = hands_shuts old new handed old h.1 refl
+    hands call.Close (answer.Close false) d h = hands_refuses old new handed h.1
+    hands call.IsClosed (answer.IsClosed told) d h = hands_refuses old new handed h.1
+    hands call.IsEmpty (answer.IsEmpty told) d h = hands_refuses old new handed h.1
+    hands call.IsFull (answer.IsFull told) d h = hands_refuses old new handed h.1
+    hands call.Len (answer.Len told) d h = hands_refuses old new handed h.1
+    hands call.Capacity (answer.Capacity told) d h = hands_refuses old new handed h.1
+    hands call.SenderCount (answer.SenderCount told) d h = hands_refuses old new handed h.1
+    hands call.ReceiverCount (answer.ReceiverCount told) d h = hands_refuses old new handed h.1
+    hands call.CloneSender (answer.CloneSender done) d h = hands_clones old new handed _ _ done h refl
+    hands call.CloneReceiver (answer.CloneReceiver done) d h = hands_clones old new handed _ _ done h refl
+    hands call.DropSender answer.DropSender d h = hands_drops old new handed _ _ h refl
+    hands call.DropReceiver answer.DropReceiver d h = hands_drops old new handed _ _ h refl
     hands (call.PollSend msg priority given waker) reply d h = absurd d
     hands (call.PollSendv pairs given waker) reply d h = absurd d
     hands (call.PollRecv given waker) reply d h = absurd d

@@ -1,4 +1,4 @@
-use Rattle.priority_channel_parts.proofs.Greatest.{one_greatest}
+use Rattle.priority_channel_bag.proofs.Extremes.{one_greatest}
 use Rattle.priority_channel_recorded.proofs.Fixed.{one_state}
 use Rattle.priority_channel_recorded.proofs.laws.history_law.Goals as goal
 

@@ -25,4 +25,4 @@ returns-in-Ok-clause-cost g c =
     let shorter = received_searches_less g.P.Ord.cmp c.args.core.now.state received.new.self.state received.result.0 received.result.1 received.ensures.step.moves in
     let tried = c.try_recv-received.ensures.cost in
     let gave_up = c.give_up_on.ensures.cost in
-    (omega (arith, tried.0, gave_up.0), omega (arith, tried.1, gave_up.1, shorter))
+    (omega (arith, tried.0, gave_up.0), omega (arith, tried.1, gave_up.1, shorter), λ known. gave_up.2 (tried.2 known))

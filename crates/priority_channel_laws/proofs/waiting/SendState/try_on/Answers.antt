@@ -1,5 +1,5 @@
 use Rattle.std.proofs.Common.{sym, ◌∙◌, ap, arith}
-use Rattle.priority_channel_parts.specs.Digits.{digits}
+use Rattle.priority_channel_bag.specs.Digits.{digits}
 use Rattle.priority_channel_laws.proofs.futures.Tries.{sent_at_once, tried_searches_less, pending_stays}
 use Rattle.priority_channel_laws.proofs.waiting.SendState.try_on.Goals as goal
 
@@ -16,4 +16,4 @@ returns-clause-cost g c =
     let same = ap digits (pending_stays g.P.Ord.cmp g.W.Clone.is_clone mid c.keep_tried.new.core _ _ step.good c.keep_tried.ensures.answered c.keep_tried.ensures.waits) in
     let tried = c.try_send-tried.ensures.cost in
     let kept = c.keep_tried.ensures.cost in
-    (omega (arith, tried.0, kept.0, same), omega (arith, tried.1, kept.1, shorter))
+    (omega (arith, tried.0, kept.0, same), omega (arith, tried.1, kept.1, shorter), λ known. kept.2 (tried.2 known))
