@@ -236,6 +236,7 @@ mod receiver;
 mod sender;
 mod shared;
 mod stream;
+mod taking;
 pub mod waiting;
 mod weak;
 

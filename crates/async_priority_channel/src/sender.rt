@@ -1,5 +1,6 @@
 //! The handle that sends.
-ghost use Rattle.std.specs.Prelude.{◌≡◌, IfErr};
+ghost use Rattle.std.specs.Prelude.{◌≡◌, IfOk, IfErr, IfSome};
+ghost use Rattle.std.specs.declared.cmp.Ordering.TheVariants.{Less};
 ghost use Rattle.std.specs.Iterator.Adapters.{peekable_can};
 ghost use Rattle.priority_channel_core.specs.code.Lists.{HasList};
 ghost use Rattle.priority_channel_parts.specs.Errors.{rest_of};
@@ -22,6 +23,7 @@ use std::sync::Wait;
 /// |---|---|---|---|---|
 /// | a message | `try_send` | `send_blocking` | `send_timeout`, `send_deadline` | `send` |
 /// | many messages | `try_sendv` | `sendv_blocking` | `sendv_timeout`, `sendv_deadline` | `sendv` |
+/// | one that makes room | `try_send_evicting` | | | |
 ///
 /// Beside them: `close`, `close_on_drop`, `downgrade`, `same_channel`, `clone`, and the looks
 /// `is_closed`, `is_empty`, `is_full`, `len`, `capacity`, `sender_count` and `receiver_count`.
@@ -158,6 +160,43 @@ impl<T, P: Ord, R: Wait + Clone, A: Allocator + Copy> Sender<T, P, R, A> {
     {
         let mut core = self.handle.lock();
         let (sent, wakes) = core.try_send(msg, priority);
+        self.handle.release(core, wakes);
+        sent
+    }
+
+    /// Sends a message at once, and where the channel is full in place of the least urgent pending
+    /// one, the last accepted among those of the least priority, which comes back. It is displaced
+    /// only by one that is more urgent; where there is none such pending, the new message comes
+    /// back, as `Full`. `Closed` and `Memory` are as of `try_send`.
+    ///
+    /// It passes those who wait in `send` for room, also with more urgent messages. Into a full
+    /// channel it takes no memory, and wakes nobody.
+    ///
+    /// The first one into a full channel puts the pending messages in an order in which both the
+    /// most and the least urgent are known, and that stays: a displacement compares priorities at
+    /// most twice as often as the number of pending messages has binary digits and once more, and
+    /// from then on sends of equal priorities cost as much as others.
+    ///
+    /// ```
+    /// let (tx, rx) = bounded(&rt, rt.alloc(), 2)?;
+    /// tx.try_send("report", 1)?;
+    /// tx.try_send("thumbnail", 0)?;
+    /// assert_eq!(rt; tx.try_send_evicting("payment", 9), Ok(Some(("thumbnail", 0))));
+    /// let refused = tx.try_send_evicting("thumbnail", 0);
+    /// assert_eq!(rt; refused, Err(TrySendError::Full(("thumbnail", 0))));
+    /// assert_eq!(rt; rx.try_recv(), Ok(("payment", 9)));
+    /// ```
+    pub fn try_send_evicting(
+        &self,
+        msg: T,
+        priority: P,
+    ) -> Result<Option<(T, P)>, TrySendError<(T, P)>>
+        ensures refused { IfErr result (λ error. rest_of error ≡ (msg, priority)) }
+        ensures less_urgent { IfOk result (λ displaced. IfSome displaced (λ out.
+            P.cmp out.1 priority ≡ Less)) }
+    {
+        let mut core = self.handle.lock();
+        let (sent, wakes) = core.try_send_evicting(msg, priority);
         self.handle.release(core, wakes);
         sent
     }

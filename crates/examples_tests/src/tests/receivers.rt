@@ -156,3 +156,18 @@ fn the_first_priority_is_told(rt: HostRuntime) -> Result<(), Fail> {
     expect_equal(&rt, rx.try_recv(), Ok(("Foo", 7)));
     Ok(())
 }
+
+#[test]
+fn a_test_chooses_what_is_taken_out(rt: HostRuntime) -> Result<(), Fail> {
+    let (tx, rx) = unbounded(&rt, rt.alloc())?;
+    let jobs = [("compile", 2), ("link", 1), ("test", 3)];
+    tx.try_sendv(jobs.into_iter().peekable())?;
+    expect_equal(
+        &rt,
+        rx.take_where(|job, _| *job == "link"),
+        Some(("link", 1)),
+    );
+    expect_equal(&rt, rx.take_where(|job, _| *job == "link"), None);
+    expect_equal(&rt, rx.try_recv(), Ok(("test", 3)));
+    Ok(())
+}

@@ -69,6 +69,22 @@ fn try_send_gives_a_message_back(rt: HostRuntime) -> Result<(), Fail> {
 }
 
 #[test]
+fn the_least_urgent_makes_room(rt: HostRuntime) -> Result<(), Fail> {
+    let (tx, rx) = bounded(&rt, rt.alloc(), 2)?;
+    tx.try_send("report", 1)?;
+    tx.try_send("thumbnail", 0)?;
+    expect_equal(
+        &rt,
+        tx.try_send_evicting("payment", 9),
+        Ok(Some(("thumbnail", 0))),
+    );
+    let refused = tx.try_send_evicting("thumbnail", 0);
+    expect_equal(&rt, refused, Err(TrySendError::Full(("thumbnail", 0))));
+    expect_equal(&rt, rx.try_recv(), Ok(("payment", 9)));
+    Ok(())
+}
+
+#[test]
 fn a_sender_closes_and_the_rest_is_received(rt: HostRuntime) -> Result<(), Fail> {
     let (tx, rx) = unbounded(&rt, rt.alloc())?;
     tx.try_send("Foo", 0)?;
