@@ -8,6 +8,7 @@ use std::str::FromStr;
 pub enum Load {
     Random,
     Equal,
+    Rising,
 }
 
 impl FromStr for Load {
@@ -17,6 +18,7 @@ impl FromStr for Load {
         match word {
             "random" => Ok(Load::Random),
             "equal" => Ok(Load::Equal),
+            "rising" => Ok(Load::Rising),
             _ => bail!("no load: {word}"),
         }
     }
@@ -27,6 +29,7 @@ impl Load {
         match self {
             Load::Random => (mixed(number) >> 1) as i64,
             Load::Equal => 7,
+            Load::Rising => (number % (1 << 63)) as i64,
         }
     }
 }

@@ -27,13 +27,15 @@ use std::thread::Threads;
 use std::time::{Clock, CpuClock};
 
 // Each ends with its count of messages.
-const ROWS: [&str; 20] = [
+const ROWS: [&str; 21] = [
     // How priorities come, how many pairs are pending.
     "core random 0 1000",
     "core equal 100 1000",
     // How priorities come, to how many pairs it is filled.
     "fill random 100 1000",
     "drain random 100 1000",
+    // How priorities come, how many pairs are pending where there is room for no more.
+    "evicting rising 100 1000",
     // By which calls, how many messages are pending.
     "handles try 0 1000",
     "handles blocking 100 1000",
@@ -98,6 +100,9 @@ where
         }
         ["drain", load, size, count] => {
             one_thread::drain(&rt, load.parse()?, size.parse()?, count.parse()?)
+        }
+        ["evicting", load, pending, count] => {
+            one_thread::evicting(&rt, load.parse()?, pending.parse()?, count.parse()?)
         }
         ["handles", calls, pending, count] => {
             handles::steady(&rt, calls.parse()?, pending.parse()?, count.parse()?)

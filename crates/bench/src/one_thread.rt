@@ -33,6 +33,27 @@ where
     Ok(Measure::of_time(end.saturating_sub(start), sum))
 }
 
+/// A send that makes room, with so many pairs pending and room for no more.
+pub fn evicting<R>(rt: &R, load: Load, pending: u64, count: u64) -> anyhow::Result<Measure>
+where
+    R: CpuClock + AllocGlobal,
+{
+    ensure!(pending > 0, "no room at all");
+    let mut core = PriorityQueueChannel::bounded(rt.alloc(), pending);
+    send_all(&mut core, load, pending)?;
+    let start = rt.thread_cpu_time()?;
+    let mut sum = 0u64;
+    for position in 0..count {
+        let number = pending.wrapping_add(position);
+        let Some(msg) = evict(&mut core, number, load.priority(number)) else {
+            bail!("{number} was sent, and nothing came back");
+        };
+        sum = add_at(sum, position, msg);
+    }
+    let end = rt.thread_cpu_time()?;
+    Ok(Measure::of_time(end.saturating_sub(start), sum))
+}
+
 /// Sends to an empty core.
 pub fn fill<R>(rt: &R, load: Load, size: u64, count: u64) -> anyhow::Result<Measure>
 where
@@ -100,6 +121,17 @@ fn recv(core: &mut Core) -> Option<u64> {
     let_go(wakes);
     let (msg, _) = received.ok()?;
     Some(msg)
+}
+
+// What comes back: the displaced message, or the one that was refused.
+fn evict(core: &mut Core, msg: u64, priority: i64) -> Option<u64> {
+    let (sent, wakes) = core.try_send_evicting(msg, priority);
+    let_go(wakes);
+    match sent {
+        Ok(None) => None,
+        Ok(Some((displaced, _))) => Some(displaced),
+        Err(refused) => Some(refused.into_inner().0),
+    }
 }
 
 fn let_go(wakes: Wakes<u64>) {
