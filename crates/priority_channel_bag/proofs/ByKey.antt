@@ -11,6 +11,11 @@ use Rattle.std.proofs.lemmas.List.Elements.{All-from_recursion}
 use Rattle.std.proofs.lemmas.Map.Keys.{IsDistinct-IsPermutation}
 use Rattle.priority_channel_bag.specs.Heap.{put_in, by_key}
 
+module _ {X : Type 0} where
+  pub every_weaker : (P Q : X → Type 0) → ((x : X) → P x → Q x) → (xs : List X) → AllByRecursion P xs → AllByRecursion Q xs
+  every_weaker P Q f [] p = tt
+  every_weaker P Q f (x ∷ xs) p = (f x p.0, every_weaker P Q f xs p.1)
+
 module _ {X : Type 0} (key : X → ℕ) where
   abbrev same_key : X → X → Bool
   same_key x y = eqb (key x) (key y)
@@ -113,10 +118,6 @@ module _ {X : Type 0} (key : X → ℕ) where
   Rises : List X → Type 0
   Rises [] = ⊤
   Rises (x ∷ s) = AllByRecursion (λ y. key x ≤ key y) s × Rises s
-
-  every_weaker : (P Q : X → Type 0) → ((x : X) → P x → Q x) → (xs : List X) → AllByRecursion P xs → AllByRecursion Q xs
-  every_weaker P Q f [] p = tt
-  every_weaker P Q f (x ∷ xs) p = (f x p.0, every_weaker P Q f xs p.1)
 
   rises_put_in : (x : X) (s : List X) → Rises s → Rises (put_in key x s)
   unfolding put_in Rises

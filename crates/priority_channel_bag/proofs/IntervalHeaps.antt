@@ -191,11 +191,7 @@ module _ {X : Type 0} (R : X → X → Ordering) (o : IsTotalOrder R) where
     module _ (e : h % 2 ≡ 1) (lo : h * 2 ≤ c) (hi : c ≤ h * 2 + 3)
         (left : ComparesAt R xs (min (h * 2 + 1) (length xs - 1)) c false) (right : ComparesAt R xs (min (h * 2 + 3) (length xs - 1)) c false) where
       at_most_low : (a : ℕ) → h * 2 ≤ a → a ≤ h * 2 + 3 → a < length xs → (a % 2 ≡ 1) ⊎ (a + 1 ≡ length xs) → ComparesAt R xs a c false
-      at_most_low a p q r (inl k) = elim (cases_lt a (h * 2 + 2)) [
-        | inl l ↦ let is : min (h * 2 + 1) (length xs - 1) ≡ a = omega arith in subst (λ m. ComparesAt R xs m c false) is left
-        | inr l ↦ let is : min (h * 2 + 3) (length xs - 1) ≡ a = omega arith in subst (λ m. ComparesAt R xs m c false) is right
-      ]
-      at_most_low a p q r (inr k) = elim (cases_lt a (h * 2 + 2)) [
+      at_most_low a p q r low_or_last = elim (cases_lt a (h * 2 + 2)) [
         | inl l ↦ let is : min (h * 2 + 1) (length xs - 1) ≡ a = omega arith in subst (λ m. ComparesAt R xs m c false) is left
         | inr l ↦ let is : min (h * 2 + 3) (length xs - 1) ≡ a = omega arith in subst (λ m. ComparesAt R xs m c false) is right
       ]

@@ -19,6 +19,7 @@ use Rattle.priority_channel_bag.specs.Greatest.{TakesGreatest}
 use Rattle.priority_channel_bag.specs.Least.{TakesLeast, NoneBelow, TakesOne, TakesAll}
 use Rattle.priority_channel_bag.specs.Heap.{in_order_of_numbers, pair_of, by_key, same_number, item_cmp, IsOrdered, IsKept}
 use Rattle.priority_channel_bag.proofs.ByKey as keys
+use Rattle.priority_channel_bag.proofs.ByKey.{every_weaker}
 use Rattle.priority_channel_bag.proofs.ItemOrder.{item_total}
 use Rattle.priority_channel_bag.proofs.Ordered.{greatest_first}
 
@@ -31,10 +32,6 @@ module _ {X : Type 0} where
   every_both : (P Q : X → Type 0) (xs : List X) → AllByRecursion P xs → AllByRecursion Q xs → AllByRecursion (λ x. P x × Q x) xs
   every_both P Q [] p q = tt
   every_both P Q (x ∷ xs) p q = ((p.0, q.0), every_both P Q xs p.1 q.1)
-
-  every_weaker : (P Q : X → Type 0) → ((x : X) → P x → Q x) → (xs : List X) → AllByRecursion P xs → AllByRecursion Q xs
-  every_weaker P Q f [] p = tt
-  every_weaker P Q f (x ∷ xs) p = (f x p.0, every_weaker P Q f xs p.1)
 
   apart_push : (e : X → X → Bool) (xs : List X) (x : X) → IsDistinct e xs → AllByRecursion (λ y. e y x ≡ false) xs → IsDistinct e (xs ++ x ∷ [])
   unfolding IsDistinct
