@@ -14,7 +14,7 @@ use Rattle.priority_channel_bag.specs.Digits.{digits}
 use Rattle.priority_channel_bag.specs.Greatest.{TakesGreatest}
 use Rattle.priority_channel_core.specs.machine.Step.{Step}
 use Rattle.priority_channel_core.specs.machine.Run.{Operation, Run}
-use Rattle.priority_channel_core.specs.code.Many.{receives, ReceivesInTurn}
+use Rattle.priority_channel_core.specs.code.Many.{in_turn, receives, ReceivesInTurn}
 use Rattle.priority_channel_bag.proofs.Digits.{digits-mono}
 use Rattle.priority_channel_core.proofs.Runs.{Run-more}
 
@@ -28,7 +28,7 @@ unfolding digits
 none_costs = refl
 
 module _ {T P W : Type 0} where
-  receives-push : (pairs : List (T × P)) (pair : T × P) → receives {W = W} (pairs ++ pair ∷ []) nobody ≡ receives pairs nobody ++ receives (pair ∷ []) nobody
+  receives-push : (pairs : List (T × P)) (pair : T × P) → in_turn {W = W} receives (pairs ++ pair ∷ []) nobody ≡ in_turn receives pairs nobody ++ in_turn receives (pair ∷ []) nobody
   receives-push [] pair = refl
   receives-push (p ∷ pairs) pair =
       ap (λ (l : List (Operation T P W)). record { call = call.TryRecv; answer = answer.TryRecv (Ok p); handed = nobody } ∷ l) (receives-push pairs pair)
@@ -40,7 +40,7 @@ module _ {T P W : Type 0} (cmp : P → P → Ordering) (is_clone : W → W → T
     pub items : now ≡ before ++ pairs
     pub long : length pairs ≡ count
     pub counted : count + length new.pending ≡ length old.pending
-    pub run : Run cmp is_clone old (receives pairs nobody) new
+    pub run : Run cmp is_clone old (in_turn receives pairs nobody) new
     pub nobody_waits : new.waiters.room ≡ []
 
   pub received_more : (old mid new : State T P W) (before now after : List (T × P)) (count : ℕ) (pair : T × P) (handed : Handed W)
@@ -55,7 +55,7 @@ module _ {T P W : Type 0} (cmp : P → P → Ordering) (is_clone : W → W → T
         long = omega (arith, length-append r.pairs (pair ∷ []), r.long);
         counted = omega (arith, taken, r.counted);
         run = subst (λ (run : List (Operation T P W)). Run cmp is_clone old run new) (sym (receives-push r.pairs pair))
-            (Run-more cmp is_clone old mid new (receives r.pairs nobody) (record { call = call.TryRecv; answer = answer.TryRecv (Ok pair); handed = nobody }) r.run
+            (Run-more cmp is_clone old mid new (in_turn receives r.pairs nobody) (record { call = call.TryRecv; answer = answer.TryRecv (Ok pair); handed = nobody }) r.run
             (subst (λ (h : Handed W). Step cmp is_clone mid call.TryRecv (answer.TryRecv (Ok pair)) h new) handed_is s));
         nobody_waits = ap (λ (s : State T P W). s.waiters.room) s.moves.1.1;
       }

@@ -184,32 +184,40 @@ impl<W, A: Allocator + Copy> AwaitableAtomicCounterAndBit<W, A> {
     {
         let before = unpack(self.packed);
         self.packed += n;
-        if n == 0 {
-            return (before, Wakes::nobody(self.alloc));
-        }
         let room = Vec::new(self.alloc);
-        let message = self.message_waiters.take(self.alloc);
+        let message = if n > 0 {
+            self.message_waiters.take(self.alloc)
+        } else {
+            Vec::new(self.alloc)
+        };
         (before, Wakes { room, message })
     }
 
-    /// Takes one from the count, answers the bit and the count before, and hands out those who wait
-    /// for room.
+    /// Takes from the count, and answers the bit and the count before. Where the count falls, those
+    /// who wait for room are handed out.
     #[inline(always)]
-    pub fn decr(&mut self) -> ((bool, u64), Wakes<W, A>)
-        requires { 0 < self.old.word.count }
+    pub fn decr(&mut self, n: u64) -> ((bool, u64), Wakes<W, A>)
+        requires { n ≤ self.old.word.count }
         ensures bit { result.0.0 ≡ self.old.word.is_closed }
         ensures count { result.0.1 ≡ self.old.word.count }
-        ensures handed { result.1 ≡ record { room = self.old.word.waiters.room; message = [] } }
+        ensures handed { result.1 ≡ (if n == 0 then nobody
+            else record { room = self.old.word.waiters.room; message = [] }) }
         ensures word { self.new.word ≡ record self.old.word {
-          count = self.old.word.count - 1;
-          waiters = record self.old.word.waiters { room = [] };
+          count = self.old.word.count - n;
+          waiters = record self.old.word.waiters {
+            room = if n == 0 then self.old.word.waiters.room else [];
+          };
         } }
         ensures tickets { HasOwnTickets self.new.word.waiters }
         ensures comparisons { self.new.comparisons ≡ self.old.comparisons }
     {
         let before = unpack(self.packed);
-        self.packed -= 1;
-        let room = self.room_waiters.take(self.alloc);
+        self.packed -= n;
+        let room = if n > 0 {
+            self.room_waiters.take(self.alloc)
+        } else {
+            Vec::new(self.alloc)
+        };
         let message = Vec::new(self.alloc);
         (before, Wakes { room, message })
     }

@@ -1,22 +1,50 @@
--- Many receives in one hold of what guards the channel: each is a step of its own.
-use Rattle.std.specs.Prelude.{◌≡◌, List, [], ◌∷◌, Ok}
+-- Many receives, or takings, in one hold of what guards the channel: each is a step of its own.
+use Rattle.std.specs.Prelude.{◌≡◌, ℕ, List, [], ◌∷◌, map, Ok, Some}
 use Rattle.std.specs.declared.cmp.Ordering.{Ordering}
 use Rattle.priority_channel_core.specs.declared.calls.Call.TheVariants as call
 use Rattle.priority_channel_core.specs.declared.calls.Answer.TheVariants as answer
 use Rattle.priority_channel_core.specs.machine.State.{State, Handed, nobody}
+use Rattle.priority_channel_core.specs.machine.Step.{Calls, Answers}
 use Rattle.priority_channel_core.specs.machine.Run.{Operation, Run}
 
--- receives that give these pairs, of which the first hands out whom all of them hand out
-abbrev pub receives : {T P W : Type 0} → List (T × P) → Handed W → List (Operation T P W)
-receives [] handed = []
-receives (pair ∷ pairs) handed =
-    record { call = call.TryRecv; answer = answer.TryRecv (Ok pair); handed = handed }
-    ∷ receives pairs nobody
+-- a call, and its answer
+pub record Reply (T P W : Type 0) : Type 0 where
+  pub call : Calls T P W
+  pub answer : Answers T P
+
+-- a pair that is pending, and its place in the order of acceptance
+pub record Placed (T P : Type 0) : Type 0 where
+  pub place : ℕ
+  pub pair : T × P
+
+module _ {T P W : Type 0} where
+  -- these calls, of which the first hands out whom all of them hand out
+  abbrev pub in_turn : {X : Type 0} → (X → Reply T P W) → List X → Handed W
+      → List (Operation T P W)
+  in_turn reply [] handed = []
+  in_turn reply (x ∷ xs) handed =
+      record { call = (reply x).call; answer = (reply x).answer; handed = handed }
+      ∷ in_turn reply xs nobody
+
+  abbrev pub receives : T × P → Reply T P W
+  receives pair = record { call = call.TryRecv; answer = answer.TryRecv (Ok pair) }
+
+  abbrev pub takes : Placed T P → Reply T P W
+  takes one = record { call = call.TakeWhere one.place; answer = answer.TakeWhere (Some one.pair) }
 
 module _ {T P W : Type 0} (cmp : P → P → Ordering) (is_clone : W → W → Type 0) where
-  -- these pairs come, by so many receives in a row; where none comes nothing changes, and nobody is
-  -- handed out
-  pub record ReceivesInTurn (old : State T P W) (pairs : List (T × P)) (handed : Handed W)
-      (new : State T P W) : Type 0 where
-    pub run : Run cmp is_clone old (receives pairs handed) new
-    pub nobody_for_none : pairs ≡ [] → handed ≡ nobody
+  -- so many steps in a row; where there is none nothing changes, and nobody is handed out
+  pub record InTurn {X : Type 0} (reply : X → Reply T P W) (old : State T P W) (xs : List X)
+      (handed : Handed W) (new : State T P W) : Type 0 where
+    pub run : Run cmp is_clone old (in_turn reply xs handed) new
+    pub nobody_for_none : xs ≡ [] → handed ≡ nobody
+
+  -- these pairs come, by so many receives in a row
+  abbrev pub ReceivesInTurn : State T P W → List (T × P) → Handed W → State T P W → Type 0
+  ReceivesInTurn = InTurn receives
+
+  -- these pairs are taken out, by so many takings in a row
+  abbrev pub TakesInTurn : State T P W → List (T × P) → Handed W → State T P W → Type 0
+  TakesInTurn old pairs handed new =
+      (taken : List (Placed T P)) × (map (λ one. one.pair) taken ≡ pairs)
+      × InTurn takes old taken handed new

@@ -1,6 +1,7 @@
 //! Taking out what a test chooses.
-ghost use Rattle.std.specs.Prelude.{◌≡◌, ℕ, ◌*◌, true, false, length, All, IfNone, IfSome};
+ghost use Rattle.std.specs.Prelude.{◌≡◌, ℕ, List, ◌+◌, ◌*◌, ◌++◌, ◌≤◌, true, false, length, All, IfNone, IfSome, vec_capacity};
 ghost use Rattle.priority_channel_bag.specs.Digits.{digits};
+ghost use Rattle.priority_channel_core.specs.code.Many.{TakesInTurn};
 
 use crate::awaitable_atomics::Wakes;
 use crate::calls::{Answer, Call};
@@ -8,6 +9,7 @@ use crate::channel::PriorityQueueChannel;
 use std::alloc::Allocator;
 
 impl<T, P: Ord, W: Clone, A: Allocator + Copy> PriorityQueueChannel<T, P, W, A> {
+    ghost use Rattle.priority_channel_core.specs.machine.Good.{IsGood};
     ghost use Rattle.priority_channel_core.specs.machine.Step.{Step};
     ghost use Rattle.priority_channel_bag.specs.Least.{Tells};
     ghost use Rattle.priority_channel_core.specs.code.Channel.{ComparesAtMost};
@@ -28,10 +30,38 @@ impl<T, P: Ord, W: Clone, A: Allocator + Copy> PriorityQueueChannel<T, P, W, A> 
     {
         match self.bag.take_where(test) {
             Some(pair) => {
-                let (_, wakes) = self.word.decr();
+                let (_, wakes) = self.word.decr(1);
                 (Some(pair), wakes)
             }
             None => (None, Wakes::nobody(self.alloc)),
         }
+    }
+
+    /// Keeps the pending pairs of which the test tells true, and takes out all others, also from a
+    /// closed channel, as so many takings in a row. They go to the end of `out`, in no order that
+    /// is said. The test is asked once of each pair, in no order that is said.
+    ///
+    /// It takes no memory: that of `out` is the caller's to reserve.
+    pub fn retain<F: Fn(&T, &P) -> bool, B: Allocator>(
+        &mut self,
+        test: &F,
+        out: &mut Vec<(T, P), B>,
+    ) -> Wakes<W, A>
+        requires callable { F.IsAlwaysCallable test.now }
+        requires fits { length out.old.items + length self.old.state.pending
+            ≤ vec_capacity out.old }
+        ensures taken { (pairs : List (T × P)) × (out.new.items ≡ out.old.items ++ pairs)
+            × TakesInTurn P.cmp W.is_clone self.old.state pairs result self.new.state
+            × All (λ pair. Tells F.Fn test.now pair false) pairs }
+        ensures kept { All (λ pair. Tells F.Fn test.now pair true) self.new.state.pending }
+        ensures good { IsGood self.new.state }
+        ensures out_slots { vec_capacity out.new ≡ vec_capacity out.old }
+        ensures cost { ComparesAtMost (length self.new.state.pending
+            * digits (length self.new.state.pending)) 0 self.old self.new }
+    {
+        let before = self.bag.len();
+        self.bag.retain(test, out);
+        let (_, wakes) = self.word.decr(before - self.bag.len());
+        wakes
     }
 }

@@ -22,7 +22,7 @@ fn counts_beside_the_bit(rt: HostRuntime) {
     expect_equal(&rt, before, (true, 5));
     assert!(rt; hands_out_nobody(wakes));
     expect_equal(&rt, word.load(), (true, 7));
-    let (before, wakes) = word.decr();
+    let (before, wakes) = word.decr(1);
     expect_equal(&rt, before, (true, 7));
     assert!(rt; hands_out_nobody(wakes));
     let (before, wakes) = word.incr(0);
@@ -35,7 +35,7 @@ fn counts_beside_the_bit(rt: HostRuntime) {
 fn counts_up_to_bit_63(rt: HostRuntime) {
     let mut word = Word::new(rt.alloc(), 9223372036854775807);
     expect_equal(&rt, word.load(), (false, 9223372036854775807));
-    let (before, wakes) = word.decr();
+    let (before, wakes) = word.decr(1);
     expect_equal(&rt, before, (false, 9223372036854775807));
     assert!(rt; hands_out_nobody(wakes));
     expect_equal(&rt, word.load(), (false, 9223372036854775806));
