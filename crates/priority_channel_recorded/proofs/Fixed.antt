@@ -1,17 +1,18 @@
 -- A history fixes the state that it ends in.
-use Rattle.std.proofs.Common.{◌≡◌, ℕ, true, false, List, [], ◌∷◌, ◌++◌, length, length-append, refl, sym, ap, ◌∙◌, subst, arith, Some, Ok, Err}
+use Rattle.std.proofs.Common.{◌≡◌, ℕ, true, false, List, [], ◌∷◌, ◌++◌, length, length-append, refl, sym, ap, ◌∙◌, subst, arith, inl, inr, Some, None, Ok, Err}
 use Rattle.std.specs.List.{AllZip}
+use Rattle.std.specs.Cmp.{IsTotalOrder}
 use Rattle.std.specs.declared.cmp.Ordering.{Ordering}
 use Rattle.priority_channel_core.specs.declared.calls.Answer.TheVariants as answer
 use Rattle.priority_channel_parts.specs.declared.errors.TrySendError.TheVariants as send_error
 use Rattle.priority_channel_parts.specs.declared.errors.TryRecvError.TheVariants as recv_error
-use Rattle.priority_channel_bag.specs.Greatest.{TakesGreatest}
+use Rattle.priority_channel_bag.proofs.Extremes.{one_greatest, one_least}
 use Rattle.priority_channel_core.specs.machine.State.{Handed, opening}
-use Rattle.priority_channel_core.specs.machine.Sends.{AddsFront}
+use Rattle.priority_channel_core.specs.machine.Sends.{AddsFront, Sends}
 use Rattle.priority_channel_core.specs.machine.Step.{Moves, Step, Answers}
 use Rattle.priority_channel_core.specs.machine.Run.{Operation, Run}
 use Rattle.priority_channel_recorded.specs.declared.book.Call.{Call}
-use Rattle.priority_channel_recorded.specs.declared.book.Call.TheVariants.{TrySend, TryRecv, Close, IsClosed, IsEmpty, IsFull, Len}
+use Rattle.priority_channel_recorded.specs.declared.book.Call.TheVariants.{TrySend, TrySendEvicting, TryRecv, Close, IsClosed, IsEmpty, IsFull, Len}
 use Rattle.priority_channel_recorded.specs.declared.book.Reply.{Reply}
 use Rattle.priority_channel_recorded.specs.declared.book.Entry.{Entry}
 use Rattle.priority_channel_recorded.specs.History.{Machine, call_of, reply_of, Records, IsHistory}
@@ -21,9 +22,7 @@ no_front : {X : Type 0} (x y : X) (front : List X) → x ∷ [] ≡ front ++ y �
 no_front x y [] e = refl
 no_front x y (z ∷ front) e = let l = ap length e in let m = length-append front (y ∷ []) in absurd (omega arith)
 
-module _ {T P : Type 0} (cmp : P → P → Ordering)
-    (one_greatest : (pending : List (T × P)) (pair other : T × P) (rest others : List (T × P))
-    → TakesGreatest cmp pending pair rest → TakesGreatest cmp pending other others → (pair ≡ other) × (rest ≡ others)) where
+module _ {T P : Type 0} {cmp : P → P → Ordering} (o : IsTotalOrder cmp) where
   abbrev Goes : Machine T P → Call T P → Answers T P → Handed (Unit {0}) → Machine T P → Type 0
   Goes old call told handed new = Moves cmp (λ waker kept. kept ≡ waker) old (call_of call) told handed new
 
@@ -32,6 +31,8 @@ module _ {T P : Type 0} (cmp : P → P → Ordering)
       → Goes old call told handed new → Goes old call again others other → reply_of told ≡ Some reply → reply_of again ≡ Some reply → told ≡ again
   same_answer old new other handed others (TrySend msg priority) (answer.TrySend one) (answer.TrySend two) reply m n e f = cc
   same_answer old new other handed others (TrySend msg priority) (answer.TrySend one) _ reply m n e f = absurd n
+  same_answer old new other handed others (TrySendEvicting msg priority) (answer.TrySendEvicting one) (answer.TrySendEvicting two) reply m n e f = cc
+  same_answer old new other handed others (TrySendEvicting msg priority) (answer.TrySendEvicting one) _ reply m n e f = absurd n
   same_answer old new other handed others TryRecv (answer.TryRecv one) (answer.TryRecv two) reply m n e f = cc
   same_answer old new other handed others TryRecv (answer.TryRecv one) _ reply m n e f = absurd n
   same_answer old new other handed others Close (answer.Close one) (answer.Close two) reply m n e f = cc
@@ -51,17 +52,38 @@ module _ {T P : Type 0} (cmp : P → P → Ordering)
       → AddsFront old front handed new → AddsFront old again others other → new ≡ other
   adds_none old new other handed others front again e f m n = m.new_is ∙ rw (e, f) refl ∙ sym n.new_is
 
+  all_sent : (old new other : Machine T P) (handed others : Handed (Unit {0})) (pair : T × P) → Sends old (pair ∷ []) (Ok tt) handed new
+      → Sends old (pair ∷ []) (Ok tt) others other → new ≡ other
+  all_sent old new other handed others pair m n = m.2.1.new_is ∙ sym n.2.1.new_is
+
   -- two steps with one answer lead to one state
   same_state : (old new other : Machine T P) (handed others : Handed (Unit {0})) (call : Call T P) (told : Answers T P)
       → Goes old call told handed new → Goes old call told others other → new ≡ other
-  same_state old new other handed others (TrySend msg priority) (answer.TrySend (Ok sent)) m n = m.2.1.new_is ∙ sym n.2.1.new_is
+  same_state old new other handed others (TrySend msg priority) (answer.TrySend (Ok sent)) m n = all_sent old new other handed others (msg, priority) m n
   same_state old new other handed others (TrySend msg priority) (answer.TrySend (Err (send_error.Closed pair))) m n = m.2.1 ∙ sym n.2.1
   same_state old new other handed others (TrySend msg priority) (answer.TrySend (Err (send_error.Full pair))) m n =
       adds_none old new other handed others m.0 n.0 (no_front _ pair m.0 m.1) (no_front _ pair n.0 n.1) m.4.1 n.4.1
   same_state old new other handed others (TrySend msg priority) (answer.TrySend (Err (send_error.Memory pair))) m n =
       adds_none old new other handed others m.0 n.0 (no_front _ pair m.0 m.1) (no_front _ pair n.0 n.1) m.4.1 n.4.1
+  same_state old new other handed others (TrySendEvicting msg priority) (answer.TrySendEvicting (Ok None)) m n =
+      all_sent old new other handed others (msg, priority) m n
+  same_state old new other handed others (TrySendEvicting msg priority) (answer.TrySendEvicting (Ok (Some out))) m n =
+      let same = one_least o old.pending out out m.0.pending n.0.pending m.1.least n.1.least in
+      let mid : n.0 ≡ m.0 = n.1.same ∙ ap (λ (rest : List (T × P)). record old { pending = rest }) (sym same.1) ∙ sym m.1.same in
+      all_sent m.0 new other handed others (msg, priority) m.2
+      (subst (λ (state : Machine T P). Sends state ((msg, priority) ∷ []) (Ok tt) others other) mid n.2)
+  same_state old new other handed others (TrySendEvicting msg priority) (answer.TrySendEvicting (Err (send_error.Closed pair))) m n = m.2.1 ∙ sym n.2.1
+  same_state old new other handed others (TrySendEvicting msg priority) (answer.TrySendEvicting (Err (send_error.Full pair))) m n =
+      adds_none old new other handed others m.1.0 n.1.0 (no_front _ pair m.1.0 m.1.1) (no_front _ pair n.1.0 n.1.1) m.1.4.1 n.1.4.1
+  same_state old new other handed others (TrySendEvicting msg priority) (answer.TrySendEvicting (Err (send_error.Memory pair))) (inl m) (inl n) =
+      adds_none old new other handed others m.0 n.0 (no_front _ pair m.0 m.1) (no_front _ pair n.0 n.1) m.4.1 n.4.1
+  same_state old new other handed others (TrySendEvicting msg priority) (answer.TrySendEvicting (Err (send_error.Memory pair))) (inl m) (inr n) =
+      absurd (omega (arith, m.2, n.1))
+  same_state old new other handed others (TrySendEvicting msg priority) (answer.TrySendEvicting (Err (send_error.Memory pair))) (inr m) (inl n) =
+      absurd (omega (arith, n.2, m.1))
+  same_state old new other handed others (TrySendEvicting msg priority) (answer.TrySendEvicting (Err (send_error.Memory pair))) (inr m) (inr n) = m.4.1 ∙ sym n.4.1
   same_state old new other handed others TryRecv (answer.TryRecv (Ok pair)) m n =
-      let same = one_greatest old.pending pair pair new.pending other.pending m.0 n.0 in
+      let same = one_greatest o old.pending pair pair new.pending other.pending m.0 n.0 in
       let after : List (T × P) → Machine T P = λ rest. record old { pending = rest; waiters = record old.waiters { room = [] } } in
       m.1.1 ∙ ap after same.1 ∙ sym n.1.1
   same_state old new other handed others TryRecv (answer.TryRecv (Err recv_error.Closed)) m n = m.2.1 ∙ sym n.2.1

@@ -1,5 +1,5 @@
 -- A history that grows by an entry.
-use Rattle.std.proofs.Common.{◌≡◌, ℕ, true, false, List, [], ◌∷◌, ◌++◌, refl, sym, subst, Ok, Err}
+use Rattle.std.proofs.Common.{◌≡◌, ℕ, true, false, List, [], ◌∷◌, ◌++◌, refl, sym, subst, inl, inr, Some, None, Ok, Err}
 use Rattle.std.specs.declared.cmp.Ordering.{Ordering}
 use Rattle.priority_channel_core.specs.declared.calls.Answer.TheVariants as answer
 use Rattle.priority_channel_parts.specs.declared.errors.TrySendError.TheVariants as send_error
@@ -9,7 +9,7 @@ use Rattle.priority_channel_core.specs.machine.Step.{Moves, Answers}
 use Rattle.priority_channel_core.specs.machine.Run.{Operation}
 use Rattle.priority_channel_core.proofs.Runs.{zip_push, Run-more}
 use Rattle.priority_channel_recorded.specs.declared.book.Call.{Call}
-use Rattle.priority_channel_recorded.specs.declared.book.Call.TheVariants.{TrySend, TryRecv, Close, IsClosed, IsEmpty, IsFull, Len}
+use Rattle.priority_channel_recorded.specs.declared.book.Call.TheVariants.{TrySend, TrySendEvicting, TryRecv, Close, IsClosed, IsEmpty, IsFull, Len}
 use Rattle.priority_channel_recorded.specs.declared.book.Reply.{Reply}
 use Rattle.priority_channel_recorded.specs.declared.book.Entry.{Entry}
 use Rattle.priority_channel_recorded.specs.History.{Machine, call_of, Records, IsStep, IsHistory}
@@ -22,6 +22,12 @@ module _ {T P : Type 0} (cmp : P → P → Ordering) where
   same_capacity old new handed (TrySend msg priority) (answer.TrySend (Err (send_error.Closed pair))) m = cc
   same_capacity old new handed (TrySend msg priority) (answer.TrySend (Err (send_error.Full pair))) m = cc
   same_capacity old new handed (TrySend msg priority) (answer.TrySend (Err (send_error.Memory pair))) m = cc
+  same_capacity old new handed (TrySendEvicting msg priority) (answer.TrySendEvicting (Ok None)) m = cc
+  same_capacity old new handed (TrySendEvicting msg priority) (answer.TrySendEvicting (Ok (Some out))) m = let n = m.1.same in let k = m.2.2.1.new_is in cc
+  same_capacity old new handed (TrySendEvicting msg priority) (answer.TrySendEvicting (Err (send_error.Closed pair))) m = cc
+  same_capacity old new handed (TrySendEvicting msg priority) (answer.TrySendEvicting (Err (send_error.Full pair))) m = let n = m.1.4.1.new_is in cc
+  same_capacity old new handed (TrySendEvicting msg priority) (answer.TrySendEvicting (Err (send_error.Memory pair))) (inl m) = cc
+  same_capacity old new handed (TrySendEvicting msg priority) (answer.TrySendEvicting (Err (send_error.Memory pair))) (inr m) = let n = m.4.1 in cc
   same_capacity old new handed TryRecv (answer.TryRecv (Ok pair)) m = let n = m.1.1 in cc
   same_capacity old new handed TryRecv (answer.TryRecv (Err recv_error.Closed)) m = cc
   same_capacity old new handed TryRecv (answer.TryRecv (Err recv_error.Empty)) m = cc

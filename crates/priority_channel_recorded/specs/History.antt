@@ -8,9 +8,9 @@ use Rattle.priority_channel_core.specs.machine.State.{State, Handed, opening}
 use Rattle.priority_channel_core.specs.machine.Step.{Step, Calls, Answers}
 use Rattle.priority_channel_core.specs.machine.Run.{Operation, Run}
 use Rattle.priority_channel_recorded.specs.declared.book.Call.{Call}
-use Rattle.priority_channel_recorded.specs.declared.book.Call.TheVariants.{TrySend, TryRecv, Close, IsClosed, IsEmpty, IsFull, Len}
+use Rattle.priority_channel_recorded.specs.declared.book.Call.TheVariants.{TrySend, TrySendEvicting, TryRecv, Close, IsClosed, IsEmpty, IsFull, Len}
 use Rattle.priority_channel_recorded.specs.declared.book.Reply.{Reply}
-use Rattle.priority_channel_recorded.specs.declared.book.Reply.TheVariants.{Sent, Received, Bool as Truth, Len as Count}
+use Rattle.priority_channel_recorded.specs.declared.book.Reply.TheVariants.{Sent, Displaced, Received, Bool as Truth, Len as Count}
 use Rattle.priority_channel_recorded.specs.declared.book.Entry.{Entry}
 
 -- the state of a recorded channel, for which nobody waits
@@ -30,6 +30,7 @@ module _ {T P : Type 0} where
   -- a recorded call is the machine's call of the same name
   abbrev pub call_of : Call T P → Calls T P (Unit {0})
   call_of (TrySend msg priority) = call.TrySend msg priority
+  call_of (TrySendEvicting msg priority) = call.TrySendEvicting msg priority
   call_of TryRecv = call.TryRecv
   call_of Close = call.Close
   call_of IsClosed = call.IsClosed
@@ -40,6 +41,7 @@ module _ {T P : Type 0} where
   -- what is recorded of the machine's answer
   abbrev pub reply_of : Answers T P → Option (Reply T P)
   reply_of (answer.TrySend reply) = Some (Sent reply)
+  reply_of (answer.TrySendEvicting reply) = Some (Displaced reply)
   reply_of (answer.TryRecv reply) = Some (Received reply)
   reply_of (answer.Close was_open) = Some (Truth was_open)
   reply_of (answer.IsClosed told) = Some (Truth told)

@@ -15,6 +15,7 @@ use std::marker::Model;
 #[derive(Clone, Copy, Debug, PartialEq, Eq)]
 pub enum Call<T, P> {
     TrySend(T, P),
+    TrySendEvicting(T, P),
     TryRecv,
     Close,
     IsClosed,
@@ -28,6 +29,8 @@ pub enum Call<T, P> {
 pub enum Reply<T, P> {
     /// To `TrySend`.
     Sent(Result<(), TrySendError<(T, P)>>),
+    /// To `TrySendEvicting`, what it displaced.
+    Displaced(Result<Option<(T, P)>, TrySendError<(T, P)>>),
     /// To `TryRecv`.
     Received(Result<(T, P), TryRecvError>),
     /// To `Close`, whether the channel was open; to `IsClosed`, `IsEmpty` and `IsFull`, whether it
@@ -111,7 +114,7 @@ impl<T: Copy, P: Copy + Ord, A: Allocator + Copy> Book<T, P, A> {
     /// Makes a call, and enters it under the caller's number with what it answered. Where there is
     /// no memory for the entry the call is not made; that never comes as long as there are fewer
     /// entries than memory was had for.
-    #[tactic(auto, using(crate::proofs::Histories::history_more, crate::proofs::Histories::step_capacity))]
+    #[tactic(auto, using(crate::proofs::Histories::history_more))]
     pub fn record(&mut self, who: u64, call: Call<T, P>) -> Result<Reply<T, P>, NoMemory>
         ensures step { IfOk result (λ reply.
             IsStep P.cmp self.old.state call reply self.new.state) }
@@ -165,6 +168,9 @@ fn make<T: Copy, P: Copy + Ord, A: Allocator + Copy>(
 {
     match call {
         Call::TrySend(msg, priority) => Reply::Sent(unwoken(channel.try_send(msg, priority))),
+        Call::TrySendEvicting(msg, priority) => {
+            Reply::Displaced(unwoken(channel.try_send_evicting(msg, priority)))
+        }
         Call::TryRecv => Reply::Received(unwoken(channel.try_recv())),
         Call::Close => Reply::Bool(unwoken(channel.close())),
         Call::IsClosed => Reply::Bool(channel.is_closed()),

@@ -63,6 +63,31 @@ fn looks_at_the_channel(rt: HostRuntime) -> Result<(), AllocError> {
 }
 
 #[test]
+fn makes_room(rt: HostRuntime) -> Result<(), AllocError> {
+    let mut book: Book<u64, u64> = Book::new(rt.alloc(), 2, 8)?;
+    for (msg, priority, reply) in [
+        (1, 2, Ok(None)),
+        (2, 2, Ok(None)),
+        (3, 2, Err(TrySendError::Full((3, 2)))),
+        (4, 7, Ok(Some((2, 2)))),
+    ] {
+        expect_equal(
+            &rt,
+            book.record(0, Call::TrySendEvicting(msg, priority)),
+            Ok(Reply::Displaced(reply)),
+        );
+    }
+    for pair in [(4, 7), (1, 2)] {
+        expect_equal(
+            &rt,
+            book.record(0, Call::TryRecv),
+            Ok(Reply::Received(Ok(pair))),
+        );
+    }
+    Ok(())
+}
+
+#[test]
 fn its_place_is_made_at_once(rt: HostRuntime) -> Result<(), AllocError> {
     let alloc = Refusing::new(rt.alloc());
     let mut book = Book::new(&alloc, 1, 3)?;

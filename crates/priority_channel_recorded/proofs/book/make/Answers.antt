@@ -8,6 +8,11 @@ returns-in-TrySend g c =
     let step = c.try_send.ensures.step in
     rw (c.in-TrySend.is, c.unwoken.ensures) (record { answer = answer.TrySend c.try_send.result.0; handed = c.try_send.result.1; replies = refl; step = record { moves = step.moves; good = step.good } })
 
+pub returns-in-TrySendEvicting : goal.returns-in-TrySendEvicting
+returns-in-TrySendEvicting g c =
+    let step = c.try_send_evicting.ensures.step in
+    rw (c.in-TrySendEvicting.is, c.unwoken-in-TrySendEvicting.ensures) (record { answer = answer.TrySendEvicting c.try_send_evicting.result.0; handed = c.try_send_evicting.result.1; replies = refl; step = record { moves = step.moves; good = step.good } })
+
 pub returns-in-TryRecv : goal.returns-in-TryRecv
 returns-in-TryRecv g c =
     let step = c.try_recv.ensures.step in
