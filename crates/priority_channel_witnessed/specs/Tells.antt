@@ -7,7 +7,7 @@ use Rattle.priority_channel_core.specs.machine.State.{Handed, nobody}
 use Rattle.priority_channel_core.specs.machine.Step.{Calls, Answers}
 use Rattle.priority_channel_witnessed.specs.declared.entry.Entry.{Entry}
 use Rattle.priority_channel_witnessed.specs.declared.entry.Told.{Told}
-use Rattle.priority_channel_witnessed.specs.declared.entry.Told.TheVariants.{TrySend, TrySendv, TryRecv, Close, IsClosed, IsEmpty, IsFull, Len, Capacity, SenderCount, ReceiverCount, PollSend, PollSendv, PollRecv, GiveUp}
+use Rattle.priority_channel_witnessed.specs.declared.entry.Told.TheVariants.{TrySend, TrySendv, TrySendEvicting, TryRecv, Close, IsClosed, IsEmpty, IsFull, Len, Capacity, SenderCount, ReceiverCount, PollSend, PollSendv, PollRecv, GiveUp}
 use Rattle.priority_channel_witnessed.specs.declared.entry.Telling.{Telling}
 use Rattle.priority_channel_witnessed.specs.History.{entry}
 use Rattle.priority_channel_witnessed.specs.Items.{list_in, listed, listed_poll}
@@ -22,6 +22,7 @@ module _ {T P W A : Type 0} where
   abbrev pub call_of : Told T P W A → Calls T P W
   call_of (TrySend msg priority reply) = call.TrySend msg.value priority.value
   call_of (TrySendv msgs reply) = call.TrySendv (list_in msgs.value)
+  call_of (TrySendEvicting msg priority reply) = call.TrySendEvicting msg.value priority.value
   call_of (TryRecv reply) = call.TryRecv
   call_of (Close was_open) = call.Close
   call_of (IsClosed told) = call.IsClosed
@@ -42,6 +43,7 @@ module _ {T P W A : Type 0} where
   abbrev pub answer_of : Told T P W A → Answers T P
   answer_of (TrySend msg priority reply) = answer.TrySend reply.value
   answer_of (TrySendv msgs reply) = answer.TrySendv (listed reply.value)
+  answer_of (TrySendEvicting msg priority reply) = answer.TrySendEvicting reply.value
   answer_of (TryRecv reply) = answer.TryRecv reply.value
   answer_of (Close was_open) = answer.Close was_open
   answer_of (IsClosed told) = answer.IsClosed told

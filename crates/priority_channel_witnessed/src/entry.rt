@@ -25,6 +25,11 @@ pub struct Entry<T, P, W> {
 pub enum Told<T, P, W, A: Allocator> {
     TrySend(Snapshot<T>, Snapshot<P>, Snapshot<Result<(), TrySendError<(T, P)>>>),
     TrySendv(Snapshot<Pairs<T, P, A>>, Snapshot<Result<(), TrySendError<Pairs<T, P, A>>>>),
+    TrySendEvicting(
+        Snapshot<T>,
+        Snapshot<P>,
+        Snapshot<Result<Option<(T, P)>, TrySendError<(T, P)>>>,
+    ),
     TryRecv(Snapshot<Result<(T, P), TryRecvError>>),
     Close(bool),
     IsClosed(bool),

@@ -18,6 +18,7 @@ use std::snapshot::Snapshot;
 use std::sync::Wait;
 
 mod bulk;
+mod evicting;
 mod looks;
 mod polls;
 

@@ -21,6 +21,7 @@ use std::marker::PhantomData;
 use std::sync::{Mutex, Wait};
 
 mod bulk;
+mod evicting;
 mod looks;
 mod polls;
 mod waits;

@@ -161,6 +161,30 @@ fn some_calls_have_no_order(rt: HostRuntime) -> Result<(), Fail> {
     Ok(())
 }
 
+fn displacing(begin: u64, end: u64, pair: Pair, out: Pair) -> Noted {
+    Noted {
+        begin,
+        end,
+        call: Call::SendEvicting(pair),
+        reply: Reply::Displaced(Ok(Some(out))),
+    }
+}
+
+// Only the last accepted of the least urgent makes room.
+#[test]
+fn one_message_makes_room(rt: HostRuntime) -> Result<(), Fail> {
+    for (out, is_it) in [((1, 5), false), ((2, 5), true), ((3, 9), false)] {
+        let explained = are_explained(
+            &rt,
+            rt.alloc(),
+            [sent(0, 1, (1, 5)), sent(2, 3, (2, 5)), sent(4, 5, (3, 9))],
+            [displacing(6, 7, (4, 7), out)],
+        )?;
+        expect_equal(&rt, explained, is_it);
+    }
+    Ok(())
+}
+
 // The receive began first. What it received was sent while it was under way.
 #[test]
 fn calls_that_overlap_have_either_order(rt: HostRuntime) -> Result<(), Fail> {

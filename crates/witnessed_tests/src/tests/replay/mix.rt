@@ -29,7 +29,8 @@ impl Mix {
 
     pub(super) fn draw(&mut self) -> Call {
         match self.below(16) {
-            0..5 => Call::Send(self.way(), self.pair()),
+            0..4 => Call::Send(self.way(), self.pair()),
+            4 => Call::SendEvicting(self.pair()),
             5..7 => Call::Sendv([self.pair(), self.pair(), self.pair()]),
             7 => Call::Len,
             8 => Call::IsEmpty,
@@ -74,6 +75,7 @@ pub(super) fn make<J: Recording, R: Wait + Clock>(
 ) -> Reply {
     match call {
         Call::Send(way, pair) => Reply::Sent(send(rt, channel, pass, way, pair)),
+        Call::SendEvicting(pair) => Reply::Displaced(send_evicting(rt, channel, pass, pair)),
         Call::Sendv(pairs) => Reply::SentMany(send_many(rt, alloc, channel, pass, pairs)),
         Call::Recv(way) => Reply::Received(receive(rt, channel, pass, way)),
         Call::Len => Reply::Number(channel.len(rt, pass)),
@@ -100,11 +102,7 @@ fn send<J: Recording, R: Wait + Clock>(
         Way::AtOnce => {
             let (sent, wakes) = channel.try_send(rt, pass, msg, priority);
             wake_all(rt, wakes);
-            sent.map_err(|error| match error {
-                TrySendError::Full(pair) => (Refusal::Blocked, pair),
-                TrySendError::Closed(pair) => (Refusal::Closed, pair),
-                TrySendError::Memory(pair) => (Refusal::Memory, pair),
-            })
+            sent.map_err(refused)
         }
         Way::InTime => channel
             .send_timeout(rt, pass, msg, priority, Duration::from_micros(LIMIT_MICROS))
@@ -119,6 +117,25 @@ fn send<J: Recording, R: Wait + Clock>(
                 SendFault::Closed(SendError(pair)) => (Refusal::Closed, pair),
                 SendFault::Memory(pair) => (Refusal::Memory, pair),
             }),
+    }
+}
+
+fn send_evicting<J: Recording, R: Wait>(
+    rt: &R,
+    channel: &Witnessed<u64, u64, Waiter<Global>, J>,
+    pass: &mut Pass<u64, u64, Waiter<Global>, J>,
+    pair: Pair,
+) -> Result<Option<Pair>, Refused> {
+    let (sent, wakes) = channel.try_send_evicting(rt, pass, pair.0, pair.1);
+    wake_all(rt, wakes);
+    sent.map_err(refused)
+}
+
+fn refused(error: TrySendError<Pair>) -> Refused {
+    match error {
+        TrySendError::Full(pair) => (Refusal::Blocked, pair),
+        TrySendError::Closed(pair) => (Refusal::Closed, pair),
+        TrySendError::Memory(pair) => (Refusal::Memory, pair),
     }
 }
 

@@ -30,6 +30,7 @@ impl Model {
     pub(super) fn make(&mut self, call: Call) -> Result<Reply, AllocError> {
         Ok(match call {
             Call::Send(_, pair) => Reply::Sent(self.send(pair)?),
+            Call::SendEvicting(pair) => Reply::Displaced(self.send_evicting(pair)?),
             Call::Sendv(pairs) => Reply::SentMany(self.send_many(pairs)?),
             Call::Recv(_) => Reply::Received(self.receive()),
             Call::Len => Reply::Number(self.pending.len() as u64),
@@ -57,6 +58,23 @@ impl Model {
             None => self.pending.push(pair)?,
         }
         Ok(Ok(()))
+    }
+
+    fn send_evicting(&mut self, pair: Pair) -> Result<Result<Option<Pair>, Refused>, AllocError> {
+        if self.is_closed || !self.is_full() {
+            return Ok(self.send(pair)?.map(|()| None));
+        }
+        match self.pending.pop() {
+            Some(least) if least.1 < pair.1 => {
+                let sent = self.send(pair)?;
+                Ok(sent.map(|()| Some(least)))
+            }
+            Some(least) => {
+                self.pending.push(least)?;
+                Ok(Err((Refusal::Blocked, pair)))
+            }
+            None => Ok(Err((Refusal::Blocked, pair))),
+        }
     }
 
     // Whatever is behind one that was refused is refused too.

@@ -13,6 +13,7 @@ pub(super) enum Way {
 #[derive(Clone, Copy, Debug, Drop, PartialEq, Eq)]
 pub(super) enum Call {
     Send(Way, Pair),
+    SendEvicting(Pair),
     Sendv([Pair; 3]),
     Recv(Way),
     Len,
@@ -37,6 +38,8 @@ pub(super) type Refused = (Refusal, Pair);
 #[derive(Clone, Copy, Debug, Drop, PartialEq, Eq)]
 pub(super) enum Reply {
     Sent(Result<(), Refused>),
+    /// What went for it.
+    Displaced(Result<Option<Pair>, Refused>),
     /// What came back, in order.
     SentMany([Option<Refused>; 3]),
     Received(Result<Pair, Refusal>),

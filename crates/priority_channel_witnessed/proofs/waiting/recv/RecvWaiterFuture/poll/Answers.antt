@@ -1,4 +1,4 @@
-use Rattle.std.proofs.Common.{rules, refl}
+use Rattle.std.proofs.Common.{rules}
 use Rattle.priority_channel_witnessed.proofs.Waits.{on_pending, receives_later}
 use Rattle.priority_channel_witnessed.proofs.waiting.recv.RecvWaiterFuture.poll.Goals as goal
 

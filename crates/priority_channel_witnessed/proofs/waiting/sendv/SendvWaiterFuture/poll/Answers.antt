@@ -1,4 +1,4 @@
-use Rattle.std.proofs.Common.{rules, refl}
+use Rattle.std.proofs.Common.{rules}
 use Rattle.priority_channel_witnessed.proofs.Waits.{on_err, sends_on_later, waits_on}
 use Rattle.priority_channel_witnessed.proofs.waiting.sendv.SendvWaiterFuture.poll.Goals as goal
 

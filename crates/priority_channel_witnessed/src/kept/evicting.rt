@@ -1,0 +1,39 @@
+//! A send that makes room in a full channel.
+ghost use Rattle.std.specs.Prelude.{◌≡◌, ◌+◌};
+ghost use Rattle.priority_channel_witnessed.specs.History.{entry};
+ghost use Rattle.priority_channel_witnessed.specs.Passes.{IsTold};
+
+use crate::entry::Told;
+use crate::kept::Kept;
+use crate::log::{Log, Recording};
+use crate::pass::Pass;
+use priority_channel_core::awaitable_atomics::Wakes;
+use priority_channel_core::calls::{Answer, Call};
+use priority_channel_core::errors::TrySendError;
+use std::alloc::Allocator;
+use std::snapshot::Snapshot;
+use std::sync::Wait;
+
+impl<T, P: Ord, W: Clone, J: Recording, A: Allocator + Copy> Kept<T, P, W, J, A> {
+    pub(crate) fn try_send_evicting<R: Wait>(
+        &mut self,
+        rt: &R,
+        log: &Log<T, P, W, J>,
+        pass: &mut Pass<T, P, W, J>,
+        msg: T,
+        priority: P,
+    ) -> (Result<Option<(T, P)>, TrySendError<(T, P)>>, Wakes<W, A>)
+        ensures number { pass.new.number ≡ pass.old.number }
+        ensures counted { pass.new.count ≡ pass.old.count + 1 }
+        ensures told { IsTold P.cmp W.is_clone J.capacity J.is_reserved pass.old
+            (entry pass.old.number (Call.TrySendEvicting msg priority)
+            (Answer.TrySendEvicting result.0) result.1) pass.new }
+    {
+        let (kept_msg, kept_priority) = (Snapshot::of(&msg), Snapshot::of(&priority));
+        let (sent, wakes) = self.core.try_send_evicting(msg, priority);
+        let told = Told::TrySendEvicting(kept_msg, kept_priority, Snapshot::of(&sent));
+        let handed = Some(Snapshot::of(&wakes));
+        self.journal.enter(rt, log, &self.core, pass, told, handed);
+        (sent, wakes)
+    }
+}

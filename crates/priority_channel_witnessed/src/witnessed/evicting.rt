@@ -1,0 +1,36 @@
+//! A send that makes room in a full channel.
+ghost use Rattle.std.specs.Prelude.{◌≡◌, ◌+◌};
+ghost use Rattle.priority_channel_witnessed.specs.History.{entry};
+ghost use Rattle.priority_channel_witnessed.specs.Passes.{IsTold};
+
+use crate::log::Recording;
+use crate::pass::Pass;
+use crate::witnessed::Witnessed;
+use priority_channel_core::awaitable_atomics::Wakes;
+use priority_channel_core::calls::{Answer, Call};
+use priority_channel_core::errors::TrySendError;
+use std::alloc::Allocator;
+use std::sync::Wait;
+
+impl<T, P: Ord, W: Clone, J: Recording, A: Allocator + Copy> Witnessed<T, P, W, J, A> {
+    /// Sends a pair, and into a full channel in place of the last accepted of the least urgent
+    /// pairs, if the new one is more urgent: then that comes back. Else the new one does, as
+    /// `Full`.
+    pub fn try_send_evicting<R: Wait>(
+        &self,
+        rt: &R,
+        pass: &mut Pass<T, P, W, J>,
+        msg: T,
+        priority: P,
+    ) -> (Result<Option<(T, P)>, TrySendError<(T, P)>>, Wakes<W, A>)
+        ensures number { pass.new.number ≡ pass.old.number }
+        ensures counted { pass.new.count ≡ pass.old.count + 1 }
+        ensures told { IsTold P.cmp W.is_clone J.capacity J.is_reserved pass.old
+            (entry pass.old.number (Call.TrySendEvicting msg priority)
+            (Answer.TrySendEvicting result.0) result.1) pass.new }
+    {
+        self.kept
+            .lock(rt)
+            .try_send_evicting(rt, &self.log, pass, msg, priority)
+    }
+}
