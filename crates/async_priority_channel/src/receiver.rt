@@ -20,7 +20,7 @@ use std::sync::Wait;
 /// | a message | `try_recv` | `recv_blocking` | `recv_timeout`, `recv_deadline` | `recv` |
 /// | many messages | `try_recv_many` | `recv_many_blocking` | | `recv_many` |
 /// | one after another | `try_iter` | `iter`, `for pair in &rx`, `for pair in rx` | | `stream`, `into_stream` |
-/// | one that a test chooses | `take_where` | | | |
+/// | what a test chooses | `take_where`, `retain` | | | |
 /// | a look | `peek_priority`, `peek_with` | | | |
 ///
 /// Beside them: `close`, `close_on_drop`, `downgrade`, `same_channel`, `clone`, and the looks
@@ -35,9 +35,9 @@ use std::sync::Wait;
 /// other threads, lent to them, and cloned: each message goes to one receiver. The channel closes
 /// when its last receiver is dropped.
 ///
-/// Of its user's code the channel calls under the lock the order of priorities, what `peek_with`
-/// and `take_where` are given, and the clone of a priority that `peek_priority` makes. These must
-/// neither use the channel nor own a handle of it.
+/// Of its user's code the channel calls under the lock the order of priorities, what `peek_with`,
+/// `take_where` and `retain` are given, and the clone of a priority that `peek_priority` makes.
+/// These must neither use the channel nor own a handle of it.
 ///
 /// What is pending then stays in memory as long as there is a handle of the channel, and with it
 /// what the messages own: a client that waits for the answer to a request that nobody will receive

@@ -174,6 +174,10 @@ impl<T, P: Ord, R: Wait + Clone, A: Allocator + Copy> Handle<T, P, R, A> {
         &self.rt
     }
 
+    pub fn alloc(&self) -> A {
+        self.shared.alloc
+    }
+
     /// The waiter of a party, which is made where it waits for the first time. None where memory
     /// was refused.
     pub fn waiter_in<'k>(&self, waiter: &'k mut Option<Waiter<A>>) -> Option<&'k Waiter<A>> {

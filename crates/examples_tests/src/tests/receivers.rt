@@ -171,3 +171,15 @@ fn a_test_chooses_what_is_taken_out(rt: HostRuntime) -> Result<(), Fail> {
     expect_equal(&rt, rx.try_recv(), Ok(("test", 3)));
     Ok(())
 }
+
+#[test]
+fn a_test_chooses_what_is_kept(rt: HostRuntime) -> Result<(), Fail> {
+    let (tx, rx) = unbounded(&rt, rt.alloc())?;
+    let jobs = [("compile", 2), ("link", 1), ("test", 3)];
+    tx.try_sendv(jobs.into_iter().peekable())?;
+    let cancelled = rx.retain(|job, _| *job != "link")?;
+    expect_equal(&rt, cancelled.as_slice(), [("link", 1)].as_slice());
+    expect_equal(&rt, rx.try_recv(), Ok(("test", 3)));
+    expect_equal(&rt, rx.len(), 1);
+    Ok(())
+}

@@ -24,17 +24,25 @@ fn a_full_channel_asks_for_none(rt: HostRuntime) -> Result<(), Fail> {
     Ok(())
 }
 
-// Each request is refused in turn: the pair comes back, and nothing pending is displaced for it.
+// Each request is refused in turn: the pair comes back, and nothing pending goes for it.
 #[test]
 fn with_room_it_is_refused_as_any_send(rt: HostRuntime) -> Result<(), Fail> {
     let alloc = Refusing::new(rt.alloc());
-    let (tx, rx) = bounded(&rt, &alloc, 9)?;
-    alloc.refuse_all();
-    let refused = tx.try_send_evicting('a', 7);
-    expect_equal(&rt, refused, Err(TrySendError::Memory(('a', 7))));
-    expect_equal(&rt, rx.len(), 0);
-    alloc.refuse_none();
-    expect_equal(&rt, tx.try_send_evicting('a', 7), Ok(None));
-    expect_equal(&rt, rx.try_recv(), Ok(('a', 7)));
+    for round in alloc.rounds() {
+        let n = round?;
+        let (tx, rx) = bounded(&rt, &alloc, 9)?;
+        alloc.refuse_nth(n);
+        let mut refused = 0;
+        for priority in 0..9u64 {
+            let sent = tx.try_send_evicting('a', priority);
+            if sent != Ok(None) {
+                expect_equal(&rt, sent, Err(TrySendError::Memory(('a', priority))));
+                refused = 1;
+            }
+        }
+        let met_none = alloc.refuse_none();
+        expect_equal(&rt, refused == 0, met_none);
+        expect_equal(&rt, rx.len(), 9 - refused);
+    }
     Ok(())
 }

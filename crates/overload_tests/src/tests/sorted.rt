@@ -8,11 +8,13 @@ const CALLS: u64 = 3000;
 
 type Core = PriorityQueueChannel<u64, u64, ()>;
 
+type Pairs = Vec<(u64, u64)>;
+
 /// The pending pairs of a channel in the order of their acceptance.
 #[derive(Drop)]
 struct Plain {
     capacity: usize,
-    pending: Vec<(u64, u64)>,
+    pending: Pairs,
 }
 
 impl Plain {
@@ -86,11 +88,26 @@ impl Plain {
         let place = self.pending.iter().position(|pair| pair.0 == msg)?;
         Some(self.remove(place))
     }
+
+    fn retain(&mut self, test: impl Fn(&u64) -> bool, alloc: Global) -> Result<Pairs, AllocError> {
+        let mut kept = Vec::new(alloc);
+        let mut taken = Vec::new(alloc);
+        for pair in self.pending.iter() {
+            if test(&pair.0) {
+                kept.push(*pair)?;
+            } else {
+                taken.push(*pair)?;
+            }
+        }
+        self.pending = kept;
+        Ok(taken)
+    }
 }
 
 /// A core, and the plain list beside it.
 #[derive(Drop)]
 struct Beside {
+    alloc: Global,
     core: Core,
     plain: Plain,
     drawn: u64,
@@ -120,10 +137,11 @@ impl Beside {
 
     /// Makes a call on both. Tells whether they answered alike.
     fn agree(&mut self) -> Result<bool, AllocError> {
-        match self.draw_below(9) {
-            0..=2 => self.agree_to_send(),
-            3..=5 => self.agree_to_make_room(),
-            6 => self.agree_to_take(),
+        match self.draw_below(20) {
+            0..=6 => self.agree_to_send(),
+            7..=12 => self.agree_to_make_room(),
+            13..=14 => self.agree_to_take(),
+            15 => self.agree_to_retain(),
             _ => Ok(unwoken(self.core.try_recv()) == self.plain.receive()),
         }
     }
@@ -154,6 +172,16 @@ impl Beside {
         let taken = unwoken(self.core.take_where(&|msg, _| *msg == wanted));
         Ok(taken == self.plain.take(wanted))
     }
+
+    // All but those of which the number leaves this rest.
+    fn agree_to_retain(&mut self) -> Result<bool, AllocError> {
+        let rest = self.draw_below(8);
+        let mut taken = Vec::with_capacity(self.alloc, self.core.len() as usize)?;
+        let wakes = self.core.retain(&|msg, _| *msg % 8 != rest, &mut taken);
+        unwoken(((), wakes));
+        let wanted = self.plain.retain(|msg| *msg % 8 != rest, self.alloc)?;
+        Ok(taken.len() == wanted.len() && wanted.iter().all(|pair| taken.contains(pair)))
+    }
 }
 
 #[test]
@@ -161,6 +189,7 @@ fn the_core_answers_as_a_plain_list(rt: HostRuntime) -> Result<(), AllocError> {
     for capacity in [1u64, 2, 3, 6, 40, 200] {
         for spread in [1, 2, 5, 1 << 30] {
             let mut beside = Beside {
+                alloc: rt.alloc(),
                 core: Core::bounded(rt.alloc(), capacity),
                 plain: Plain {
                     capacity: capacity as usize,

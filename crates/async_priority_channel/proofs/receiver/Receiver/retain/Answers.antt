@@ -1,0 +1,6 @@
+use Rattle.async_priority_channel.proofs.receiver.Receiver.retain.Goals as goal
+
+pub returns : goal.returns
+returns g c =
+    let taken = c.retain-wakes.ensures.taken in
+    rw (taken.1, c.in_ok-taken.ensures.items) taken.3
