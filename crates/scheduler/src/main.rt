@@ -1,21 +1,19 @@
 //! Reads requests with deadlines from standard input, and prints what became of each.
 //!
-//! A line is a request: its name, its deadline, and how long it takes. Requests of lines in a row
-//! come at once, and after an empty line no more come until these are answered. Times are ticks of
-//! the server's clock, which goes on only as it works: so what is printed is the same however the
-//! threads run.
+//! A line is a request: its name, its deadline, and how long it takes; or `cancel` and the name of
+//! one that is not wanted any more. After an empty line, and at the end, the server has its turn,
+//! and serves those that wait. Only a few can: of more, those of the latest deadlines are shed.
+//! Times are ticks of the server's clock, which goes on only as it works: so what is printed is the
+//! same however the threads run.
 #![tactic(auto)]
 
-mod clients;
+mod desk;
 mod request;
 mod server;
 #[cfg(test)]
 mod tests;
 
-use async_priority_channel::bounded;
-use clients::{Wish, ask};
-use request::Requests;
-use server::serve;
+use desk::{Desk, Wish};
 use std::alloc::AllocGlobal;
 use std::sync::Wait;
 use std::thread;
@@ -28,38 +26,36 @@ const ROOM: u64 = 4;
 const PATIENCE: u64 = 10;
 
 fn main(rt: HostRuntime) -> anyhow::Result<()> {
-    let (requests, queue) = bounded(&rt, rt.alloc(), ROOM)?;
-    let server = thread::spawn(&rt, move || serve(&queue))?;
-    let asked = ask_all(&rt, &requests);
-    drop(requests); // closes the queue, which ends the server
-    server.join(&rt);
+    let (mut desk, server) = Desk::open(&rt, ROOM)?;
+    let serving = thread::spawn(&rt, move || server.serve())?;
+    let asked = ask_all(&rt, &mut desk);
+    drop(desk); // no turn comes any more, which ends the server
+    serving.join(&rt);
     asked
 }
 
-fn ask_all<R>(rt: &R, requests: &Requests<R>) -> anyhow::Result<()>
+fn ask_all<R>(rt: &R, desk: &mut Desk<R>) -> anyhow::Result<()>
 where
     R: Wait + Clone + Clock + Input + Print + AllocGlobal,
 {
-    let mut wishes = Vec::new(rt.alloc());
     for line in rt.lines(rt.alloc()) {
         let line = line?;
-        if line.is_empty() {
-            ask_and_print(rt, requests, &wishes)?;
-            wishes.clear();
-        } else {
-            wishes.push(Wish::parse(rt.alloc(), &line)?)?;
+        let words: Vec<&str> = line.split_whitespace().collect(rt.alloc())?;
+        match words.as_slice() {
+            [] => print_answers(rt, desk)?,
+            ["cancel", name] => desk.cancel(name)?,
+            words => desk.ask(rt, Wish::parse(rt.alloc(), words)?)?,
         }
     }
-    ask_and_print(rt, requests, &wishes)
+    print_answers(rt, desk)
 }
 
-fn ask_and_print<R>(rt: &R, requests: &Requests<R>, wishes: &[Wish]) -> anyhow::Result<()>
+fn print_answers<R>(rt: &R, desk: &mut Desk<R>) -> anyhow::Result<()>
 where
     R: Wait + Clone + Clock + Print + AllocGlobal,
 {
-    let answers = ask(rt, requests, wishes, Duration::from_secs(PATIENCE))?;
-    for (wish, answer) in wishes.iter().zip(&answers) {
-        println!(rt; "{}: {answer}", wish.name)?;
+    for (name, answer) in desk.answers(rt, Duration::from_secs(PATIENCE))? {
+        println!(rt; "{name}: {answer}")?;
     }
     Ok(())
 }

@@ -1,10 +1,9 @@
-//! What becomes of requests: which is served first, which is late, and which finds no room.
-use crate::clients::{Wish, ask};
+//! What becomes of requests: which is served first, which is late, which is shed or cancelled.
+use crate::desk::{Desk, Wish};
 use crate::request::Answer;
-use crate::server::serve;
+use crate::server::Server;
 use anyhow::bail;
-use async_priority_channel::bounded;
-use std::alloc::{AllocError, AllocGlobal, Global};
+use std::alloc::{AllocGlobal, Global};
 use std::sync::Wait;
 use std::test::Fail;
 use std::thread::{self, Threads};
@@ -16,16 +15,12 @@ const PATIENCE: u64 = 10;
 // A deadline, and how long the request takes.
 type Case<'a> = &'a [(u64, u64)];
 
-fn wish_all(alloc: Global, case: Case<'_>) -> Result<Vec<Wish>, AllocError> {
-    let mut wishes = Vec::new(alloc);
-    for (deadline, work) in case {
-        wishes.push(Wish {
-            name: String::from_str(alloc, "mail")?,
-            deadline: *deadline,
-            work: *work,
-        })?;
-    }
-    Ok(wishes)
+fn wish(alloc: Global, name: &str, (deadline, work): (u64, u64)) -> anyhow::Result<Wish> {
+    Ok(Wish {
+        name: String::from_str(alloc, name)?,
+        deadline,
+        work,
+    })
 }
 
 // The answers to requests that find so much room, of a server that has just begun.
@@ -36,23 +31,32 @@ where
     if room == 0 {
         bail!("no room at all");
     }
-    let (requests, queue) = bounded(rt, rt.alloc(), room)?;
-    let server = thread::spawn(rt, move || serve(&queue))?;
-    let answers = ask(
-        rt,
-        &requests,
-        &wish_all(rt.alloc(), case)?,
-        Duration::from_secs(PATIENCE),
-    );
-    drop(requests);
-    server.join(rt);
-    answers
+    let (mut desk, server) = Desk::open(rt, room)?;
+    for request in case {
+        desk.ask(rt, wish(rt.alloc(), "mail", *request)?)?;
+    }
+    answers_of(rt, desk, server)
+}
+
+fn answers_of<R>(rt: &R, mut desk: Desk<R>, server: Server<R>) -> anyhow::Result<Vec<Answer>>
+where
+    R: Threads + Wait + Copy + Clock + AllocGlobal + Send + 'static,
+{
+    let serving = thread::spawn(rt, move || server.serve())?;
+    let answered = desk.answers(rt, Duration::from_secs(PATIENCE));
+    drop(desk);
+    serving.join(rt);
+    let mut answers = Vec::new(rt.alloc());
+    for (_, answer) in answered? {
+        answers.push(answer)?;
+    }
+    Ok(answers)
 }
 
 #[test]
 fn each_request_has_its_answer(rt: HostRuntime) -> Result<(), Fail> {
     let at = |at| Answer::Served { at };
-    let cases: [(u64, Case<'_>, &[Answer]); 7] = [
+    let cases: [(u64, Case<'_>, &[Answer]); 8] = [
         (4, &[], &[]),
         (
             4,
@@ -69,12 +73,13 @@ fn each_request_has_its_answer(rt: HostRuntime) -> Result<(), Fail> {
             &[(4, 5), (u64::MAX, u64::MAX), (9, 2)],
             &[Answer::Late, Answer::Late, at(2)],
         ),
-        // There is room for the first, however urgent those behind them are.
-        (2, &[(8, 1), (9, 1), (1, 1)], &[at(1), at(2), Answer::Busy]),
+        // Of more than there is room for the latest deadline is shed.
+        (2, &[(8, 1), (9, 1), (1, 1)], &[at(2), Answer::Busy, at(1)]),
+        (2, &[(8, 1), (9, 1), (10, 1)], &[at(1), at(2), Answer::Busy]),
         (
             1,
-            &[(8, 1), (9, 1), (1, 1)],
-            &[at(1), Answer::Busy, Answer::Busy],
+            &[(8, 1), (8, 1), (1, 1)],
+            &[Answer::Busy, Answer::Busy, at(1)],
         ),
     ];
     for (room, case, expected) in cases {
@@ -84,43 +89,67 @@ fn each_request_has_its_answer(rt: HostRuntime) -> Result<(), Fail> {
 }
 
 #[test]
-fn a_client_waits_no_longer_than_its_patience(rt: HostRuntime) -> Result<(), Fail> {
-    let (requests, _idle) = bounded(&rt, rt.alloc(), 1)?;
-    let wishes = wish_all(rt.alloc(), &[(9, 1)])?;
-    let asked = ask(&rt, &requests, &wishes, Duration::from_millis(20));
-    let error = asked.expect_err(&rt, "nobody serves");
-    assert_eq!(rt; error.to_string(rt.alloc())?.as_str(), "no answer to mail");
-    // It was sent, and nobody has taken it.
-    assert!(rt; requests.is_full());
+fn what_is_cancelled_leaves_its_room(rt: HostRuntime) -> Result<(), Fail> {
+    let (mut desk, server) = Desk::open(&rt, 2)?;
+    desk.ask(&rt, wish(rt.alloc(), "mail", (5, 1))?)?;
+    desk.ask(&rt, wish(rt.alloc(), "mail", (9, 2))?)?;
+    // The last of this name, and nothing more once it has gone.
+    desk.cancel("mail")?;
+    desk.cancel("mail")?;
+    desk.ask(&rt, wish(rt.alloc(), "scan", (20, 1))?)?;
+    let unknown = desk.cancel("page").expect_err(&rt, "nobody asked for it");
+    assert_eq!(rt;
+        unknown.to_string(rt.alloc())?.as_str(),
+        "nobody has asked for page"
+    );
+    let answers = answers_of(&rt, desk, server)?;
+    let (mail, scan) = (Answer::Served { at: 1 }, Answer::Served { at: 2 });
+    assert_eq!(rt;
+        answers.as_slice(),
+        [mail, Answer::Cancelled, scan].as_slice()
+    );
     Ok(())
 }
 
 #[test]
-fn a_server_that_has_gone_takes_nothing(rt: HostRuntime) -> Result<(), Fail> {
-    let (requests, queue) = bounded(&rt, rt.alloc(), 1)?;
-    drop(queue);
-    let wishes = wish_all(rt.alloc(), &[(9, 1)])?;
-    let error = ask(&rt, &requests, &wishes, Duration::from_secs(PATIENCE)).expect_err(
-        &rt,
-        "nobody is there",
-    );
+fn a_client_waits_no_longer_than_its_patience(rt: HostRuntime) -> Result<(), Fail> {
+    let (mut desk, _idle) = Desk::open(&rt, 1)?;
+    desk.ask(&rt, wish(rt.alloc(), "mail", (9, 1))?)?;
+    let answered = desk.answers(&rt, Duration::from_millis(20));
+    let error = answered.expect_err(&rt, "nobody serves");
+    assert_eq!(rt; error.to_string(rt.alloc())?.as_str(), "no answer to mail");
+    Ok(())
+}
+
+#[test]
+fn a_server_that_has_gone_has_no_turn(rt: HostRuntime) -> Result<(), Fail> {
+    let (mut desk, server) = Desk::open(&rt, 1)?;
+    drop(server);
+    let answered = desk.answers(&rt, Duration::from_secs(PATIENCE));
+    let error = answered.expect_err(&rt, "nobody is there");
     assert_eq!(rt;
         error.to_string(rt.alloc())?.as_str(),
         "the server has gone"
     );
-    assert!(rt; requests.is_empty());
     Ok(())
 }
 
 #[test]
 fn a_line_is_a_wish(rt: HostRuntime) -> Result<(), Fail> {
-    let wish = Wish::parse(rt.alloc(), " mail  6 2")?;
+    let wish = Wish::parse(rt.alloc(), &["mail", "6", "2"])?;
     assert_eq!(rt;
         (wish.name.as_str(), wish.deadline, wish.work),
         ("mail", 6, 2)
     );
-    for line in ["mail", "mail 6", "mail 6 2 1", "mail 6 -2", "mail 6 soon"] {
-        assert!(rt; Wish::parse(rt.alloc(), line).is_err(), "{line}");
+    let others: [&[&str]; 5] = [
+        &["mail"],
+        &["mail", "6"],
+        &["mail", "6", "2", "1"],
+        &["mail", "6", "-2"],
+        &["mail", "6", "soon"],
+    ];
+    for words in others {
+        assert!(rt; Wish::parse(rt.alloc(), words).is_err(), "{words:?}");
     }
     Ok(())
 }
