@@ -48,8 +48,8 @@ impl<T, P: Ord, R: Wait + Clone, A: Allocator + Copy> Receiver<T, P, R, A> {
     ///
     /// Memory for as many messages as are pending is had first; where it is refused, nothing has
     /// changed, and the test was not asked. Where a message is taken out, those who wait for room
-    /// are woken. Beside the tests it compares priorities at most as often as the messages that it
-    /// keeps have binary digits of their number, each.
+    /// are woken. Beside the tests it compares priorities, for each message that it keeps at most as
+    /// often as the number of these has binary digits.
     ///
     /// ```
     /// let (tx, rx) = unbounded(&rt, rt.alloc())?;
