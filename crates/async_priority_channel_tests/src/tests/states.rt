@@ -39,7 +39,7 @@ fn waits<R: Drop>(polled: (Poll<R>, Wakes<u64>)) -> bool {
 
 // How many pairs came back from a closed channel.
 fn closed_with(
-    poll: Poll<Result<(), SendFault<Peekable<IntoIter<(&str, u64)>>>>>,
+    poll: Poll<Result<(), SendFault<Peekable<IntoIter<(char, u64)>>>>>,
 ) -> Option<usize> {
     match poll {
         Poll::Ready(Err(SendFault::Closed(SendError(rest)))) => Some(rest.count()),
@@ -49,15 +49,15 @@ fn closed_with(
 
 #[test]
 fn a_bulk_send_goes_on_as_room_comes(rt: HostRuntime) -> Result<(), AllocError> {
-    let mut core: Core<&str> = Core::bounded(rt.alloc(), 2);
-    let pairs = vec![in rt.alloc(); ("a", 1), ("b", 2), ("c", 3), ("d", 4), ("e", 5)]?;
+    let mut core: Core<char> = Core::bounded(rt.alloc(), 2);
+    let pairs = vec![in rt.alloc(); ('a', 1), ('b', 2), ('c', 3), ('d', 4), ('e', 5)]?;
     let mut state = SendvState::new(pairs.into_iter().peekable());
     assert!(rt; waits(state.poll_on(&mut core, &7)));
     expect_equal(&rt, state.ticket(), Some(0));
     expect_equal(&rt, core.len(), 2);
 
     let (reply, handed) = receive(&mut core);
-    assert!(rt; matches!(reply, Ok(("b", 2))));
+    assert!(rt; matches!(reply, Ok(('b', 2))));
     expect_equal(&rt, handed.0.as_slice(), [(0, 7)].as_slice());
     assert!(rt; handed.1.is_empty());
 
@@ -66,7 +66,7 @@ fn a_bulk_send_goes_on_as_room_comes(rt: HostRuntime) -> Result<(), AllocError> 
     expect_equal(&rt, core.len(), 2);
 
     let (reply, handed) = receive(&mut core);
-    assert!(rt; matches!(reply, Ok(("c", 3))));
+    assert!(rt; matches!(reply, Ok(('c', 3))));
     expect_equal(&rt, handed.0.as_slice(), [(1, 8)].as_slice());
 
     let (was_open, handed) = close(&mut core);
@@ -80,7 +80,7 @@ fn a_bulk_send_goes_on_as_room_comes(rt: HostRuntime) -> Result<(), AllocError> 
     expect_equal(&rt, state.ticket(), None);
 
     let (reply, _) = receive(&mut core);
-    assert!(rt; matches!(reply, Ok(("a", 1))));
+    assert!(rt; matches!(reply, Ok(('a', 1))));
     let (reply, _) = receive(&mut core);
     assert!(rt; matches!(reply, Err(TryRecvError::Closed)));
     Ok(())
@@ -88,12 +88,12 @@ fn a_bulk_send_goes_on_as_room_comes(rt: HostRuntime) -> Result<(), AllocError> 
 
 #[test]
 fn a_bulk_send_of_nothing_waits_for_room(rt: HostRuntime) {
-    let mut core: Core<&str> = Core::bounded(rt.alloc(), 1);
-    let (reply, wakes) = core.try_send("x", 5);
+    let mut core: Core<char> = Core::bounded(rt.alloc(), 1);
+    let (reply, wakes) = core.try_send('x', 5);
     assert!(rt; reply.is_ok());
     assert!(rt; is_nobody(&wakes.into_lists()));
 
-    let nothing: Vec<(&str, u64)> = Vec::new(rt.alloc());
+    let nothing: Vec<(char, u64)> = Vec::new(rt.alloc());
     let mut state = SendvState::new(nothing.into_iter().peekable());
     assert!(rt; waits(state.poll_on(&mut core, &1)));
     expect_equal(&rt, state.ticket(), Some(0));
@@ -113,8 +113,8 @@ fn a_bulk_send_of_nothing_waits_for_room(rt: HostRuntime) {
 
 #[test]
 fn what_a_bulk_send_sent_stays(rt: HostRuntime) {
-    let mut core: Core<&str> = Core::bounded(rt.alloc(), 1);
-    let mut state = SendvState::new([("a", 1), ("b", 2)].into_iter().peekable());
+    let mut core: Core<char> = Core::bounded(rt.alloc(), 1);
+    let mut state = SendvState::new([('a', 1), ('b', 2)].into_iter().peekable());
     assert!(rt; waits(state.poll_on(&mut core, &1)));
     expect_equal(&rt, core.len(), 1);
     let left = match state.give_up_on(&mut core) {
@@ -125,7 +125,7 @@ fn what_a_bulk_send_sent_stays(rt: HostRuntime) {
     assert!(rt; state.is_done());
 
     let (reply, handed) = receive(&mut core);
-    assert!(rt; matches!(reply, Ok(("a", 1))));
+    assert!(rt; matches!(reply, Ok(('a', 1))));
     assert!(rt; is_nobody(&handed));
     let (reply, _) = receive(&mut core);
     assert!(rt; matches!(reply, Err(TryRecvError::Empty)));

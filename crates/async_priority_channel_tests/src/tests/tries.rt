@@ -22,18 +22,18 @@ fn sendv<T: Drop, R: Wait + Clone>(
 #[test]
 fn the_greatest_priority_comes_first(rt: HostRuntime) -> Result<(), AllocError> {
     let (tx, rx) = unbounded(&rt, rt.alloc())?;
-    expect_equal(&rt, tx.try_send("Foo", 0u64), Ok(()));
-    expect_equal(&rt, tx.try_send("Bar", 2), Ok(()));
-    expect_equal(&rt, tx.try_send("Baz", 1), Ok(()));
-    expect_equal(&rt, rx.try_recv(), Ok(("Bar", 2)));
+    expect_equal(&rt, tx.try_send('f', 0u64), Ok(()));
+    expect_equal(&rt, tx.try_send('b', 2), Ok(()));
+    expect_equal(&rt, tx.try_send('z', 1), Ok(()));
+    expect_equal(&rt, rx.try_recv(), Ok(('b', 2)));
     Ok(())
 }
 
 #[test]
 fn a_message_comes_out(rt: HostRuntime) -> Result<(), AllocError> {
     let (tx, rx) = bounded(&rt, rt.alloc(), 1)?;
-    expect_equal(&rt, tx.try_send("Foo", 0u64), Ok(()));
-    expect_equal(&rt, rx.try_recv(), Ok(("Foo", 0)));
+    expect_equal(&rt, tx.try_send('f', 0u64), Ok(()));
+    expect_equal(&rt, rx.try_recv(), Ok(('f', 0)));
     Ok(())
 }
 
@@ -147,14 +147,14 @@ fn sends_as_far_as_there_is_room(rt: HostRuntime) -> Result<(), AllocError> {
     let (tx, rx) = bounded(&rt, rt.alloc(), 10)?;
     expect_equal(
         &rt,
-        sendv(&tx, vec![in rt.alloc(); ("a", 0), ("b", 1)]?),
+        sendv(&tx, vec![in rt.alloc(); ('a', 0), ('b', 1)]?),
         Ok(()),
     );
-    expect_equal(&rt, rx.try_recv(), Ok(("b", 1)));
-    expect_equal(&rt, rx.try_recv(), Ok(("a", 0)));
+    expect_equal(&rt, rx.try_recv(), Ok(('b', 1)));
+    expect_equal(&rt, rx.try_recv(), Ok(('a', 0)));
     let mut many = Vec::new(rt.alloc());
     for _ in 0..100 {
-        many.push(("a", 0))?;
+        many.push(('a', 0))?;
     }
     expect_equal(&rt, sendv(&tx, many), Err(TrySendError::Full(90)));
     expect_equal(&rt, rx.len(), 10);
@@ -169,7 +169,7 @@ fn sends_nothing_into_a_closed_channel(rt: HostRuntime) -> Result<(), AllocError
     expect_equal(&rt, (tx.is_closed(), rx.is_closed()), (true, true));
     expect_equal(
         &rt,
-        sendv(&tx, vec![in rt.alloc(); ("a", 0), ("b", 1)]?),
+        sendv(&tx, vec![in rt.alloc(); ('a', 0), ('b', 1)]?),
         Err(TrySendError::Closed(2)),
     );
     Ok(())
@@ -180,7 +180,7 @@ fn just_filling_is_no_refusal(rt: HostRuntime) -> Result<(), AllocError> {
     let (tx, _rx) = bounded(&rt, rt.alloc(), 2)?;
     expect_equal(
         &rt,
-        sendv(&tx, vec![in rt.alloc(); ("a", 0), ("b", 1)]?),
+        sendv(&tx, vec![in rt.alloc(); ('a', 0), ('b', 1)]?),
         Ok(()),
     );
     Ok(())
@@ -193,9 +193,9 @@ fn a_greater_priority_is_refused_all_the_same(rt: HostRuntime) -> Result<(), All
         bounded_reserved(&rt, rt.alloc(), 1)?,
     ] {
         let (tx, rx) = ends;
-        expect_equal(&rt, tx.try_send("x", 5u64), Ok(()));
-        expect_equal(&rt, tx.try_send("y", 9), Err(TrySendError::Full(("y", 9))));
-        expect_equal(&rt, rx.try_recv(), Ok(("x", 5)));
+        expect_equal(&rt, tx.try_send('x', 5u64), Ok(()));
+        expect_equal(&rt, tx.try_send('y', 9), Err(TrySendError::Full(('y', 9))));
+        expect_equal(&rt, rx.try_recv(), Ok(('x', 5)));
         expect_equal(&rt, rx.try_recv(), Err(TryRecvError::Empty));
     }
     Ok(())
@@ -204,7 +204,7 @@ fn a_greater_priority_is_refused_all_the_same(rt: HostRuntime) -> Result<(), All
 #[test]
 fn an_empty_list_is_refused_where_a_pair_would_be(rt: HostRuntime) -> Result<(), AllocError> {
     let (tx, rx) = bounded(&rt, rt.alloc(), 1)?;
-    expect_equal(&rt, tx.try_send("x", 5u64), Ok(()));
+    expect_equal(&rt, tx.try_send('x', 5u64), Ok(()));
     expect_equal(
         &rt,
         sendv(&tx, Vec::new(rt.alloc())),

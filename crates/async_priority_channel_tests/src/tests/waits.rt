@@ -31,18 +31,18 @@ fn sendv<T: Drop, R: Wait + Clone + RandomSource + AllocGlobal>(
 #[test]
 fn the_greatest_priority_comes_first(rt: HostRuntime) -> Result<(), Fail> {
     let (tx, rx) = unbounded(&rt, rt.alloc())?;
-    expect_equal(&rt, block_on(&rt, tx.send("Foo", 0u64))?, Ok(()));
-    expect_equal(&rt, block_on(&rt, tx.send("Bar", 2))?, Ok(()));
-    expect_equal(&rt, block_on(&rt, tx.send("Baz", 1))?, Ok(()));
-    expect_equal(&rt, block_on(&rt, rx.recv())?, Ok(("Bar", 2)));
+    expect_equal(&rt, block_on(&rt, tx.send('f', 0u64))?, Ok(()));
+    expect_equal(&rt, block_on(&rt, tx.send('b', 2))?, Ok(()));
+    expect_equal(&rt, block_on(&rt, tx.send('z', 1))?, Ok(()));
+    expect_equal(&rt, block_on(&rt, rx.recv())?, Ok(('b', 2)));
     Ok(())
 }
 
 #[test]
 fn a_message_comes_out(rt: HostRuntime) -> Result<(), Fail> {
     let (tx, rx) = bounded(&rt, rt.alloc(), 1)?;
-    expect_equal(&rt, block_on(&rt, tx.send("Foo", 0u64))?, Ok(()));
-    expect_equal(&rt, block_on(&rt, rx.recv())?, Ok(("Foo", 0)));
+    expect_equal(&rt, block_on(&rt, tx.send('f', 0u64))?, Ok(()));
+    expect_equal(&rt, block_on(&rt, rx.recv())?, Ok(('f', 0)));
     Ok(())
 }
 
@@ -74,15 +74,15 @@ fn sends_many(rt: HostRuntime) -> Result<(), Fail> {
     let (tx, rx) = bounded(&rt, rt.alloc(), 10)?;
     expect_equal(
         &rt,
-        sendv(&rt, &tx, vec![in rt.alloc(); ("a", 0), ("b", 1)]?)?,
+        sendv(&rt, &tx, vec![in rt.alloc(); ('a', 0), ('b', 1)]?)?,
         Ok(()),
     );
-    expect_equal(&rt, block_on(&rt, rx.recv())?, Ok(("b", 1)));
-    expect_equal(&rt, block_on(&rt, rx.recv())?, Ok(("a", 0)));
+    expect_equal(&rt, block_on(&rt, rx.recv())?, Ok(('b', 1)));
+    expect_equal(&rt, block_on(&rt, rx.recv())?, Ok(('a', 0)));
     assert!(rt; rx.close());
     expect_equal(
         &rt,
-        sendv(&rt, &tx, vec![in rt.alloc(); ("a", 0), ("b", 1)]?)?,
+        sendv(&rt, &tx, vec![in rt.alloc(); ('a', 0), ('b', 1)]?)?,
         Err(SendFault::Closed(SendError(2))),
     );
     expect_equal(
@@ -110,9 +110,9 @@ fn the_last_sender_closes(rt: HostRuntime) -> Result<(), Fail> {
 #[test]
 fn a_dropped_send_sends_nothing(rt: HostRuntime) -> Result<(), Fail> {
     let (tx, rx) = bounded(&rt, rt.alloc(), 1)?;
-    expect_equal(&rt, tx.try_send("x", 1u64), Ok(()));
-    expect_equal(&rt, block_on(&rt, poll_immediate(tx.send("y", 2)))?, None);
-    expect_equal(&rt, rx.try_recv(), Ok(("x", 1)));
+    expect_equal(&rt, tx.try_send('x', 1u64), Ok(()));
+    expect_equal(&rt, block_on(&rt, poll_immediate(tx.send('y', 2)))?, None);
+    expect_equal(&rt, rx.try_recv(), Ok(('x', 1)));
     expect_equal(&rt, rx.try_recv(), Err(TryRecvError::Empty));
     Ok(())
 }
@@ -120,10 +120,10 @@ fn a_dropped_send_sends_nothing(rt: HostRuntime) -> Result<(), Fail> {
 #[test]
 fn what_a_dropped_bulk_send_sent_stays(rt: HostRuntime) -> Result<(), Fail> {
     let (tx, rx) = bounded(&rt, rt.alloc(), 1)?;
-    let sending = tx.sendv([("a", 1u64), ("b", 2)].into_iter().peekable());
+    let sending = tx.sendv([('a', 1u64), ('b', 2)].into_iter().peekable());
     assert!(rt; block_on(&rt, poll_immediate(sending))?.is_none());
     expect_equal(&rt, rx.len(), 1);
-    expect_equal(&rt, rx.try_recv(), Ok(("a", 1)));
+    expect_equal(&rt, rx.try_recv(), Ok(('a', 1)));
     expect_equal(&rt, rx.try_recv(), Err(TryRecvError::Empty));
     Ok(())
 }
@@ -132,7 +132,7 @@ fn what_a_dropped_bulk_send_sent_stays(rt: HostRuntime) -> Result<(), Fail> {
 fn a_dropped_receive_takes_nothing(rt: HostRuntime) -> Result<(), Fail> {
     let (tx, rx) = bounded(&rt, rt.alloc(), 1)?;
     expect_equal(&rt, block_on(&rt, poll_immediate(rx.recv()))?, None);
-    expect_equal(&rt, tx.try_send("x", 1u64), Ok(()));
+    expect_equal(&rt, tx.try_send('x', 1u64), Ok(()));
     expect_equal(&rt, rx.len(), 1);
     Ok(())
 }

@@ -61,13 +61,13 @@ fn a_receive_prints_why_it_has_no_message(rt: HostRuntime) -> Result<(), Fail> {
 #[test]
 fn a_send_tells_one_reason_and_gives_back(rt: HostRuntime) {
     for (error, told) in [
-        (SendTimeoutError::Timeout(("x", 3u64)), [true, false, false]),
-        (SendTimeoutError::Closed(("x", 3)), [false, true, false]),
-        (SendTimeoutError::Memory(("x", 3)), [false, false, true]),
+        (SendTimeoutError::Timeout(('x', 3u64)), [true, false, false]),
+        (SendTimeoutError::Closed(('x', 3)), [false, true, false]),
+        (SendTimeoutError::Memory(('x', 3)), [false, false, true]),
     ] {
         let tells = [error.is_timeout(), error.is_closed(), error.is_memory()];
         expect_equal_at(&rt, error, tells, told);
-        expect_equal(&rt, error.into_inner(), ("x", 3));
+        expect_equal(&rt, error.into_inner(), ('x', 3));
     }
 }
 
@@ -112,13 +112,13 @@ fn errors_are_equal_for_one_reason_and_one_message(rt: HostRuntime) {
 fn a_fault_is_a_reason_too(rt: HostRuntime) {
     expect_equal(
         &rt,
-        SendTimeoutError::from(SendFault::Closed(SendError(("x", 3u64)))),
-        SendTimeoutError::Closed(("x", 3)),
+        SendTimeoutError::from(SendFault::Closed(SendError(('x', 3u64)))),
+        SendTimeoutError::Closed(('x', 3)),
     );
     expect_equal(
         &rt,
-        SendTimeoutError::from(SendFault::Memory(("x", 3u64))),
-        SendTimeoutError::Memory(("x", 3)),
+        SendTimeoutError::from(SendFault::Memory(('x', 3u64))),
+        SendTimeoutError::Memory(('x', 3)),
     );
     expect_equal(
         &rt,

@@ -44,9 +44,9 @@ fn a_wait_for_a_message_may_be_refused(rt: HostRuntime) -> Result<(), Fail> {
         expect_equal_at(&rt, n, received, Err(wanted));
         // Nobody waits any more, and all goes on.
         expect_equal(&rt, (rx.sender_count(), rx.receiver_count()), (1, 1));
-        expect_equal_at(&rt, n, tx.try_send("x", 1u64), Ok(()));
+        expect_equal_at(&rt, n, tx.try_send('x', 1u64), Ok(()));
         expect_equal(&rt, rx.len(), 1);
-        expect_equal_at(&rt, n, rx.recv_timeout(a_while()), Ok(("x", 1)));
+        expect_equal_at(&rt, n, rx.recv_timeout(a_while()), Ok(('x', 1)));
     }
     Ok(())
 }
@@ -57,22 +57,22 @@ fn a_wait_for_room_may_be_refused(rt: HostRuntime) -> Result<(), Fail> {
     for round in alloc.rounds() {
         let n = round?;
         let (tx, rx) = bounded(&rt, &alloc, 1)?;
-        expect_equal(&rt, tx.try_send("x", 1u64), Ok(()));
+        expect_equal(&rt, tx.try_send('x', 1u64), Ok(()));
         alloc.refuse_nth(n);
-        let sent = tx.send_timeout("y", 2, a_while());
+        let sent = tx.send_timeout('y', 2, a_while());
         let met_none = alloc.refuse_none();
         expect_equal_at(&rt, n, met_none, n == NOT_MET);
         let wanted = if met_none {
-            SendTimeoutError::Timeout(("y", 2))
+            SendTimeoutError::Timeout(('y', 2))
         } else {
-            SendTimeoutError::Memory(("y", 2))
+            SendTimeoutError::Memory(('y', 2))
         };
         expect_equal_at(&rt, n, sent, Err(wanted));
         expect_equal(&rt, (tx.sender_count(), tx.receiver_count()), (1, 1));
-        expect_equal(&rt, rx.try_recv(), Ok(("x", 1)));
+        expect_equal(&rt, rx.try_recv(), Ok(('x', 1)));
         expect_equal_at(&rt, n, rx.try_recv(), Err(TryRecvError::Empty));
-        expect_equal_at(&rt, n, tx.send_timeout("y", 2, a_while()), Ok(()));
-        expect_equal(&rt, rx.try_recv(), Ok(("y", 2)));
+        expect_equal_at(&rt, n, tx.send_timeout('y', 2, a_while()), Ok(()));
+        expect_equal(&rt, rx.try_recv(), Ok(('y', 2)));
     }
     Ok(())
 }
@@ -84,7 +84,7 @@ fn a_wait_for_much_room_may_be_refused(rt: HostRuntime) -> Result<(), Fail> {
         let n = round?;
         let (tx, rx) = bounded_reserved(&rt, &alloc, 2)?;
         alloc.refuse_nth(n);
-        let msgs = [("x", 1u64), ("y", 2), ("z", 3), ("w", 4)];
+        let msgs = [('x', 1u64), ('y', 2), ('z', 3), ('w', 4)];
         let sent = tx.sendv_timeout(msgs.into_iter().peekable(), a_while());
         let met_none = alloc.refuse_none();
         expect_equal_at(&rt, n, met_none, n == NOT_MET);
@@ -94,12 +94,12 @@ fn a_wait_for_much_room_may_be_refused(rt: HostRuntime) -> Result<(), Fail> {
         expect_equal_at(&rt, n, error.is_timeout(), met_none);
         expect_equal_at(&rt, n, error.is_memory(), !met_none);
         // What was sent stays sent, and the tail can be sent again.
-        expect_equal(&rt, rx.try_recv(), Ok(("y", 2)));
-        expect_equal(&rt, rx.try_recv(), Ok(("x", 1)));
+        expect_equal(&rt, rx.try_recv(), Ok(('y', 2)));
+        expect_equal(&rt, rx.try_recv(), Ok(('x', 1)));
         expect_equal(&rt, rx.try_recv(), Err(TryRecvError::Empty));
         assert!(rt; tx.try_sendv(error.into_inner()).is_ok());
-        expect_equal(&rt, rx.try_recv(), Ok(("w", 4)));
-        expect_equal(&rt, rx.try_recv(), Ok(("z", 3)));
+        expect_equal(&rt, rx.try_recv(), Ok(('w', 4)));
+        expect_equal(&rt, rx.try_recv(), Ok(('z', 3)));
     }
     Ok(())
 }
@@ -113,31 +113,31 @@ fn a_wait_without_a_limit_may_be_refused(rt: HostRuntime) -> Result<(), Fail> {
         let (tx, rx) = bounded_reserved(&rt, &alloc, 1)?;
         alloc.refuse_nth(n);
         expect_equal_at(&rt, n, rx.recv_blocking(), Err(RecvFault::Memory));
-        expect_equal(&rt, tx.try_send("x", 1u64), Ok(()));
+        expect_equal(&rt, tx.try_send('x', 1u64), Ok(()));
 
         let alloc = Refusing::new(rt.alloc());
         let (tx, rx) = bounded_reserved(&rt, &alloc, 1)?;
-        expect_equal(&rt, tx.try_send("x", 1u64), Ok(()));
+        expect_equal(&rt, tx.try_send('x', 1u64), Ok(()));
         alloc.refuse_nth(n);
         expect_equal_at(
             &rt,
             n,
-            tx.send_blocking("y", 2),
-            Err(SendFault::Memory(("y", 2))),
+            tx.send_blocking('y', 2),
+            Err(SendFault::Memory(('y', 2))),
         );
-        expect_equal(&rt, rx.try_recv(), Ok(("x", 1)));
+        expect_equal(&rt, rx.try_recv(), Ok(('x', 1)));
 
         let alloc = Refusing::new(rt.alloc());
         let (tx, rx) = bounded_reserved(&rt, &alloc, 1)?;
         alloc.refuse_nth(n);
         let Err(SendFault::Memory(rest)) = tx.sendv_blocking(
-            [("x", 1u64), ("y", 2)].into_iter().peekable(),
+            [('x', 1u64), ('y', 2)].into_iter().peekable(),
         ) else {
             return Err(Fail::from("it was not refused"));
         };
-        expect_equal(&rt, rx.try_recv(), Ok(("x", 1)));
+        expect_equal(&rt, rx.try_recv(), Ok(('x', 1)));
         assert!(rt; tx.try_sendv(rest).is_ok());
-        expect_equal(&rt, rx.try_recv(), Ok(("y", 2)));
+        expect_equal(&rt, rx.try_recv(), Ok(('y', 2)));
     }
     Ok(())
 }
@@ -150,14 +150,14 @@ fn memory_for_a_message_is_not_waited_for(rt: HostRuntime) -> Result<(), Fail> {
     alloc.refuse_all();
     expect_equal(
         &rt,
-        tx.send_blocking("x", 1u64),
-        Err(SendFault::Memory(("x", 1))),
+        tx.send_blocking('x', 1u64),
+        Err(SendFault::Memory(('x', 1))),
     );
     for limit in [Duration::ZERO, a_while(), Duration::MAX] {
         expect_equal(
             &rt,
-            tx.send_timeout("x", 1, limit),
-            Err(SendTimeoutError::Memory(("x", 1))),
+            tx.send_timeout('x', 1, limit),
+            Err(SendTimeoutError::Memory(('x', 1))),
         );
     }
     assert!(rt; rx.is_empty());
@@ -171,23 +171,23 @@ fn what_need_not_wait_asks_for_nothing(rt: HostRuntime) -> Result<(), Fail> {
     let alloc = Refusing::new(rt.alloc());
     let (tx, rx) = bounded_reserved(&rt, &alloc, 3)?;
     alloc.refuse_nth(1);
-    expect_equal(&rt, tx.send_blocking("x", 1u64), Ok(()));
-    expect_equal(&rt, tx.send_timeout("y", 2, a_while()), Ok(()));
-    assert!(rt; tx.sendv_blocking([("z", 3)].into_iter().peekable()).is_ok());
-    expect_equal(&rt, rx.recv_blocking(), Ok(("z", 3)));
-    expect_equal(&rt, rx.recv_timeout(a_while()), Ok(("y", 2)));
+    expect_equal(&rt, tx.send_blocking('x', 1u64), Ok(()));
+    expect_equal(&rt, tx.send_timeout('y', 2, a_while()), Ok(()));
+    assert!(rt; tx.sendv_blocking([('z', 3)].into_iter().peekable()).is_ok());
+    expect_equal(&rt, rx.recv_blocking(), Ok(('z', 3)));
+    expect_equal(&rt, rx.recv_timeout(a_while()), Ok(('y', 2)));
     assert!(rt;
-        tx.sendv_timeout([("z", 3)].into_iter().peekable(), a_while())
+        tx.sendv_timeout([('z', 3)].into_iter().peekable(), a_while())
             .is_ok()
     );
-    expect_equal(&rt, rx.iter().next(), Some(("z", 3)));
-    expect_equal(&rt, rx.try_iter().next(), Some(("x", 1)));
+    expect_equal(&rt, rx.iter().next(), Some(('z', 3)));
+    expect_equal(&rt, rx.try_iter().next(), Some(('x', 1)));
     expect_equal(&rt, rx.try_iter().next(), None);
     assert!(rt; tx.close());
     expect_equal(
         &rt,
-        tx.send_timeout("x", 1, a_while()),
-        Err(SendTimeoutError::Closed(("x", 1))),
+        tx.send_timeout('x', 1, a_while()),
+        Err(SendTimeoutError::Closed(('x', 1))),
     );
     expect_equal(
         &rt,
@@ -210,11 +210,11 @@ fn a_call_without_time_asks_for_nothing(rt: HostRuntime) -> Result<(), Fail> {
         rx.recv_timeout(Duration::ZERO),
         Err(RecvTimeoutError::Timeout),
     );
-    expect_equal(&rt, tx.send_timeout("x", 1u64, Duration::ZERO), Ok(()));
+    expect_equal(&rt, tx.send_timeout('x', 1u64, Duration::ZERO), Ok(()));
     expect_equal(
         &rt,
-        tx.send_timeout("y", 2, Duration::ZERO),
-        Err(SendTimeoutError::Timeout(("y", 2))),
+        tx.send_timeout('y', 2, Duration::ZERO),
+        Err(SendTimeoutError::Timeout(('y', 2))),
     );
     assert!(rt; alloc.refuse_none());
     Ok(())
@@ -251,19 +251,19 @@ fn a_thousand_receives_leave_nothing(rt: HostRuntime) -> Result<(), Fail> {
 fn a_thousand_sends_leave_nothing(rt: HostRuntime) -> Result<(), Fail> {
     let alloc = Refusing::new(rt.alloc());
     let (tx, rx) = bounded(&rt, &alloc, 1)?;
-    expect_equal(&rt, tx.try_send("x", 1u64), Ok(()));
-    assert!(rt; tx.send_timeout("y", 2, a_while()).is_err());
+    expect_equal(&rt, tx.try_send('x', 1u64), Ok(()));
+    assert!(rt; tx.send_timeout('y', 2, a_while()).is_err());
     for _ in 0..1000 {
         alloc.refuse_nth(2);
         expect_equal(
             &rt,
-            tx.send_timeout("y", 2, a_moment()),
-            Err(SendTimeoutError::Timeout(("y", 2))),
+            tx.send_timeout('y', 2, a_moment()),
+            Err(SendTimeoutError::Timeout(('y', 2))),
         );
         assert!(rt; alloc.refuse_none());
     }
     expect_equal(&rt, (tx.sender_count(), tx.receiver_count()), (1, 1));
-    expect_equal(&rt, rx.try_recv(), Ok(("x", 1)));
+    expect_equal(&rt, rx.try_recv(), Ok(('x', 1)));
     expect_equal(&rt, rx.try_recv(), Err(TryRecvError::Empty));
     Ok(())
 }
@@ -272,8 +272,8 @@ fn a_thousand_sends_leave_nothing(rt: HostRuntime) -> Result<(), Fail> {
 fn a_thousand_bulk_sends_leave_nothing(rt: HostRuntime) -> Result<(), Fail> {
     let alloc = Refusing::new(rt.alloc());
     let (tx, rx) = bounded(&rt, &alloc, 1)?;
-    expect_equal(&rt, tx.try_send("x", 1u64), Ok(()));
-    let more = [("y", 2u64)];
+    expect_equal(&rt, tx.try_send('x', 1u64), Ok(()));
+    let more = [('y', 2u64)];
     assert!(rt;
         tx.sendv_timeout(more.into_iter().peekable(), a_while())
             .is_err()
@@ -287,7 +287,7 @@ fn a_thousand_bulk_sends_leave_nothing(rt: HostRuntime) -> Result<(), Fail> {
         assert!(rt; alloc.refuse_none());
     }
     expect_equal(&rt, (tx.sender_count(), tx.receiver_count()), (1, 1));
-    expect_equal(&rt, rx.try_recv(), Ok(("x", 1)));
+    expect_equal(&rt, rx.try_recv(), Ok(('x', 1)));
     expect_equal(&rt, rx.try_recv(), Err(TryRecvError::Empty));
     Ok(())
 }

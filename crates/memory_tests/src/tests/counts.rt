@@ -92,10 +92,10 @@ fn a_refused_handle_is_not_counted(rt: HostRuntime) -> Result<(), Fail> {
         expect_equal_at(&rt, n, fourth_rx.is_some(), weak_rx.is_some());
         drop((fourth_tx, fourth_rx));
         expect_equal_at(&rt, n, (tx.sender_count(), tx.receiver_count()), (1, 1));
-        expect_equal(&rt, tx.try_send("x", n), Ok(()));
+        expect_equal(&rt, tx.try_send('x', n), Ok(()));
         drop(tx);
         expect_equal_at(&rt, n, (rx.sender_count(), rx.receiver_count()), (0, 1));
-        expect_equal(&rt, rx.try_recv(), Ok(("x", n)));
+        expect_equal(&rt, rx.try_recv(), Ok(('x', n)));
         expect_equal(&rt, rx.try_recv(), Err(TryRecvError::Closed));
         expect_equal_at(&rt, n, met_none, n == 10);
     }

@@ -59,13 +59,13 @@ fn a_reserved_channel_asks_for_no_more(rt: HostRuntime) -> Result<(), Fail> {
     let alloc = Refusing::new(rt.alloc());
     let (tx, rx) = bounded_reserved(&rt, &alloc, 2)?;
     alloc.refuse_nth(1);
-    expect_equal(&rt, tx.try_send("x", 1u64), Ok(()));
-    assert!(rt; tx.try_sendv([("y", 2)].into_iter().peekable()).is_ok());
-    expect_equal(&rt, tx.try_send("z", 3), Err(TrySendError::Full(("z", 3))));
-    expect_equal(&rt, rx.try_recv(), Ok(("y", 2)));
-    expect_equal(&rt, tx.try_send("z", 3), Ok(()));
-    expect_equal(&rt, rx.try_recv(), Ok(("z", 3)));
-    expect_equal(&rt, rx.try_recv(), Ok(("x", 1)));
+    expect_equal(&rt, tx.try_send('x', 1u64), Ok(()));
+    assert!(rt; tx.try_sendv([('y', 2)].into_iter().peekable()).is_ok());
+    expect_equal(&rt, tx.try_send('z', 3), Err(TrySendError::Full(('z', 3))));
+    expect_equal(&rt, rx.try_recv(), Ok(('y', 2)));
+    expect_equal(&rt, tx.try_send('z', 3), Ok(()));
+    expect_equal(&rt, rx.try_recv(), Ok(('z', 3)));
+    expect_equal(&rt, rx.try_recv(), Ok(('x', 1)));
     expect_equal(&rt, rx.try_recv(), Err(TryRecvError::Empty));
     assert!(rt; tx.is_empty() && !tx.is_full() && !tx.is_closed());
     expect_equal(&rt, (tx.len(), tx.capacity()), (0, Some(2)));
@@ -83,13 +83,13 @@ fn a_future_that_answers_at_once_takes_no_memory(rt: HostRuntime) -> Result<(), 
     let alloc = Refusing::new(rt.alloc());
     let (tx, rx) = bounded_reserved(&rt, &alloc, 1)?;
     alloc.refuse_nth(1);
-    expect_equal(&rt, block_on(&rt, tx.send("x", 1u64))?, Ok(()));
-    expect_equal(&rt, block_on(&rt, rx.recv())?, Ok(("x", 1)));
-    assert!(rt; block_on(&rt, tx.sendv([("z", 3)].into_iter().peekable()))?.is_ok());
-    expect_equal(&rt, block_on(&rt, rx.recv())?, Ok(("z", 3)));
+    expect_equal(&rt, block_on(&rt, tx.send('x', 1u64))?, Ok(()));
+    expect_equal(&rt, block_on(&rt, rx.recv())?, Ok(('x', 1)));
+    assert!(rt; block_on(&rt, tx.sendv([('z', 3)].into_iter().peekable()))?.is_ok());
+    expect_equal(&rt, block_on(&rt, rx.recv())?, Ok(('z', 3)));
     assert!(rt; tx.close());
-    let unsent = block_on(&rt, tx.send("y", 2))?;
-    expect_equal(&rt, unsent, Err(SendFault::Closed(SendError(("y", 2)))));
+    let unsent = block_on(&rt, tx.send('y', 2))?;
+    expect_equal(&rt, unsent, Err(SendFault::Closed(SendError(('y', 2)))));
     expect_equal(
         &rt,
         block_on(&rt, rx.recv())?,
@@ -106,14 +106,14 @@ fn a_refused_send_comes_back(rt: HostRuntime) -> Result<(), Fail> {
     for round in alloc.rounds() {
         let n = round?;
         alloc.refuse_nth(n);
-        let sent = block_on(&rt, tx.send("x", n))?;
+        let sent = block_on(&rt, tx.send('x', n))?;
         let met_none = alloc.refuse_none();
         // The slot for the message alone: it need not wait.
         expect_equal(&rt, met_none, n == 2);
         let wanted = if met_none {
             Ok(())
         } else {
-            Err(SendFault::Memory(("x", n)))
+            Err(SendFault::Memory(('x', n)))
         };
         expect_equal(&rt, sent, wanted);
         expect_equal(&rt, rx.is_empty(), !met_none);
@@ -128,7 +128,7 @@ fn a_refused_bulk_send_comes_back(rt: HostRuntime) -> Result<(), Fail> {
     alloc.refuse_all();
     let sent = block_on(
         &rt,
-        tx.sendv([("x", 1u64), ("y", 2)].into_iter().peekable()),
+        tx.sendv([('x', 1u64), ('y', 2)].into_iter().peekable()),
     )?;
     alloc.refuse_none();
     let Err(SendFault::Memory(rest)) = sent else {
@@ -136,8 +136,8 @@ fn a_refused_bulk_send_comes_back(rt: HostRuntime) -> Result<(), Fail> {
     };
     assert!(rt; rx.is_empty());
     assert!(rt; tx.try_sendv(rest).is_ok());
-    expect_equal(&rt, rx.try_recv(), Ok(("y", 2)));
-    expect_equal(&rt, rx.try_recv(), Ok(("x", 1)));
+    expect_equal(&rt, rx.try_recv(), Ok(('y', 2)));
+    expect_equal(&rt, rx.try_recv(), Ok(('x', 1)));
     Ok(())
 }
 
@@ -162,11 +162,11 @@ fn a_receive_may_be_refused(rt: HostRuntime) -> Result<(), Fail> {
 fn a_dropped_send_waits_no_more(rt: HostRuntime) -> Result<(), Fail> {
     let alloc = Refusing::new(rt.alloc());
     let (tx, _rx) = bounded(&rt, &alloc, 1)?;
-    expect_equal(&rt, tx.try_send("x", 1u64), Ok(()));
-    expect_equal(&rt, block_on(&rt, poll_immediate(tx.send("y", 2)))?, None);
+    expect_equal(&rt, tx.try_send('x', 1u64), Ok(()));
+    expect_equal(&rt, block_on(&rt, poll_immediate(tx.send('y', 2)))?, None);
     for _ in 0..20 {
         alloc.refuse_nth(2);
-        expect_equal(&rt, block_on(&rt, poll_immediate(tx.send("y", 2)))?, None);
+        expect_equal(&rt, block_on(&rt, poll_immediate(tx.send('y', 2)))?, None);
         assert!(rt; alloc.refuse_none());
     }
     Ok(())
@@ -176,8 +176,8 @@ fn a_dropped_send_waits_no_more(rt: HostRuntime) -> Result<(), Fail> {
 fn a_dropped_bulk_send_waits_no_more(rt: HostRuntime) -> Result<(), Fail> {
     let alloc = Refusing::new(rt.alloc());
     let (tx, _rx) = bounded(&rt, &alloc, 1)?;
-    expect_equal(&rt, tx.try_send("x", 1u64), Ok(()));
-    let more = [("y", 2)];
+    expect_equal(&rt, tx.try_send('x', 1u64), Ok(()));
+    let more = [('y', 2)];
     assert!(rt; block_on(&rt, poll_immediate(tx.sendv(more.into_iter().peekable())))?.is_none());
     for _ in 0..20 {
         alloc.refuse_nth(2);

@@ -6,11 +6,11 @@ use priority_channel_core::errors::TryRecvError;
 use refusing::Refusing;
 use std::alloc::{AllocError, Global};
 
-type Batch = Vec<(&'static str, u64)>;
+type Batch = Vec<(char, u64)>;
 
 /// A channel without a limit that holds these pairs.
-fn holding(alloc: Global, pairs: &[(&'static str, u64)]) -> Core<&'static str> {
-    let mut core: Core<&str> = Core::unbounded(alloc);
+fn holding(alloc: Global, pairs: &[(char, u64)]) -> Core<char> {
+    let mut core: Core<char> = Core::unbounded(alloc);
     for (msg, priority) in pairs {
         spend(core.try_send(*msg, *priority).1);
     }
@@ -20,7 +20,7 @@ fn holding(alloc: Global, pairs: &[(&'static str, u64)]) -> Core<&'static str> {
 /// Receives a batch where nobody waits.
 fn receive_many(
     alloc: Global,
-    core: &mut Core<&'static str>,
+    core: &mut Core<char>,
     limit: usize,
 ) -> Result<(Result<usize, TryRecvError>, Batch), AllocError> {
     let mut batch = Vec::with_capacity(alloc, limit)?;
@@ -34,7 +34,7 @@ fn batches_bring_the_greatest_first(rt: HostRuntime) -> Result<(), AllocError> {
     let alloc = rt.alloc();
     let mut core = holding(
         alloc,
-        &[("a", 1), ("b", 3), ("c", 1), ("d", 2), ("e", 3), ("f", 1)],
+        &[('a', 1), ('b', 3), ('c', 1), ('d', 2), ('e', 3), ('f', 1)],
     );
     let (reply, batch) = receive_many(alloc, &mut core, 0)?;
     expect_equal(&rt, reply, Ok(0));
@@ -43,19 +43,19 @@ fn batches_bring_the_greatest_first(rt: HostRuntime) -> Result<(), AllocError> {
 
     let (reply, batch) = receive_many(alloc, &mut core, 1)?;
     expect_equal(&rt, reply, Ok(1));
-    expect_equal(&rt, batch.as_slice(), [("b", 3)].as_slice());
+    expect_equal(&rt, batch.as_slice(), [('b', 3)].as_slice());
 
     let (reply, batch) = receive_many(alloc, &mut core, 3)?;
     expect_equal(&rt, reply, Ok(3));
     expect_equal(
         &rt,
         batch.as_slice(),
-        [("e", 3), ("d", 2), ("a", 1)].as_slice(),
+        [('e', 3), ('d', 2), ('a', 1)].as_slice(),
     );
 
     let (reply, batch) = receive_many(alloc, &mut core, 2)?;
     expect_equal(&rt, reply, Ok(2));
-    expect_equal(&rt, batch.as_slice(), [("c", 1), ("f", 1)].as_slice());
+    expect_equal(&rt, batch.as_slice(), [('c', 1), ('f', 1)].as_slice());
     assert!(rt; core.is_empty());
     Ok(())
 }
@@ -63,29 +63,29 @@ fn batches_bring_the_greatest_first(rt: HostRuntime) -> Result<(), AllocError> {
 #[test]
 fn a_batch_ends_where_nothing_is_pending(rt: HostRuntime) -> Result<(), AllocError> {
     let alloc = rt.alloc();
-    let mut core = holding(alloc, &[("a", 1), ("b", 2), ("c", 1)]);
+    let mut core = holding(alloc, &[('a', 1), ('b', 2), ('c', 1)]);
     let (reply, batch) = receive_many(alloc, &mut core, 10)?;
     expect_equal(&rt, reply, Ok(3));
     expect_equal(
         &rt,
         batch.as_slice(),
-        [("b", 2), ("a", 1), ("c", 1)].as_slice(),
+        [('b', 2), ('a', 1), ('c', 1)].as_slice(),
     );
 
     // What came stands behind what was there.
-    let mut core = holding(alloc, &[("a", 1), ("b", 2), ("c", 1)]);
+    let mut core = holding(alloc, &[('a', 1), ('b', 2), ('c', 1)]);
     let mut batch = Vec::with_capacity(alloc, 4)?;
-    batch.push_reserved(("x", 9));
-    batch.push_reserved(("y", 0));
+    batch.push_reserved(('x', 9));
+    batch.push_reserved(('y', 0));
     let (reply, wakes) = core.try_recv_many(&mut batch, 2);
     assert!(rt; hands_out_nobody(wakes));
     expect_equal(&rt, reply, Ok(2));
     expect_equal(
         &rt,
         batch.as_slice(),
-        [("x", 9), ("y", 0), ("b", 2), ("a", 1)].as_slice(),
+        [('x', 9), ('y', 0), ('b', 2), ('a', 1)].as_slice(),
     );
-    expect_equal(&rt, receive(&mut core), Ok(("c", 1)));
+    expect_equal(&rt, receive(&mut core), Ok(('c', 1)));
     Ok(())
 }
 
@@ -98,7 +98,7 @@ fn a_batch_of_none_tells_empty_from_closed(rt: HostRuntime) -> Result<(), AllocE
         expect_equal_at(&rt, limit, reply, Err(TryRecvError::Empty));
         assert!(rt; batch.is_empty(), "of {limit}");
     }
-    expect_equal(&rt, send(&mut core, "a", 1), Ok(()));
+    expect_equal(&rt, send(&mut core, 'a', 1), Ok(()));
     assert!(rt; close(&mut core));
     expect_equal(&rt, receive_many(alloc, &mut core, 0)?.0, Ok(0));
     expect_equal(&rt, receive_many(alloc, &mut core, 5)?.0, Ok(1));
@@ -158,8 +158,8 @@ fn a_batch_needs_no_memory(rt: HostRuntime) -> Result<(), AllocError> {
 
 #[test]
 fn a_peek_shows_what_a_receive_gives(rt: HostRuntime) {
-    let mut core = holding(rt.alloc(), &[("a", 1), ("b", 2), ("c", 2)]);
-    for (msg, priority) in [("b", 2), ("c", 2), ("a", 1)] {
+    let mut core = holding(rt.alloc(), &[('a', 1), ('b', 2), ('c', 2)]);
+    for (msg, priority) in [('b', 2), ('c', 2), ('a', 1)] {
         expect_equal(&rt, core.peek(), Some((&msg, &priority)));
         expect_equal(&rt, core.peek(), Some((&msg, &priority)));
         expect_equal(&rt, receive(&mut core), Ok((msg, priority)));

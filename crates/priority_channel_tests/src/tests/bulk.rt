@@ -23,17 +23,17 @@ fn sendv<T: Drop>(core: &mut Core<T>, msgs: Vec<(T, u64)>) -> Result<(), TrySend
 
 #[test]
 fn sends_as_far_as_there_is_room(rt: HostRuntime) -> Result<(), AllocError> {
-    let mut core: Core<&str> = Core::bounded(rt.alloc(), 10);
+    let mut core: Core<char> = Core::bounded(rt.alloc(), 10);
     expect_equal(
         &rt,
-        sendv(&mut core, vec![in rt.alloc(); ("a", 0), ("b", 1)]?),
+        sendv(&mut core, vec![in rt.alloc(); ('a', 0), ('b', 1)]?),
         Ok(()),
     );
-    expect_equal(&rt, receive(&mut core), Ok(("b", 1)));
-    expect_equal(&rt, receive(&mut core), Ok(("a", 0)));
+    expect_equal(&rt, receive(&mut core), Ok(('b', 1)));
+    expect_equal(&rt, receive(&mut core), Ok(('a', 0)));
     let mut many = Vec::new(rt.alloc());
     for _ in 0..100 {
-        many.push(("a", 0))?;
+        many.push(('a', 0))?;
     }
     expect_equal(&rt, sendv(&mut core, many), Err(TrySendError::Full(90)));
     Ok(())
@@ -41,12 +41,12 @@ fn sends_as_far_as_there_is_room(rt: HostRuntime) -> Result<(), AllocError> {
 
 #[test]
 fn sends_nothing_into_a_closed_channel(rt: HostRuntime) -> Result<(), AllocError> {
-    let mut core: Core<&str> = Core::bounded(rt.alloc(), 10);
+    let mut core: Core<char> = Core::bounded(rt.alloc(), 10);
     assert!(rt; !core.is_closed());
     assert!(rt; close(&mut core));
     expect_equal(
         &rt,
-        sendv(&mut core, vec![in rt.alloc(); ("a", 0), ("b", 1)]?),
+        sendv(&mut core, vec![in rt.alloc(); ('a', 0), ('b', 1)]?),
         Err(TrySendError::Closed(2)),
     );
     expect_equal(&rt, core.len(), 0);
@@ -55,10 +55,10 @@ fn sends_nothing_into_a_closed_channel(rt: HostRuntime) -> Result<(), AllocError
 
 #[test]
 fn just_filling_is_no_refusal(rt: HostRuntime) -> Result<(), AllocError> {
-    let mut core: Core<&str> = Core::bounded(rt.alloc(), 2);
+    let mut core: Core<char> = Core::bounded(rt.alloc(), 2);
     expect_equal(
         &rt,
-        sendv(&mut core, vec![in rt.alloc(); ("a", 0), ("b", 1)]?),
+        sendv(&mut core, vec![in rt.alloc(); ('a', 0), ('b', 1)]?),
         Ok(()),
     );
     assert!(rt; core.is_full());
@@ -67,9 +67,9 @@ fn just_filling_is_no_refusal(rt: HostRuntime) -> Result<(), AllocError> {
 
 #[test]
 fn an_empty_list_is_refused_where_a_pair_would_be(rt: HostRuntime) {
-    let mut core: Core<&str> = Core::bounded(rt.alloc(), 1);
+    let mut core: Core<char> = Core::bounded(rt.alloc(), 1);
     expect_equal(&rt, sendv(&mut core, Vec::new(rt.alloc())), Ok(()));
-    expect_equal(&rt, send(&mut core, "x", 5), Ok(()));
+    expect_equal(&rt, send(&mut core, 'x', 5), Ok(()));
     expect_equal(
         &rt,
         sendv(&mut core, Vec::new(rt.alloc())),

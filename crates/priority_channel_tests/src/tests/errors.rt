@@ -129,9 +129,9 @@ fn errors_are_equal_where_variant_and_content_are(rt: HostRuntime) -> Result<(),
 
 #[test]
 fn errors_hand_back_what_was_not_sent(rt: HostRuntime) {
-    let refusal = TrySendError::Full(("late", 3));
+    let refusal = TrySendError::Full(('l', 3));
     assert!(rt; refusal.is_full() && !refusal.is_closed() && !refusal.is_memory());
-    expect_equal(&rt, refusal.into_inner(), ("late", 3));
+    expect_equal(&rt, refusal.into_inner(), ('l', 3));
 
     let refusal = TrySendError::Memory(1);
     assert!(rt; refusal.is_memory() && !refusal.is_full() && !refusal.is_closed());

@@ -65,9 +65,9 @@ fn a_refused_growth_hands_the_pair_back(rt: HostRuntime) {
 #[test]
 fn a_refused_growth_hands_the_list_back(rt: HostRuntime) -> Result<(), Fail> {
     let alloc = Refusing::new(rt.alloc());
-    let mut core: Core<&str, &Refusing<Global>> = Core::bounded(&alloc, 10);
+    let mut core: Core<char, &Refusing<Global>> = Core::bounded(&alloc, 10);
     alloc.refuse_nth(1);
-    let (reply, wakes) = core.try_sendv([("a", 0), ("b", 1)].into_iter().peekable());
+    let (reply, wakes) = core.try_sendv([('a', 0), ('b', 1)].into_iter().peekable());
     assert!(rt; hands_out_nobody(wakes));
     expect_equal(&rt, core.len(), 0);
     let Err(TrySendError::Memory(rest)) = reply else {
@@ -76,8 +76,8 @@ fn a_refused_growth_hands_the_list_back(rt: HostRuntime) -> Result<(), Fail> {
     let (reply, wakes) = core.try_sendv(rest);
     assert!(rt; hands_out_nobody(wakes));
     assert!(rt; reply.is_ok());
-    expect_equal(&rt, receive(&mut core), Ok(("b", 1)));
-    expect_equal(&rt, receive(&mut core), Ok(("a", 0)));
+    expect_equal(&rt, receive(&mut core), Ok(('b', 1)));
+    expect_equal(&rt, receive(&mut core), Ok(('a', 0)));
     Ok(())
 }
 
@@ -109,7 +109,7 @@ fn each_send_may_be_refused(rt: HostRuntime) -> Result<(), Fail> {
     Ok(())
 }
 
-fn count(mut rest: Peekable<IntoIter<(&'static str, u64), 100>>) -> u64 {
+fn count(mut rest: Peekable<IntoIter<(char, u64), 100>>) -> u64 {
     let mut left = 0u64;
     for _ in 0..100 {
         if rest.next().is_none() {
@@ -126,23 +126,23 @@ fn each_bulk_send_may_be_refused(rt: HostRuntime) -> Result<(), Fail> {
     let alloc = Refusing::new(rt.alloc());
     for round in alloc.rounds() {
         let n = round?;
-        let mut core: Core<&str, &Refusing<Global>> = Core::bounded(&alloc, 10);
+        let mut core: Core<char, &Refusing<Global>> = Core::bounded(&alloc, 10);
         alloc.refuse_nth(n);
-        let (reply, wakes) = core.try_sendv([("a", 0), ("b", 1)].into_iter().peekable());
+        let (reply, wakes) = core.try_sendv([('a', 0), ('b', 1)].into_iter().peekable());
         assert!(rt; hands_out_nobody(wakes));
         match reply {
             Ok(()) => {
-                expect_equal_at(&rt, n, receive(&mut core), Ok(("b", 1)));
-                expect_equal_at(&rt, n, receive(&mut core), Ok(("a", 0)));
+                expect_equal_at(&rt, n, receive(&mut core), Ok(('b', 1)));
+                expect_equal_at(&rt, n, receive(&mut core), Ok(('a', 0)));
             }
             Err(TrySendError::Memory(rest)) => {
                 expect_equal(&rt, n, 1);
-                assert!(rt; rest.eq([("a", 0), ("b", 1)]));
+                assert!(rt; rest.eq([('a', 0), ('b', 1)]));
             }
             Err(_) => return Err(Fail::new(format_args!("another error at {n}"))),
         }
         assert!(rt; core.is_empty());
-        let (reply, wakes) = core.try_sendv([("a", 0); 100].into_iter().peekable());
+        let (reply, wakes) = core.try_sendv([('a', 0); 100].into_iter().peekable());
         assert!(rt; hands_out_nobody(wakes));
         let met_none = alloc.refuse_none();
         let accepted = core.len();
@@ -158,7 +158,7 @@ fn each_bulk_send_may_be_refused(rt: HostRuntime) -> Result<(), Fail> {
             _ => return Err(Fail::new(format_args!("neither full nor refused at {n}"))),
         }
         for _ in 0..accepted {
-            expect_equal_at(&rt, n, receive(&mut core), Ok(("a", 0)));
+            expect_equal_at(&rt, n, receive(&mut core), Ok(('a', 0)));
         }
         expect_equal_at(&rt, n, receive(&mut core), Err(TryRecvError::Empty));
         if met_none {

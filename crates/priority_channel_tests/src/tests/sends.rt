@@ -6,18 +6,18 @@ use std::alloc::AllocError;
 
 #[test]
 fn the_greatest_priority_comes_first(rt: HostRuntime) {
-    let mut core: Core<&str> = Core::unbounded(rt.alloc());
-    expect_equal(&rt, send(&mut core, "Foo", 0), Ok(()));
-    expect_equal(&rt, send(&mut core, "Bar", 2), Ok(()));
-    expect_equal(&rt, send(&mut core, "Baz", 1), Ok(()));
-    expect_equal(&rt, receive(&mut core), Ok(("Bar", 2)));
+    let mut core: Core<char> = Core::unbounded(rt.alloc());
+    expect_equal(&rt, send(&mut core, 'f', 0), Ok(()));
+    expect_equal(&rt, send(&mut core, 'b', 2), Ok(()));
+    expect_equal(&rt, send(&mut core, 'z', 1), Ok(()));
+    expect_equal(&rt, receive(&mut core), Ok(('b', 2)));
 }
 
 #[test]
 fn a_message_comes_out(rt: HostRuntime) {
-    let mut core: Core<&str> = Core::bounded(rt.alloc(), 1);
-    expect_equal(&rt, send(&mut core, "Foo", 0), Ok(()));
-    expect_equal(&rt, receive(&mut core), Ok(("Foo", 0)));
+    let mut core: Core<char> = Core::bounded(rt.alloc(), 1);
+    expect_equal(&rt, send(&mut core, 'f', 0), Ok(()));
+    expect_equal(&rt, receive(&mut core), Ok(('f', 0)));
 }
 
 #[test]
@@ -62,11 +62,11 @@ fn a_closed_channel_takes_nothing(rt: HostRuntime) {
     assert!(rt; !close(&mut core));
 }
 
-fn refuses_the_second(mut core: Core<&str>) -> bool {
-    let replies = (send(&mut core, "x", 5), send(&mut core, "y", 9));
+fn refuses_the_second(mut core: Core<char>) -> bool {
+    let replies = (send(&mut core, 'x', 5), send(&mut core, 'y', 9));
     let received = (receive(&mut core), receive(&mut core));
-    replies == (Ok(()), Err(TrySendError::Full(("y", 9))))
-        && received == (Ok(("x", 5)), Err(TryRecvError::Empty))
+    replies == (Ok(()), Err(TrySendError::Full(('y', 9))))
+        && received == (Ok(('x', 5)), Err(TryRecvError::Empty))
 }
 
 #[test]
@@ -119,11 +119,11 @@ fn tells_how_full_it_is(rt: HostRuntime) {
 
 #[test]
 fn equal_priorities_come_out_in_the_order_of_acceptance(rt: HostRuntime) {
-    let mut core: Core<&str> = Core::unbounded(rt.alloc());
-    for (msg, priority) in [("a", 1), ("b", 1), ("c", 2), ("d", 1)] {
+    let mut core: Core<char> = Core::unbounded(rt.alloc());
+    for (msg, priority) in [('a', 1), ('b', 1), ('c', 2), ('d', 1)] {
         expect_equal(&rt, send(&mut core, msg, priority), Ok(()));
     }
-    for (msg, priority) in [("c", 2), ("a", 1), ("b", 1), ("d", 1)] {
+    for (msg, priority) in [('c', 2), ('a', 1), ('b', 1), ('d', 1)] {
         expect_equal(&rt, receive(&mut core), Ok((msg, priority)));
     }
 }
@@ -131,13 +131,13 @@ fn equal_priorities_come_out_in_the_order_of_acceptance(rt: HostRuntime) {
 // A number that was used is not used again once its pair is received.
 #[test]
 fn the_order_of_acceptance_holds_across_receives(rt: HostRuntime) {
-    let mut core: Core<&str> = Core::bounded(rt.alloc(), 3);
-    expect_equal(&rt, send(&mut core, "a", 0), Ok(()));
-    expect_equal(&rt, send(&mut core, "b", 0), Ok(()));
-    expect_equal(&rt, receive(&mut core), Ok(("a", 0)));
-    expect_equal(&rt, send(&mut core, "c", 0), Ok(()));
-    expect_equal(&rt, send(&mut core, "d", 0), Ok(()));
-    for msg in ["b", "c", "d"] {
+    let mut core: Core<char> = Core::bounded(rt.alloc(), 3);
+    expect_equal(&rt, send(&mut core, 'a', 0), Ok(()));
+    expect_equal(&rt, send(&mut core, 'b', 0), Ok(()));
+    expect_equal(&rt, receive(&mut core), Ok(('a', 0)));
+    expect_equal(&rt, send(&mut core, 'c', 0), Ok(()));
+    expect_equal(&rt, send(&mut core, 'd', 0), Ok(()));
+    for msg in ['b', 'c', 'd'] {
         expect_equal(&rt, receive(&mut core), Ok((msg, 0)));
     }
 }

@@ -20,19 +20,19 @@ fn a_senders_guard_closes_as_it_is_dropped(rt: HostRuntime) -> Result<(), Fail> 
     let other = tx.clone()?;
     let guard = tx.close_on_drop();
     assert!(rt; !rx.is_closed());
-    expect_equal(&rt, tx.try_send("x", 1u64), Ok(()));
-    expect_equal(&rt, other.try_send("y", 2), Ok(()));
+    expect_equal(&rt, tx.try_send('x', 1u64), Ok(()));
+    expect_equal(&rt, other.try_send('y', 2), Ok(()));
     drop(guard);
     assert!(rt; rx.is_closed());
     expect_equal(
         &rt,
-        other.try_send("z", 3),
-        Err(TrySendError::Closed(("z", 3))),
+        other.try_send('z', 3),
+        Err(TrySendError::Closed(('z', 3))),
     );
     // The guard is no sender, and took none with it.
     expect_equal(&rt, rx.sender_count(), 2);
-    expect_equal(&rt, rx.try_recv(), Ok(("y", 2)));
-    expect_equal(&rt, rx.try_recv(), Ok(("x", 1)));
+    expect_equal(&rt, rx.try_recv(), Ok(('y', 2)));
+    expect_equal(&rt, rx.try_recv(), Ok(('x', 1)));
     expect_equal(&rt, rx.try_recv(), Err(TryRecvError::Closed));
     Ok(())
 }
@@ -43,20 +43,20 @@ fn a_receivers_guard_closes_as_it_is_dropped(rt: HostRuntime) -> Result<(), Fail
     let other = rx.clone()?;
     let guard = rx.close_on_drop();
     assert!(rt; !tx.is_closed());
-    expect_equal(&rt, tx.try_send("x", 1u64), Ok(()));
-    expect_equal(&rt, tx.try_send("y", 2), Ok(()));
+    expect_equal(&rt, tx.try_send('x', 1u64), Ok(()));
+    expect_equal(&rt, tx.try_send('y', 2), Ok(()));
     drop(guard);
     assert!(rt; tx.is_closed());
     expect_equal(
         &rt,
-        tx.try_send("z", 3),
-        Err(TrySendError::Closed(("z", 3))),
+        tx.try_send('z', 3),
+        Err(TrySendError::Closed(('z', 3))),
     );
     expect_equal(&rt, tx.receiver_count(), 2);
     // What is pending goes with the last receiver, and not before.
-    expect_equal(&rt, rx.try_recv(), Ok(("y", 2)));
+    expect_equal(&rt, rx.try_recv(), Ok(('y', 2)));
     drop(rx);
-    expect_equal(&rt, other.try_recv(), Ok(("x", 1)));
+    expect_equal(&rt, other.try_recv(), Ok(('x', 1)));
     expect_equal(&rt, other.try_recv(), Err(TryRecvError::Closed));
     Ok(())
 }
@@ -158,8 +158,8 @@ fn what_was_received_does_not_go(rt: HostRuntime) -> Result<(), Fail> {
     expect_equal(&rt, priority, 2);
     drop(rx);
     expect_equal(&rt, answers.sender_count(), 1);
-    expect_equal(&rt, taken.try_send("x", 1u64), Ok(()));
-    expect_equal(&rt, answers.try_recv(), Ok(("x", 1)));
+    expect_equal(&rt, taken.try_send('x', 1u64), Ok(()));
+    expect_equal(&rt, answers.try_recv(), Ok(('x', 1)));
     assert!(rt; !tx.close());
     Ok(())
 }

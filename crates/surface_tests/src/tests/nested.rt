@@ -18,15 +18,15 @@ struct Request<R: Wait + Clone> {
 fn a_channel_goes_through_a_channel(rt: HostRuntime) -> Result<(), Fail> {
     let (outer_tx, outer_rx) = bounded(&rt, rt.alloc(), 2)?;
     let (tx, rx) = unbounded(&rt, rt.alloc())?;
-    expect_equal(&rt, tx.try_send("early", 1u64), Ok(()));
+    expect_equal(&rt, tx.try_send('e', 1u64), Ok(()));
     assert!(rt; outer_tx.try_send(rx, 5u64).is_ok());
     // What is pending in it stays, and more can be sent meanwhile.
-    expect_equal(&rt, tx.try_send("late", 2), Ok(()));
+    expect_equal(&rt, tx.try_send('l', 2), Ok(()));
     expect_equal(&rt, (tx.receiver_count(), tx.is_closed()), (1, false));
     let (rx, priority) = outer_rx.try_recv()?;
     expect_equal(&rt, priority, 5);
-    expect_equal(&rt, rx.try_recv(), Ok(("late", 2)));
-    expect_equal(&rt, rx.try_recv(), Ok(("early", 1)));
+    expect_equal(&rt, rx.try_recv(), Ok(('l', 2)));
+    expect_equal(&rt, rx.try_recv(), Ok(('e', 1)));
     drop(rx);
     assert!(rt; tx.is_closed() && !outer_tx.is_closed());
     Ok(())

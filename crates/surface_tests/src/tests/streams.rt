@@ -16,13 +16,13 @@ use std::test::Fail;
 use std::thread;
 use std::time::{Clock, Duration};
 
-const SENT: [(&str, u64); 5] = [("a", 1), ("b", 3), ("c", 3), ("d", 2), ("e", 3)];
+const SENT: [(char, u64); 5] = [('a', 1), ('b', 3), ('c', 3), ('d', 2), ('e', 3)];
 
 // The greatest first, and equals in the order of sending.
-const IN_ORDER: [(&str, u64); 5] = [("b", 3), ("c", 3), ("e", 3), ("d", 2), ("a", 1)];
+const IN_ORDER: [(char, u64); 5] = [('b', 3), ('c', 3), ('e', 3), ('d', 2), ('a', 1)];
 
 // Tells whether all were sent.
-fn send_rows<R: Wait + Clone, A: Allocator + Copy>(tx: &Sender<&str, u64, R, A>) -> bool {
+fn send_rows<R: Wait + Clone, A: Allocator + Copy>(tx: &Sender<char, u64, R, A>) -> bool {
     let mut are_sent = true;
     for (msg, priority) in SENT {
         are_sent = are_sent && tx.try_send(msg, priority).is_ok();
@@ -85,9 +85,9 @@ fn some_are_taken_and_the_rest_stays(rt: HostRuntime) -> Result<(), Fail> {
     let (tx, rx) = unbounded(&rt, rt.alloc())?;
     assert!(rt; send_rows(&tx));
     let pairs = block_on(&rt, rx.stream().take(2).collect(rt.alloc()))??;
-    expect_equal(&rt, pairs.as_slice(), [("b", 3), ("c", 3)].as_slice());
+    expect_equal(&rt, pairs.as_slice(), [('b', 3), ('c', 3)].as_slice());
     expect_equal(&rt, rx.len(), 3);
-    expect_equal(&rt, rx.try_recv(), Ok(("e", 3)));
+    expect_equal(&rt, rx.try_recv(), Ok(('e', 3)));
     assert!(rt; !tx.is_closed());
     Ok(())
 }
@@ -97,10 +97,10 @@ fn a_later_message_of_a_greater_priority_goes_first(rt: HostRuntime) -> Result<(
     let (tx, rx) = unbounded(&rt, rt.alloc())?;
     assert!(rt; send_rows(&tx));
     let mut stream = rx.stream();
-    expect_equal(&rt, block_on(&rt, stream.next())?, Some(("b", 3)));
-    expect_equal(&rt, tx.try_send("f", 9), Ok(()));
-    expect_equal(&rt, block_on(&rt, stream.next())?, Some(("f", 9)));
-    expect_equal(&rt, block_on(&rt, stream.next())?, Some(("c", 3)));
+    expect_equal(&rt, block_on(&rt, stream.next())?, Some(('b', 3)));
+    expect_equal(&rt, tx.try_send('f', 9), Ok(()));
+    expect_equal(&rt, block_on(&rt, stream.next())?, Some(('f', 9)));
+    expect_equal(&rt, block_on(&rt, stream.next())?, Some(('c', 3)));
     Ok(())
 }
 
@@ -149,13 +149,13 @@ fn a_stream_ends_for_good(rt: HostRuntime) -> Result<(), Fail> {
     let (tx, rx) = bounded(&rt, rt.alloc(), 2)?;
     let task = MockTask::new(&rt)?;
     let mut stream = rx.stream();
-    expect_equal(&rt, tx.try_send("x", 1u64), Ok(()));
+    expect_equal(&rt, tx.try_send('x', 1u64), Ok(()));
     assert!(rt; tx.close());
     // Closed it still gives what is pending.
     expect_equal(
         &rt,
         block_on(&rt, poll_immediate(stream.next()))?,
-        Some(Some(("x", 1))),
+        Some(Some(('x', 1))),
     );
     for _ in 0..3 {
         expect_equal(
@@ -186,13 +186,13 @@ fn an_empty_channel_is_no_end(rt: HostRuntime) -> Result<(), Fail> {
     for i in 0..3u64 {
         assert!(rt; is_pending(task.poll(&mut stream.next())));
         assert!(rt; !task.is_woken(), "at {i}");
-        expect_equal(&rt, tx.try_send("x", i), Ok(()));
+        expect_equal(&rt, tx.try_send('x', i), Ok(()));
         assert!(rt; task.is_woken(), "at {i}");
         let polled = task.poll(&mut stream.next());
         let Poll::Ready(item) = polled else {
             return Err(Fail::from("it waits beside a message"));
         };
-        expect_equal(&rt, item, Some(("x", i)));
+        expect_equal(&rt, item, Some(('x', i)));
     }
     assert!(rt; is_pending(task.poll(&mut stream.next())));
     drop(tx);
@@ -347,12 +347,12 @@ fn a_stream_goes_on_once_there_is_memory(rt: HostRuntime) -> Result<(), Fail> {
         expect_equal_at(&rt, n, task.is_woken(), !met_none);
         assert!(rt; is_pending(task.poll(&mut stream.next())));
         assert!(rt; !task.is_woken(), "at {n}");
-        expect_equal(&rt, tx.try_send("x", n), Ok(()));
+        expect_equal(&rt, tx.try_send('x', n), Ok(()));
         assert!(rt; task.is_woken(), "at {n}");
         let Poll::Ready(item) = task.poll(&mut stream.next()) else {
             return Err(Fail::from("it waits beside a message"));
         };
-        expect_equal(&rt, item, Some(("x", n)));
+        expect_equal(&rt, item, Some(('x', n)));
     }
     Ok(())
 }
@@ -369,8 +369,8 @@ fn a_stream_without_memory_asks_again_and_again(rt: HostRuntime) -> Result<(), F
         assert!(rt; task.is_woken(), "at {i}");
     }
     // A message comes through meanwhile, and so does the end.
-    expect_equal(&rt, tx.try_send("x", 1u64), Ok(()));
-    assert!(rt; matches!(task.poll(&mut stream.next()), Poll::Ready(Some(("x", 1)))));
+    expect_equal(&rt, tx.try_send('x', 1u64), Ok(()));
+    assert!(rt; matches!(task.poll(&mut stream.next()), Poll::Ready(Some(('x', 1)))));
     assert!(rt; is_pending(task.poll(&mut stream.next())));
     assert!(rt; tx.close());
     assert!(rt; matches!(task.poll(&mut stream.next()), Poll::Ready(None)));
@@ -387,7 +387,7 @@ fn a_stream_keeps_the_position_of_its_waker(rt: HostRuntime) -> Result<(), Fail>
     for i in 0..20u64 {
         // A wait asks at most for an entry in the list.
         alloc.refuse_nth(2);
-        expect_equal(&rt, tx.try_send("x", i), Ok(()));
+        expect_equal(&rt, tx.try_send('x', i), Ok(()));
         assert!(rt; matches!(task.poll(&mut stream.next()), Poll::Ready(Some(_))));
         assert!(rt; is_pending(task.poll(&mut stream.next())));
         assert!(rt; alloc.refuse_none(), "at {i}");

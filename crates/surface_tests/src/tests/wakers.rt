@@ -37,28 +37,28 @@ fn a_receive_wakes_the_task_that_polled_it_last(rt: HostRuntime) -> Result<(), F
     assert!(rt; is_pending(second.poll(&mut receiving)));
     rest(&first);
     assert!(rt; !first.is_woken() && !second.is_woken());
-    expect_equal(&rt, tx.try_send("x", 1u64), Ok(()));
+    expect_equal(&rt, tx.try_send('x', 1u64), Ok(()));
     assert!(rt; second.is_woken() && !first.is_woken());
-    assert!(rt; matches!(second.poll(&mut receiving), Poll::Ready(Ok(("x", 1)))));
+    assert!(rt; matches!(second.poll(&mut receiving), Poll::Ready(Ok(('x', 1)))));
     Ok(())
 }
 
 #[test]
 fn a_send_wakes_the_task_that_polled_it_last(rt: HostRuntime) -> Result<(), Fail> {
     let (tx, rx) = bounded(&rt, rt.alloc(), 1)?;
-    expect_equal(&rt, tx.try_send("x", 1u64), Ok(()));
+    expect_equal(&rt, tx.try_send('x', 1u64), Ok(()));
     let first = MockTask::new(&rt)?;
     let second = MockTask::new(&rt)?;
-    let mut sending = tx.send("y", 2);
+    let mut sending = tx.send('y', 2);
     assert!(rt; is_pending(first.poll(&mut sending)));
     assert!(rt; !first.is_woken());
     assert!(rt; is_pending(second.poll(&mut sending)));
     rest(&first);
     assert!(rt; !first.is_woken() && !second.is_woken());
-    expect_equal(&rt, rx.try_recv(), Ok(("x", 1)));
+    expect_equal(&rt, rx.try_recv(), Ok(('x', 1)));
     assert!(rt; second.is_woken() && !first.is_woken());
     assert!(rt; matches!(second.poll(&mut sending), Poll::Ready(Ok(()))));
-    expect_equal(&rt, rx.try_recv(), Ok(("y", 2)));
+    expect_equal(&rt, rx.try_recv(), Ok(('y', 2)));
     Ok(())
 }
 
@@ -67,16 +67,16 @@ fn a_bulk_send_wakes_the_task_that_polled_it_last(rt: HostRuntime) -> Result<(),
     let (tx, rx) = bounded(&rt, rt.alloc(), 1)?;
     let first = MockTask::new(&rt)?;
     let second = MockTask::new(&rt)?;
-    let mut sending = tx.sendv([("x", 1u64), ("y", 2)].into_iter().peekable());
+    let mut sending = tx.sendv([('x', 1u64), ('y', 2)].into_iter().peekable());
     assert!(rt; is_pending(first.poll(&mut sending)));
     assert!(rt; !first.is_woken());
     assert!(rt; is_pending(second.poll(&mut sending)));
     rest(&first);
     assert!(rt; !first.is_woken() && !second.is_woken());
-    expect_equal(&rt, rx.try_recv(), Ok(("x", 1)));
+    expect_equal(&rt, rx.try_recv(), Ok(('x', 1)));
     assert!(rt; second.is_woken() && !first.is_woken());
     assert!(rt; matches!(second.poll(&mut sending), Poll::Ready(Ok(()))));
-    expect_equal(&rt, rx.try_recv(), Ok(("y", 2)));
+    expect_equal(&rt, rx.try_recv(), Ok(('y', 2)));
     Ok(())
 }
 
@@ -91,9 +91,9 @@ fn a_stream_wakes_the_task_that_polled_it_last(rt: HostRuntime) -> Result<(), Fa
     assert!(rt; is_pending(second.poll(&mut stream.next())));
     rest(&first);
     assert!(rt; !first.is_woken() && !second.is_woken());
-    expect_equal(&rt, tx.try_send("x", 1u64), Ok(()));
+    expect_equal(&rt, tx.try_send('x', 1u64), Ok(()));
     assert!(rt; second.is_woken() && !first.is_woken());
-    assert!(rt; matches!(second.poll(&mut stream.next()), Poll::Ready(Some(("x", 1)))));
+    assert!(rt; matches!(second.poll(&mut stream.next()), Poll::Ready(Some(('x', 1)))));
     Ok(())
 }
 
@@ -127,7 +127,7 @@ fn a_task_that_polls_again_is_not_woken_by_that(rt: HostRuntime) -> Result<(), F
         assert!(rt; is_pending(task.poll(&mut receiving)));
         assert!(rt; !task.is_woken(), "at {i}");
     }
-    expect_equal(&rt, tx.try_send("x", 1u64), Ok(()));
+    expect_equal(&rt, tx.try_send('x', 1u64), Ok(()));
     assert!(rt; task.is_woken());
     Ok(())
 }
@@ -141,15 +141,15 @@ fn a_message_wakes_all_who_wait_and_one_gets_it(rt: HostRuntime) -> Result<(), F
     let mut other = rx.recv();
     assert!(rt; is_pending(first.poll(&mut one)));
     assert!(rt; is_pending(second.poll(&mut other)));
-    expect_equal(&rt, tx.try_send("x", 1u64), Ok(()));
+    expect_equal(&rt, tx.try_send('x', 1u64), Ok(()));
     assert!(rt; first.is_woken() && second.is_woken());
-    assert!(rt; matches!(second.poll(&mut other), Poll::Ready(Ok(("x", 1)))));
+    assert!(rt; matches!(second.poll(&mut other), Poll::Ready(Ok(('x', 1)))));
     // The one that found nothing waits again, and is woken again.
     assert!(rt; is_pending(first.poll(&mut one)));
     assert!(rt; !first.is_woken());
-    expect_equal(&rt, tx.try_send("y", 2), Ok(()));
+    expect_equal(&rt, tx.try_send('y', 2), Ok(()));
     assert!(rt; first.is_woken());
-    assert!(rt; matches!(first.poll(&mut one), Poll::Ready(Ok(("y", 2)))));
+    assert!(rt; matches!(first.poll(&mut one), Poll::Ready(Ok(('y', 2)))));
     Ok(())
 }
 
@@ -163,19 +163,19 @@ fn a_receive_goes_on_in_the_task_of_another_thread(rt: HostRuntime) -> Result<()
         move || block_on(&rt, receiving),
         || {
             let_others_wait(&rt);
-            tx.try_send("x", 1u64)
+            tx.try_send('x', 1u64)
         },
     );
     expect_equal(&rt, sent, Ok(()));
-    expect_equal(&rt, received?, Ok(("x", 1)));
+    expect_equal(&rt, received?, Ok(('x', 1)));
     Ok(())
 }
 
 #[test]
 fn a_send_goes_on_in_the_task_of_another_thread(rt: HostRuntime) -> Result<(), Fail> {
     let (tx, rx) = bounded(&rt, rt.alloc(), 1)?;
-    expect_equal(&rt, tx.try_send("x", 1u64), Ok(()));
-    let mut sending = tx.send("y", 2);
+    expect_equal(&rt, tx.try_send('x', 1u64), Ok(()));
+    let mut sending = tx.send('y', 2);
     expect_equal(&rt, block_on(&rt, poll_immediate(&mut sending))?, None);
     let (sent, received) = thread::join(
         &rt,
@@ -185,9 +185,9 @@ fn a_send_goes_on_in_the_task_of_another_thread(rt: HostRuntime) -> Result<(), F
             rx.try_recv()
         },
     );
-    expect_equal(&rt, received, Ok(("x", 1)));
+    expect_equal(&rt, received, Ok(('x', 1)));
     expect_equal(&rt, sent?, Ok(()));
-    expect_equal(&rt, rx.try_recv(), Ok(("y", 2)));
+    expect_equal(&rt, rx.try_recv(), Ok(('y', 2)));
     Ok(())
 }
 
@@ -209,20 +209,20 @@ fn the_first_of_two_channels_ends_a_select(rt: HostRuntime) -> Result<(), Fail> 
     let (second_tx, second_rx) = bounded(&rt, rt.alloc(), 1)?;
     let sending = thread::spawn(&rt, move || {
         let_others_wait(&rt);
-        second_tx.try_send("second", 2u64)
+        second_tx.try_send('s', 2u64)
     })?;
     let chosen = block_on(&rt, select(first_rx.recv(), second_rx.recv()))?;
     expect_equal(&rt, sending.join(&rt), Ok(()));
     let Either::Right((received, receiving)) = chosen else {
         return Err(Fail::from("nothing was sent there"));
     };
-    expect_equal(&rt, received, Ok(("second", 2)));
+    expect_equal(&rt, received, Ok(('s', 2)));
     // The other goes on, in the task of another executor.
     let sending = thread::spawn(&rt, move || {
         let_others_wait(&rt);
-        first_tx.try_send("first", 1u64)
+        first_tx.try_send('f', 1u64)
     })?;
-    expect_equal(&rt, block_on(&rt, receiving)?, Ok(("first", 1)));
+    expect_equal(&rt, block_on(&rt, receiving)?, Ok(('f', 1)));
     expect_equal(&rt, sending.join(&rt), Ok(()));
     Ok(())
 }
@@ -243,8 +243,8 @@ fn a_closing_channel_is_an_alarm(rt: HostRuntime) -> Result<(), Fail> {
     assert!(rt; is_over);
     sleeping.join(&rt);
     // The receive that was given up takes nothing.
-    expect_equal(&rt, tx.try_send("x", 1u64), Ok(()));
-    expect_equal(&rt, rx.try_recv(), Ok(("x", 1)));
+    expect_equal(&rt, tx.try_send('x', 1u64), Ok(()));
+    expect_equal(&rt, rx.try_recv(), Ok(('x', 1)));
     expect_equal(&rt, rx.try_recv(), Err(TryRecvError::Empty));
     Ok(())
 }

@@ -23,8 +23,8 @@ fn an_upgraded_sender_is_a_further_sender(rt: HostRuntime) -> Result<(), Fail> {
     let weak = tx.downgrade()?;
     let other = weak.upgrade().ok_or("no sender")?;
     expect_equal(&rt, (tx.sender_count(), tx.receiver_count()), (2, 1));
-    expect_equal(&rt, other.try_send("x", 1u64), Ok(()));
-    expect_equal(&rt, rx.try_recv(), Ok(("x", 1)));
+    expect_equal(&rt, other.try_send('x', 1u64), Ok(()));
+    expect_equal(&rt, rx.try_recv(), Ok(('x', 1)));
     // It keeps the channel open as any sender does.
     drop(tx);
     expect_equal(&rt, rx.sender_count(), 1);
@@ -43,8 +43,8 @@ fn an_upgraded_receiver_is_a_further_receiver(rt: HostRuntime) -> Result<(), Fai
     expect_equal(&rt, (tx.sender_count(), tx.receiver_count()), (1, 2));
     drop(rx);
     expect_equal(&rt, tx.receiver_count(), 1);
-    expect_equal(&rt, tx.try_send("x", 1u64), Ok(()));
-    expect_equal(&rt, other.try_recv(), Ok(("x", 1)));
+    expect_equal(&rt, tx.try_send('x', 1u64), Ok(()));
+    expect_equal(&rt, other.try_recv(), Ok(('x', 1)));
     drop(other);
     expect_equal(&rt, tx.receiver_count(), 0);
     assert!(rt; tx.is_closed());
@@ -56,7 +56,7 @@ fn the_last_sender_closes_beside_weak_handles(rt: HostRuntime) -> Result<(), Fai
     let (tx, rx) = bounded(&rt, rt.alloc(), 2)?;
     let weak_tx = tx.downgrade()?;
     let weak_rx = rx.downgrade()?;
-    expect_equal(&rt, tx.try_send("x", 1u64), Ok(()));
+    expect_equal(&rt, tx.try_send('x', 1u64), Ok(()));
     drop(tx);
     assert!(rt; rx.is_closed());
     assert!(rt; weak_tx.upgrade().is_none());
@@ -64,7 +64,7 @@ fn the_last_sender_closes_beside_weak_handles(rt: HostRuntime) -> Result<(), Fai
     // What was refused is not counted, and the channel is as it was.
     expect_equal(&rt, (rx.sender_count(), rx.receiver_count()), (0, 1));
     assert!(rt; rx.is_closed());
-    expect_equal(&rt, rx.try_recv(), Ok(("x", 1)));
+    expect_equal(&rt, rx.try_recv(), Ok(('x', 1)));
     expect_equal(&rt, rx.try_recv(), Err(TryRecvError::Closed));
     // A weak handle that is made only now gives no other answer.
     assert!(rt; rx.downgrade()?.upgrade().is_none());
@@ -89,12 +89,12 @@ fn nothing_is_upgraded_after_a_close(rt: HostRuntime) -> Result<(), Fail> {
     let (tx, rx) = bounded(&rt, rt.alloc(), 2)?;
     let weak_tx = tx.downgrade()?;
     let weak_rx = rx.downgrade()?;
-    expect_equal(&rt, tx.try_send("x", 1u64), Ok(()));
+    expect_equal(&rt, tx.try_send('x', 1u64), Ok(()));
     assert!(rt; rx.close());
     assert!(rt; weak_tx.upgrade().is_none());
     assert!(rt; weak_rx.upgrade().is_none());
     expect_equal(&rt, (tx.sender_count(), tx.receiver_count()), (1, 1));
-    expect_equal(&rt, rx.try_recv(), Ok(("x", 1)));
+    expect_equal(&rt, rx.try_recv(), Ok(('x', 1)));
     Ok(())
 }
 
