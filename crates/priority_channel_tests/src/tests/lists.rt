@@ -9,25 +9,25 @@ use std::alloc::AllocError;
 use std::vec::IntoIter;
 
 // Into a reserved channel, so that no memory is refused. What there is no room for is let go.
-fn send_vec(core: &mut Core<char>, pairs: Vec<(char, u64)>)
+fn send_vec(core: &mut Core<&'static str>, pairs: Vec<(&'static str, u64)>)
     requires opened { core.old.state.is_closed ≡ false }
     requires reserved { core.old.state.is_reserved ≡ true }
     requires numbers { core.old.state.accepted + vec_len pairs < 2 ^ 64 }
     ensures { core.new.state.pending ≡ core.old.state.pending ++ take (room core.old.state)
         pairs.entry.items }
 {
-    list_law::<IntoIter<(char, u64)>>();
+    list_law::<IntoIter<(&'static str, u64)>>();
     let (_, wakes) = core.try_sendv(pairs.into_iter().peekable());
     spend(wakes);
 }
 
 #[test]
 fn the_caller_knows_how_many_of_a_vector_were_accepted(rt: HostRuntime) -> Result<(), AllocError> {
-    let mut core: Core<char> = Core::bounded_reserved(rt.alloc(), 2)?;
+    let mut core: Core<&str> = Core::bounded_reserved(rt.alloc(), 2)?;
     send_vec(
         &mut core,
-        vec![in rt.alloc(); ('a', 0), ('b', 1), ('c', 2)]?,
+        vec![in rt.alloc(); ("a", 0), ("b", 1), ("c", 2)]?,
     );
-    expect_equal(&rt, receive(&mut core), Ok(('b', 1)));
+    expect_equal(&rt, receive(&mut core), Ok(("b", 1)));
     Ok(())
 }
