@@ -42,7 +42,7 @@ fn with_room_it_is_refused_as_any_send(rt: HostRuntime) -> Result<(), Fail> {
         }
         let met_none = alloc.refuse_none();
         expect_equal(&rt, refused == 0, met_none);
-        expect_equal(&rt, rx.len(), 9 - refused);
+        expect_equal(&rt, rx.len().saturating_add(refused), 9);
     }
     Ok(())
 }

@@ -89,11 +89,12 @@ impl Plain {
         Some(self.remove(place))
     }
 
-    fn retain(&mut self, test: impl Fn(&u64) -> bool, alloc: Global) -> Result<Pairs, AllocError> {
+    // Each message that leaves another rest than this stays. Tells what went.
+    fn retain(&mut self, rest: u64, alloc: Global) -> Result<Pairs, AllocError> {
         let mut kept = Vec::new(alloc);
         let mut taken = Vec::new(alloc);
         for pair in self.pending.iter() {
-            if test(&pair.0) {
+            if pair.0 % 8 != rest {
                 kept.push(*pair)?;
             } else {
                 taken.push(*pair)?;
@@ -179,7 +180,7 @@ impl Beside {
         let mut taken = Vec::with_capacity(self.alloc, self.core.len() as usize)?;
         let wakes = self.core.retain(&|msg, _| *msg % 8 != rest, &mut taken);
         unwoken(((), wakes));
-        let wanted = self.plain.retain(|msg| *msg % 8 != rest, self.alloc)?;
+        let wanted = self.plain.retain(rest, self.alloc)?;
         Ok(taken.len() == wanted.len() && wanted.iter().all(|pair| taken.contains(pair)))
     }
 }
