@@ -32,7 +32,7 @@ pub enum Call<T, P, W, M> {
 }
 
 /// What a call of the same name answers.
-#[derive(Drop)]
+#[derive(Debug, Drop, PartialEq)]
 pub enum Answer<T, P, M> {
     TrySend(Result<(), TrySendError<(T, P)>>),
     TrySendv(Result<(), TrySendError<M>>),
@@ -59,7 +59,7 @@ pub enum Answer<T, P, M> {
 
 /// What a poll answers: the outcome, or what the caller keeps for its next poll with the ticket
 /// under which it waits.
-#[derive(Drop)]
+#[derive(Debug, Drop, PartialEq)]
 pub enum CorePoll<A, K> {
     Ready(A),
     Pending(K, u64),
