@@ -1,7 +1,5 @@
-//! Tests of the calls that wait on their thread, and of the loops over a receiver: what no contract
-//! says.
-//!
-//! They stand in a crate of their own, so that the library is proved once.
+//! Tests of threads in the queue of those that wait, of loops, of refused memory in waits, and of
+//! calls that are one step beside those of other threads: what no contract says.
 #![tactic(auto)]
 
 #[cfg(test)]

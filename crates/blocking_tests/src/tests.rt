@@ -1,16 +1,14 @@
 //! Calls that wait on their thread.
+use futures::task::Poll;
 use std::fmt::Debug;
 use std::process::Abort;
 
 mod calls;
-mod ends;
-mod errors;
-mod happy;
-mod limits;
 mod line;
 mod loops;
 mod memory;
-mod mixed;
+mod steps;
+mod times;
 
 /// `assert_eq!`, proved once: each one in place takes seconds of the check.
 fn expect_equal<X: PartialEq + Debug + Drop>(rt: &impl Abort, got: X, wanted: X) {
@@ -25,4 +23,8 @@ fn expect_equal_at<N: Debug + Drop, X: PartialEq + Debug + Drop>(
     wanted: X,
 ) {
     assert_eq!(rt; got, wanted, "at {round:?}");
+}
+
+fn is_pending<T: Drop>(polled: Poll<T>) -> bool {
+    matches!(polled, Poll::Pending)
 }

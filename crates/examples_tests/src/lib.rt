@@ -1,7 +1,7 @@
-//! The examples of the library's documentation.
+//! The examples of the library's documentation run, and are true.
 //!
-//! Each stands here as it is quoted there, but for the layout and for `assert_eq!(rt; ..)`, in whose
-//! place stands `expect_equal(&rt, ..)`. `tools/examples` checks that.
+//! The gate runs no doc comment. `tools/examples --write` makes a test of each, and the gate compares
+//! the tests with the doc comments.
 #![tactic(auto)]
 
 #[cfg(test)]

@@ -1,6 +1,6 @@
 //! Threads that wait for the same in a line: whoever leaves it, and however, those behind go on.
-use super::calls::{let_others_wait, long, short};
 use super::expect_equal;
+use super::times::{let_others_wait, long, short};
 use async_priority_channel::{
     Receiver, RecvFault, RecvTimeoutError, SendFault, SendTimeoutError, Sender, bounded,
 };

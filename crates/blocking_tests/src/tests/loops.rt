@@ -1,6 +1,6 @@
 //! Loops over a receiver.
-use super::calls::let_others_wait;
 use super::expect_equal;
+use super::times::let_others_wait;
 use async_priority_channel::{Receiver, Sender, TrySendError, bounded, unbounded};
 use std::sync::Wait;
 use std::test::Fail;

@@ -1,0 +1,39 @@
+//! What the tests share.
+use std::fmt::Debug;
+use std::process::Abort;
+
+mod bag;
+mod calls;
+mod errors;
+mod iterators;
+mod lists;
+mod long;
+mod memory;
+mod plain;
+mod random;
+mod rows;
+mod runs;
+mod script;
+mod states;
+mod waits;
+mod word;
+
+/// `assert!`, proved once: each one in place takes a second of the check.
+fn expect_true(rt: &impl Abort, holds: bool, what: &str) {
+    assert!(rt; holds, "{what}");
+}
+
+/// `assert_eq!`, proved once.
+fn expect_equal<X: PartialEq + Debug + Drop>(rt: &impl Abort, got: X, wanted: X) {
+    assert_eq!(rt; got, wanted);
+}
+
+/// The same in one round of a loop, which it names where the two differ.
+fn expect_equal_at<N: Debug + Drop, X: PartialEq + Debug + Drop>(
+    rt: &impl Abort,
+    round: N,
+    got: X,
+    wanted: X,
+) {
+    assert_eq!(rt; got, wanted, "at {round:?}");
+}

@@ -1,0 +1,269 @@
+//! Calls of the core as words, made on the core, and their answers as text.
+//!
+//! A message is one character, and a pair is written with its priority behind it, as `x5`. An answer
+//! is as `{:?}` prints it, but that the error of a send shows what came back. Behind it stand those
+//! whom the call handed out, by what they waited for, each with its ticket and its waker.
+use priority_channel_core::awaitable_atomics::Wakes;
+use priority_channel_core::calls::CorePoll;
+use priority_channel_core::channel::PriorityQueueChannel;
+use priority_channel_core::errors::{SendError, SendFault, TrySendError};
+use refusing::Refusing;
+use std::alloc::{AllocError, AllocGlobal, Allocator, Global};
+use std::fmt;
+use std::fmt::Debug;
+use std::iter::Peekable;
+use std::process::Abort;
+use std::vec::IntoIter;
+
+pub type Pair = (char, u64);
+
+pub type Pairs = Peekable<IntoIter<Pair>>;
+
+pub type Core<'a> = PriorityQueueChannel<char, u64, Numbered<'a>, &'a Refusing<Global>>;
+
+pub fn number(word: &str) -> u64 {
+    word.parse().unwrap_or(0)
+}
+
+/// None is `-`.
+pub fn ticket(word: &str) -> Option<u64> {
+    word.parse().ok()
+}
+
+pub fn letter(word: &str) -> char {
+    word.chars().next().unwrap_or('?')
+}
+
+pub fn pair(word: &str) -> Pair {
+    let msg = letter(word);
+    (msg, number(word.strip_prefix(msg).unwrap_or("")))
+}
+
+pub fn pairs<R: Abort + AllocGlobal>(rt: &R, words: &[&str]) -> Vec<Pair> {
+    let mut pairs = Vec::new(rt.alloc());
+    for word in words {
+        pairs.push(pair(*word)).expect(rt, "memory");
+    }
+    pairs
+}
+
+/// A waker with a number, whose clone asks for memory.
+#[derive(Drop)]
+pub struct Numbered<'a> {
+    number: u64,
+    alloc: &'a Refusing<Global>,
+    _memory: Option<Box<u64, &'a Refusing<Global>>>,
+}
+
+impl<'a> Numbered<'a> {
+    pub fn of(word: &str, alloc: &'a Refusing<Global>) -> Self {
+        Numbered {
+            number: number(word),
+            alloc,
+            _memory: None,
+        }
+    }
+}
+
+impl<'a> Clone for Numbered<'a> {
+    fn clone(&self) -> Result<Numbered<'a>, AllocError> {
+        Ok(Numbered {
+            number: self.number,
+            alloc: self.alloc,
+            _memory: Some(Box::new(self.alloc, self.number)?),
+        })
+    }
+}
+
+impl Debug for Numbered<'_> {
+    fn fmt<W: fmt::Write>(&self, f: &mut fmt::Formatter<W>) -> fmt::Result {
+        write!(f, "{}", self.number)
+    }
+}
+
+/// Why a send was refused, and what came back.
+#[derive(Debug, Drop)]
+pub enum Unsent<K> {
+    Full(K),
+    Closed(K),
+    Memory(K),
+}
+
+impl<K> From<TrySendError<K>> for Unsent<K> {
+    fn from(error: TrySendError<K>) -> Unsent<K> {
+        match error {
+            TrySendError::Full(held) => Unsent::Full(held),
+            TrySendError::Closed(held) => Unsent::Closed(held),
+            TrySendError::Memory(held) => Unsent::Memory(held),
+        }
+    }
+}
+
+impl<K> From<SendFault<K>> for Unsent<K> {
+    fn from(fault: SendFault<K>) -> Unsent<K> {
+        match fault {
+            SendFault::Closed(SendError(held)) => Unsent::Closed(held),
+            SendFault::Memory(held) => Unsent::Memory(held),
+        }
+    }
+}
+
+pub type Sent<K> = Result<(), Unsent<K>>;
+
+pub fn list<R: Abort + AllocGlobal>(rt: &R, rest: Pairs) -> Vec<Pair> {
+    rest.collect(rt.alloc()).expect(rt, "memory")
+}
+
+pub fn listed<R: Abort + AllocGlobal>(rt: &R, sent: Sent<Pairs>) -> Sent<Vec<Pair>> {
+    match sent {
+        Ok(()) => Ok(()),
+        Err(Unsent::Full(rest)) => Err(Unsent::Full(list(rt, rest))),
+        Err(Unsent::Closed(rest)) => Err(Unsent::Closed(list(rt, rest))),
+        Err(Unsent::Memory(rest)) => Err(Unsent::Memory(list(rt, rest))),
+    }
+}
+
+/// An answer as text.
+pub fn said<R: Abort + AllocGlobal>(rt: &R, answer: impl Debug + Drop) -> String {
+    format!(in rt.alloc(); "{answer:?}").expect(rt, "memory")
+}
+
+/// An answer with those whom its call handed out.
+pub fn said_to<R: Abort + AllocGlobal, W: Debug + Drop, A: Allocator>(
+    rt: &R,
+    answer: String,
+    room: Vec<(u64, W), A>,
+    message: Vec<(u64, W), A>,
+) -> String {
+    let alloc = rt.alloc();
+    let said = match (room.is_empty(), message.is_empty()) {
+        (true, true) => Ok(answer),
+        (false, true) => format!(in alloc; "{answer}, room {room:?}"),
+        (true, false) => format!(in alloc; "{answer}, message {message:?}"),
+        (false, false) => format!(in alloc; "{answer}, room {room:?}, message {message:?}"),
+    };
+    said.expect(rt, "memory")
+}
+
+pub fn told<'a, R: Abort + AllocGlobal>(
+    rt: &R,
+    answer: impl Debug + Drop,
+    wakes: Wakes<Numbered<'a>, &'a Refusing<Global>>,
+) -> String {
+    let (room, message) = wakes.into_lists();
+    said_to(rt, said(rt, answer), room, message)
+}
+
+/// Makes a call, and tells what came of it.
+pub fn ask<'a, R: Abort + AllocGlobal>(
+    rt: &R,
+    alloc: &'a Refusing<Global>,
+    core: &mut Core<'a>,
+    words: &[&str],
+) -> String {
+    match words {
+        ["try_send", word] => {
+            let (msg, priority) = pair(*word);
+            let (sent, wakes) = core.try_send(msg, priority);
+            told(rt, sent.map_err(Unsent::from), wakes)
+        }
+        ["try_sendv", words @ ..] => {
+            let (sent, wakes) = core.try_sendv(pairs(rt, words).into_iter().peekable());
+            told(rt, listed(rt, sent.map_err(Unsent::from)), wakes)
+        }
+        ["try_send_evicting", word] => {
+            let (msg, priority) = pair(*word);
+            let (sent, wakes) = core.try_send_evicting(msg, priority);
+            told(rt, sent.map_err(Unsent::from), wakes)
+        }
+        ["close"] => {
+            let (was_open, wakes) = core.close();
+            told(rt, was_open, wakes)
+        }
+        ["clone_sender"] => said(rt, core.clone_sender()),
+        ["clone_receiver"] => said(rt, core.clone_receiver()),
+        ["drop_sender"] if core.sender_count() > 0 => told(rt, (), core.drop_sender()),
+        ["drop_receiver"] if core.receiver_count() > 0 => told(rt, (), core.drop_receiver()),
+        ["pending"] => said(rt, (core.len(), core.is_empty(), core.is_full())),
+        ["is_closed"] => said(rt, core.is_closed()),
+        ["capacity"] => said(rt, core.capacity()),
+        ["handles"] => said(rt, (core.sender_count(), core.receiver_count())),
+        _ => ask_to_receive(rt, alloc, core, words),
+    }
+}
+
+fn ask_to_receive<'a, R: Abort + AllocGlobal>(
+    rt: &R,
+    alloc: &'a Refusing<Global>,
+    core: &mut Core<'a>,
+    words: &[&str],
+) -> String {
+    match words {
+        ["try_recv"] => {
+            let (received, wakes) = core.try_recv();
+            told(rt, received, wakes)
+        }
+        ["try_recv_many", limit] => {
+            let limit = number(*limit) as usize;
+            let mut batch = Vec::with_capacity(rt.alloc(), limit).expect(rt, "memory");
+            let (received, wakes) = core.try_recv_many(&mut batch, limit);
+            told(rt, (received, batch), wakes)
+        }
+        ["take_where", msg] => {
+            let wanted = letter(*msg);
+            let (taken, wakes) = core.take_where(&|msg, _| *msg == wanted);
+            told(rt, taken, wakes)
+        }
+        // Of this priority and above.
+        ["retain", least] => {
+            let least = number(*least);
+            let pending = core.len() as usize;
+            let mut taken = Vec::with_capacity(rt.alloc(), pending).expect(rt, "memory");
+            let wakes = core.retain(&|_, priority| *priority >= least, &mut taken);
+            // They come in no order that is said.
+            taken.sort().expect(rt, "memory");
+            told(rt, taken, wakes)
+        }
+        ["peek"] => said(rt, core.peek()),
+        _ => ask_to_wait(rt, alloc, core, words),
+    }
+}
+
+fn ask_to_wait<'a, R: Abort + AllocGlobal>(
+    rt: &R,
+    alloc: &'a Refusing<Global>,
+    core: &mut Core<'a>,
+    words: &[&str],
+) -> String {
+    match words {
+        ["poll_send", given, waker, word] => {
+            let (msg, priority) = pair(*word);
+            let waker = Numbered::of(*waker, alloc);
+            let (polled, wakes) = core.poll_send(msg, priority, ticket(*given), &waker);
+            let answer = match polled {
+                CorePoll::Ready(sent) => CorePoll::Ready(sent.map_err(Unsent::from)),
+                CorePoll::Pending(pair, ticket) => CorePoll::Pending(pair, ticket),
+            };
+            told(rt, answer, wakes)
+        }
+        ["poll_sendv", given, waker, words @ ..] => {
+            let msgs = pairs(rt, words).into_iter().peekable();
+            let waker = Numbered::of(*waker, alloc);
+            let (polled, wakes) = core.poll_sendv(msgs, ticket(*given), &waker);
+            let answer = match polled {
+                CorePoll::Ready(sent) => CorePoll::Ready(listed(rt, sent.map_err(Unsent::from))),
+                CorePoll::Pending(rest, ticket) => CorePoll::Pending(list(rt, rest), ticket),
+            };
+            told(rt, answer, wakes)
+        }
+        ["poll_recv", given, waker] => {
+            let (polled, wakes) = core.poll_recv(ticket(*given), &Numbered::of(*waker, alloc));
+            told(rt, polled, wakes)
+        }
+        ["give_up", given] => {
+            core.give_up(number(*given));
+            said(rt, ())
+        }
+        _ => panic!(rt; "no call, or none that may be made now: {words:?}"),
+    }
+}

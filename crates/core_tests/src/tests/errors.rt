@@ -1,0 +1,177 @@
+//! What the errors of the core print and hand back, and which lead to which.
+use super::{expect_equal, expect_true};
+use priority_channel_core::errors::{
+    RecvError, RecvFault, SendError, SendFault, TryRecvError, TryRecvManyError, TrySendError,
+};
+use std::alloc::AllocGlobal;
+use std::error::Error;
+use std::process::Abort;
+
+// A message that can be neither printed nor compared.
+#[derive(Drop)]
+struct Opaque;
+
+// A message that cannot be dropped either.
+struct Parcel;
+
+const SEND_CLOSED: &str = "sending into a closed channel";
+
+const SEND_MEMORY: &str = "no memory for sending";
+
+const RECV_CLOSED: &str = "receiving from an empty and closed channel";
+
+const RECV_EMPTY: &str = "receiving from an empty channel";
+
+// What `{}` and `{:?}` print of an error.
+fn expect_texts<R: Abort + AllocGlobal>(rt: &R, error: impl Error, shown: &str, debug: &str) {
+    let printed = format!(in rt.alloc(); "{error} / {error:?}").expect(rt, "memory");
+    let wanted = format!(in rt.alloc(); "{shown} / {debug}").expect(rt, "memory");
+    expect_equal(rt, printed.as_str(), wanted.as_str());
+}
+
+#[test]
+fn errors_print_why_and_not_what(rt: HostRuntime) {
+    let full = "sending into a full channel";
+    let closed = SendFault::Closed(SendError(Opaque));
+    expect_texts(&rt, SendError(Opaque), SEND_CLOSED, "SendError(..)");
+    expect_texts(&rt, TrySendError::Full(Opaque), full, "Full(..)");
+    expect_texts(&rt, TrySendError::Closed(Opaque), SEND_CLOSED, "Closed(..)");
+    expect_texts(&rt, TrySendError::Memory(Opaque), SEND_MEMORY, "Memory(..)");
+    expect_texts(&rt, closed, SEND_CLOSED, "Closed(..)");
+    expect_texts(&rt, SendFault::Memory(Opaque), SEND_MEMORY, "Memory(..)");
+
+    let (batch, wait) = ("no memory for receiving", "no memory for waiting");
+    let closed = RecvFault::Closed(RecvError);
+    expect_texts(&rt, RecvError, RECV_CLOSED, "RecvError");
+    expect_texts(&rt, TryRecvError::Empty, RECV_EMPTY, "Empty");
+    expect_texts(&rt, TryRecvError::Closed, RECV_CLOSED, "Closed");
+    expect_texts(&rt, TryRecvManyError::Empty, RECV_EMPTY, "Empty");
+    expect_texts(&rt, TryRecvManyError::Closed, RECV_CLOSED, "Closed");
+    expect_texts(&rt, TryRecvManyError::Memory, batch, "Memory");
+    expect_texts(&rt, closed, RECV_CLOSED, "Closed(RecvError)");
+    expect_texts(&rt, RecvFault::Memory, wait, "Memory");
+}
+
+// Of errors that all differ, each equals itself and its clone alone.
+fn expect_apart<E: PartialEq + Clone + Drop>(rt: &impl Abort, errors: &[E]) {
+    for (at, error) in errors.iter().enumerate() {
+        let clone = error.clone().expect(rt, "a clone");
+        let found = errors.iter().position(|other| *other == clone);
+        expect_equal(rt, found, Some(at));
+    }
+}
+
+#[test]
+fn errors_are_equal_where_variant_and_content_are(rt: HostRuntime) {
+    let copy = SendError(1);
+    expect_equal(&rt, copy, SendError(1));
+    expect_apart(&rt, &[copy, SendError(2)]);
+    expect_apart(
+        &rt,
+        &[
+            TrySendError::Full(1),
+            TrySendError::Full(2),
+            TrySendError::Closed(1),
+            TrySendError::Memory(1),
+        ],
+    );
+    expect_apart(
+        &rt,
+        &[
+            SendFault::Memory(1),
+            SendFault::Closed(copy),
+            SendFault::Memory(2),
+        ],
+    );
+    expect_apart(&rt, &[RecvError]);
+    expect_apart(&rt, &[TryRecvError::Empty, TryRecvError::Closed]);
+    expect_apart(&rt, &[RecvFault::Memory, RecvFault::Closed(RecvError)]);
+    expect_apart(&rt, &[TryRecvManyError::Memory, TryRecvManyError::Empty]);
+}
+
+#[test]
+fn errors_tell_why(rt: HostRuntime) {
+    let full = TrySendError::Full(1);
+    let memory = TrySendError::Memory(1);
+    let closed = TrySendError::Closed(1);
+    expect_true(
+        &rt,
+        full.is_full() && !full.is_closed() && !full.is_memory(),
+        "full",
+    );
+    expect_true(
+        &rt,
+        memory.is_memory() && !memory.is_full() && !memory.is_closed(),
+        "memory",
+    );
+    expect_true(
+        &rt,
+        closed.is_closed() && !closed.is_full() && !closed.is_memory(),
+        "closed",
+    );
+    let (empty, closed) = (TryRecvError::Empty, TryRecvError::Closed);
+    expect_true(&rt, empty.is_empty() && !empty.is_closed(), "empty");
+    expect_true(
+        &rt,
+        closed.is_closed() && !closed.is_empty(),
+        "closed and empty",
+    );
+    let (memory, closed) = (SendFault::Memory(1), SendFault::Closed(SendError(1)));
+    expect_true(
+        &rt,
+        memory.is_memory() && !memory.is_closed(),
+        "memory of a wait",
+    );
+    expect_true(
+        &rt,
+        closed.is_closed() && !closed.is_memory(),
+        "a closed wait",
+    );
+    let (memory, closed) = (RecvFault::Memory, RecvFault::Closed(RecvError));
+    expect_true(
+        &rt,
+        memory.is_memory() && !memory.is_closed(),
+        "memory of a receive",
+    );
+    expect_true(
+        &rt,
+        closed.is_closed() && !closed.is_memory(),
+        "a closed receive",
+    );
+    let (memory, closed) = (TryRecvManyError::Memory, TryRecvManyError::Closed);
+    expect_true(
+        &rt,
+        memory.is_memory() && !memory.is_closed(),
+        "memory of a batch",
+    );
+    expect_true(
+        &rt,
+        closed.is_closed() && !closed.is_empty(),
+        "a closed batch",
+    );
+}
+
+#[test]
+fn errors_hand_back_what_was_not_sent_and_lead_to_one_another(rt: HostRuntime) {
+    expect_equal(&rt, TrySendError::Full(('l', 3)).into_inner(), ('l', 3));
+    let Parcel = TrySendError::Closed(Parcel).into_inner();
+    let Parcel = SendError(Parcel).into_inner();
+    let Parcel = SendFault::Closed(SendError(Parcel)).into_inner();
+    let Parcel = SendFault::Memory(Parcel).into_inner();
+
+    let (closed, memory) = (SendError(1), SendFault::Memory(1));
+    let (empty, ended) = (TryRecvError::Empty, TryRecvError::Closed);
+    expect_equal(&rt, SendFault::from(closed), SendFault::Closed(closed));
+    expect_equal(&rt, TrySendError::from(closed), TrySendError::Closed(1));
+    expect_equal(&rt, TrySendError::from(memory), TrySendError::Memory(1));
+    let closed = SendFault::Closed(closed);
+    expect_equal(&rt, TrySendError::from(closed), TrySendError::Closed(1));
+    expect_equal(&rt, TryRecvError::from(RecvError), ended);
+    expect_equal(
+        &rt,
+        RecvFault::from(RecvError),
+        RecvFault::Closed(RecvError),
+    );
+    expect_equal(&rt, TryRecvManyError::from(empty), TryRecvManyError::Empty);
+    expect_equal(&rt, TryRecvManyError::from(ended), TryRecvManyError::Closed);
+}

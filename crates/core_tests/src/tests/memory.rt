@@ -1,0 +1,116 @@
+//! Where memory is refused, the core hands back what it was to take.
+use super::calls::{Core, pairs};
+use super::expect_equal;
+use super::script::{play, play_refused};
+use priority_channel_core::errors::TrySendError;
+use refusing::Refusing;
+
+#[test]
+fn a_reserved_channel_needs_no_memory(rt: HostRuntime) {
+    play(
+        &rt,
+        "
+        reserved 2; refuse all
+        try_send a1; try_send b2; try_send c3 = Err(Full(('c', 3)))
+        try_recv = Ok(('b', 2)); try_send c3; pending = (2, false, true)
+        poll_send - 1 d4 = Ready(Err(Memory(('d', 4))))   # to wait takes some
+        clone_sender = true; clone_receiver = true; handles = (2, 2)
+        try_send_evicting d4 = Ok(Some(('a', 1)))
+        try_recv_many 2 = (Ok(2), [('d', 4), ('c', 3)]); poll_recv - 1 = Ready(Err(Memory))
+        try_sendv e5 f6; take_where e = Some(('e', 5)); retain 7 = [('f', 6)]; close = true
+        poll_send - 1 g7 = Ready(Err(Closed(('g', 7)))); try_recv = Err(Closed)
+
+        refuse all; reserved 2 = AllocError
+        refuse none = false; reserved 9223372036854775807 = AllocError",
+    );
+}
+
+#[test]
+fn what_is_refused_comes_back_and_waits_no_more(rt: HostRuntime) {
+    play(
+        &rt,
+        "
+        bounded 10; refuse all
+        try_send a5 = Err(Memory(('a', 5))); try_send_evicting a5 = Err(Memory(('a', 5)))
+        try_recv = Err(Empty); refuse none = false; try_send a5; try_recv = Ok(('a', 5))
+
+        bounded 10; refuse 1; try_sendv a0 b1 = Err(Memory([('a', 0), ('b', 1)]))
+        pending = (0, true, false); try_sendv a0 b1; try_recv = Ok(('b', 1))
+
+        bounded 1; try_send a1; refuse 1   # a batch needs no memory
+        try_recv_many 2 = (Ok(1), [('a', 1)]); refuse none = true
+
+        bounded 1; poll_recv - 1 = Pending((), 0)
+        refuse 1; poll_recv 0 2 = Ready(Err(Memory))   # the clone of the waker
+        refuse none = false; try_send a1
+
+        bounded 1; try_send a1; poll_send - 1 b2 = Pending(('b', 2), 0)
+        refuse 1; poll_send 0 2 b2 = Ready(Err(Memory(('b', 2))))
+        refuse none = false; try_recv = Ok(('a', 1))",
+    );
+}
+
+#[test]
+fn a_list_that_came_back_is_sent_again(rt: HostRuntime) {
+    let alloc = Refusing::new(rt.alloc());
+    let mut core: Core<'_> = Core::bounded(&alloc, 10);
+    alloc.refuse_nth(1);
+    let (sent, wakes) = core.try_sendv(pairs(&rt, &["a0", "b1"]).into_iter().peekable());
+    let (_room, _message) = wakes.into_lists();
+    let Err(TrySendError::Memory(rest)) = sent else {
+        panic!(rt; "it was not refused");
+    };
+    expect_equal(&rt, core.len(), 0);
+    let (sent, wakes) = core.try_sendv(rest);
+    let (_room, _message) = wakes.into_lists();
+    expect_equal(&rt, (sent.is_ok(), core.len()), (true, 2));
+}
+
+// Each message is in one call, and is accepted there or comes back.
+#[test]
+fn each_request_may_be_refused(rt: HostRuntime) {
+    play_refused(
+        &rt,
+        "
+        bounded 3
+        try_send a1
+        try_sendv b3 c2 d1 = Err(Full([('d', 1)]))
+        try_recv = Ok(('b', 3))
+        poll_send - 1 e2 = Ready(Ok(()))
+        try_send_evicting f4 = Ok(Some(('a', 1)))
+        poll_send - 1 g1 = Pending(('g', 1), 0)
+        poll_send - 2 h1 = Pending(('h', 1), 1)
+        take_where c = Some(('c', 2)), room [(0, 1), (1, 2)]
+        retain 3 = [('e', 2)]
+        try_recv = Ok(('f', 4))
+        poll_recv - 1 = Pending((), 2)
+        poll_recv 2 2 = Pending((), 2)
+        poll_sendv - 1 i1 j2 k3 l4 = Pending([('l', 4)], 3), message [(2, 2)]
+        close = true, room [(3, 1)]
+        try_send m1 = Err(Closed(('m', 1)))",
+        "abcdefghijklm",
+    );
+    // Each growth of a vector.
+    play_refused(
+        &rt,
+        "
+        unbounded
+        A is sendv a1 b1 c1 d1 e1 f1 g1 h1 i1 j1 k1
+        A poll 1 = Ready(Ok(()))
+        try_sendv l1 m1 n1 o1 p1 q1 r1 s1 t1",
+        "abcdefghijklmnopqrst",
+    );
+    play_refused(
+        &rt,
+        "
+        bounded 2
+        A is sendv a1 b2 c4 d8 e9
+        A poll 7 = Pending
+        try_recv = Ok(('b', 2)), room [(0, 7)]
+        A poll 7 = Pending
+        try_recv = Ok(('c', 4)), room [(1, 7)]
+        A poll 7 = Pending
+        A give_up = Some([('e', 9)])",
+        "abcde",
+    );
+}

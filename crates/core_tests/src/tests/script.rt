@@ -1,0 +1,184 @@
+//! Scripts, and the player that makes their calls.
+//!
+//! Calls stand on lines or between semicolons, and behind ` = ` what comes of a call, where that is
+//! more than `()` or `Ok(())`. `bounded 2`, `reserved 2` and `unbounded` make a new channel.
+//! `refuse` names the requests for memory that are refused from then on. `A is send x5` makes the
+//! state of a future, and `A` with a call asks it. What stands behind `#` is for the reader.
+use super::calls::{Core, ask, letter, number, said};
+use super::plain::Plain;
+use super::states::State;
+use refusing::Refusing;
+use std::alloc::{AllocError, AllocGlobal, Global};
+use std::collections::BTreeMap;
+use std::process::Abort;
+
+// The largest capacity of a reserved channel.
+const MOST: u64 = 9223372036854775807;
+
+/// A core with its states, and the list that makes the same calls, while memory is not refused and
+/// no state is made.
+#[derive(Drop)]
+pub struct Stage<'a> {
+    alloc: &'a Refusing<Global>,
+    core: Core<'a>,
+    states: BTreeMap<char, State>,
+    beside: Option<Plain>,
+}
+
+impl<'a> Stage<'a> {
+    pub fn new<R: AllocGlobal>(rt: &R, alloc: &'a Refusing<Global>) -> Self {
+        Stage {
+            alloc,
+            core: Core::unbounded(alloc),
+            states: BTreeMap::new(rt.alloc()),
+            beside: None,
+        }
+    }
+
+    /// Makes a call, and tells what came of it.
+    pub fn make<R: Abort + AllocGlobal>(&mut self, rt: &R, call: &str) -> String {
+        let words: Vec<&str> = call
+            .split_whitespace()
+            .collect(rt.alloc())
+            .expect(rt, "memory");
+        match words.as_slice() {
+            ["unbounded"] => self.open(rt, Core::unbounded(self.alloc), u64::MAX),
+            ["bounded", capacity] => {
+                let capacity = number(*capacity);
+                assert!(rt; 0 < capacity);
+                self.open(rt, Core::bounded(self.alloc, capacity), capacity)
+            }
+            ["reserved", capacity] => {
+                let capacity = number(*capacity);
+                assert!(rt; 0 < capacity && capacity <= MOST);
+                let made: Result<Core<'_>, AllocError> = Core::bounded_reserved(
+                    self.alloc, capacity,
+                );
+                match made {
+                    Ok(core) => self.open(rt, core, capacity),
+                    Err(error) => said(rt, error),
+                }
+            }
+            ["refuse", which] => {
+                self.beside = None;
+                match *which {
+                    // Tells whether the request that was named is still to come.
+                    "none" => said(rt, self.alloc.refuse_none()),
+                    "all" => said(rt, self.alloc.refuse_all()),
+                    nth => said(rt, self.alloc.refuse_nth(number(nth))),
+                }
+            }
+            [name, "is", state @ ..] => {
+                self.beside = None;
+                let state = State::new(rt, state);
+                let inserted: Result<_, _> = self.states.insert(letter(*name), state);
+                let _replaced = inserted.expect(rt, "memory");
+                said(rt, ())
+            }
+            [name, call @ ..] if name.starts_with(char::is_uppercase) => {
+                let state = self.states.get_mut(&letter(*name)).expect(rt, "a state");
+                state.ask(rt, self.alloc, &mut self.core, call)
+            }
+            words => {
+                // The list counts no handles.
+                if matches!(words, ["drop_sender" | "drop_receiver"]) {
+                    self.beside = None;
+                }
+                let beside = self.beside.as_mut();
+                let wanted = beside.and_then(|plain| plain.ask(rt, words));
+                let got = ask(rt, self.alloc, &mut self.core, words);
+                if let Some(wanted) = wanted {
+                    assert!(rt;
+                        got.as_str() == wanted.as_str(),
+                        "{call}: {got}, not {wanted}"
+                    );
+                }
+                got
+            }
+        }
+    }
+
+    fn open<R: Abort + AllocGlobal>(&mut self, rt: &R, core: Core<'a>, capacity: u64) -> String {
+        self.core = core;
+        self.beside = Some(Plain::new(rt.alloc(), capacity));
+        said(rt, ())
+    }
+}
+
+fn is_wanted(got: &str, call: &str) -> bool {
+    match call.split_once(" = ") {
+        Some((_, wanted)) => got == wanted.trim(),
+        None => got == "()" || got == "Ok(())",
+    }
+}
+
+fn asked(call: &str) -> &str {
+    call.split_once(" = ").map_or(call, |(call, _)| call)
+}
+
+/// Plays a script, and fails at the first call of which something else comes.
+pub fn play<R: Abort + AllocGlobal>(rt: &R, script: &str) {
+    let alloc = Refusing::new(rt.alloc());
+    let mut stage = Stage::new(rt, &alloc);
+    for line in script.lines() {
+        let (line, _comment) = line.split_once('#').unwrap_or((line, ""));
+        for call in line.split(';') {
+            if !call.trim().is_empty() {
+                let got = stage.make(rt, asked(call));
+                assert!(rt;
+                    is_wanted(got.as_str(), call),
+                    "{line}: {call}: it answered {got}"
+                );
+            }
+        }
+    }
+}
+
+/// Plays a script of which each request for memory is refused in turn. A call answers as the script
+/// says until the refusal, and there `Memory`; in the end each of these messages has come out once,
+/// or has come back once.
+pub fn play_refused<R: Abort + AllocGlobal>(rt: &R, script: &str, messages: &str) {
+    let alloc = Refusing::new(rt.alloc());
+    for round in alloc.rounds() {
+        let n = round.expect(rt, "a request");
+        let told = tell_refused(rt, &alloc, n, script);
+        for msg in messages.chars() {
+            let quoted = said(rt, msg);
+            let seen = told.matches(quoted.as_str()).count();
+            assert!(rt; seen == 1, "at {n}: {msg} came {seen} times: {told}");
+        }
+    }
+}
+
+// All answers of one round, and of receives until nothing is pending.
+fn tell_refused<R: Abort + AllocGlobal>(
+    rt: &R,
+    alloc: &Refusing<Global>,
+    n: u64,
+    script: &str,
+) -> String {
+    let mut told = String::new(rt.alloc());
+    let mut stage = Stage::new(rt, alloc);
+    let mut is_as_said = true;
+    alloc.refuse_nth(n);
+    for call in script.lines() {
+        if call.trim().is_empty() {
+            continue;
+        }
+        // The list has its memory from elsewhere.
+        stage.beside = None;
+        let got = stage.make(rt, asked(call));
+        if is_as_said && !is_wanted(got.as_str(), call) {
+            is_as_said = false;
+            assert!(rt; got.contains("Memory"), "at {n}, {call}: it answered {got}");
+        }
+        told.push_str(got.as_str()).expect(rt, "memory");
+    }
+    let met_none = alloc.refuse_none();
+    assert!(rt; is_as_said == met_none, "at {n}: {told}");
+    for _ in 0..stage.core.len() {
+        let got = stage.make(rt, "try_recv");
+        told.push_str(got.as_str()).expect(rt, "memory");
+    }
+    told
+}

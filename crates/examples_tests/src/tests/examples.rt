@@ -1,0 +1,1058 @@
+//! The examples of the library's documentation: `tools/examples --write` makes this file of them.
+ghost use Rattle.std.specs.Prelude.{◌≡◌, IfSome};
+
+use super::*;
+
+#[test]
+fn example_of_receiver_recv_blocking(rt: HostRuntime) {
+    let (tx, rx) = bounded(&rt, rt.alloc(), 1).expect(&rt, "bounded");
+    let sending = thread::spawn(&rt, move || tx.send_blocking("Foo", 0)).expect(&rt, "spawn");
+    let (job, priority) = rx.recv_blocking().expect(&rt, "recv_blocking");
+    expect_equal(&rt, (job, priority), ("Foo", 0));
+    expect_equal(&rt, sending.join(&rt), Ok(()));
+    expect_equal(&rt, rx.recv_blocking(), Err(RecvFault::Closed(RecvError)));
+}
+
+#[test]
+fn example_of_receiver_recv_timeout(rt: HostRuntime) {
+    let (tx, rx) = bounded(&rt, rt.alloc(), 1).expect(&rt, "bounded");
+    let limit = Duration::from_millis(5);
+    expect_equal(&rt, rx.recv_timeout(limit), Err(RecvTimeoutError::Timeout));
+    tx.try_send("Foo", 0).expect(&rt, "try_send");
+    expect_equal(&rt, rx.recv_timeout(limit), Ok(("Foo", 0)));
+    drop(tx);
+    expect_equal(&rt, rx.recv_timeout(limit), Err(RecvTimeoutError::Closed));
+}
+
+#[test]
+fn example_of_receiver_recv_deadline(rt: HostRuntime) {
+    let (tx, rx) = bounded(&rt, rt.alloc(), 1).expect(&rt, "bounded");
+    tx.try_send("Foo", 0).expect(&rt, "try_send");
+    let limit = Duration::from_millis(5);
+    let deadline = Instant::now(&rt)
+        .expect(&rt, "now")
+        .checked_add(limit)
+        .ok_or("too late")
+        .expect(&rt, "ok_or");
+    expect_equal(&rt, rx.recv_deadline(deadline), Ok(("Foo", 0)));
+    expect_equal(
+        &rt,
+        rx.recv_deadline(deadline),
+        Err(RecvTimeoutError::Timeout),
+    );
+    expect_true(&rt, deadline <= Instant::now(&rt).expect(&rt, "now"));
+}
+
+#[test]
+fn example_of_sender_send_blocking(rt: HostRuntime) {
+    let (tx, rx) = bounded(&rt, rt.alloc(), 1).expect(&rt, "bounded");
+    tx.send_blocking("Foo", 0).expect(&rt, "send_blocking");
+    let sending = thread::spawn(&rt, move || tx.send_blocking("Bar", 2)).expect(&rt, "spawn");
+    expect_equal(&rt, rx.recv_blocking(), Ok(("Foo", 0)));
+    expect_equal(&rt, rx.recv_blocking(), Ok(("Bar", 2)));
+    expect_equal(&rt, sending.join(&rt), Ok(()));
+}
+
+#[test]
+fn example_of_sender_send_timeout(rt: HostRuntime) {
+    let (tx, rx) = bounded(&rt, rt.alloc(), 1).expect(&rt, "bounded");
+    let limit = Duration::from_millis(5);
+    tx.send_timeout("Foo", 0, limit).expect(&rt, "send_timeout");
+    let late = tx.send_timeout("Bar", 2, limit);
+    expect_equal(&rt, late, Err(SendTimeoutError::Timeout(("Bar", 2))));
+    drop(rx);
+    let late = tx.send_timeout("Bar", 2, limit);
+    expect_equal(&rt, late, Err(SendTimeoutError::Closed(("Bar", 2))));
+}
+
+#[test]
+fn example_of_sender_send_deadline(rt: HostRuntime) {
+    let (tx, rx) = bounded(&rt, rt.alloc(), 1).expect(&rt, "bounded");
+    let limit = Duration::from_millis(5);
+    let deadline = Instant::now(&rt)
+        .expect(&rt, "now")
+        .checked_add(limit)
+        .ok_or("too late")
+        .expect(&rt, "ok_or");
+    tx.send_deadline("Foo", 0, deadline)
+        .expect(&rt, "send_deadline");
+    let refused = tx.send_deadline("Bar", 2, deadline);
+    expect_equal(&rt, refused, Err(SendTimeoutError::Timeout(("Bar", 2))));
+}
+
+#[test]
+fn example_of_sender_sendv_blocking(rt: HostRuntime) {
+    let (tx, rx) = bounded(&rt, rt.alloc(), 1).expect(&rt, "bounded");
+    let jobs = [(3, 1), (4, 2)].into_iter().peekable();
+    let receiving = thread::spawn(&rt, move || (rx.recv_blocking(), rx)).expect(&rt, "spawn");
+    expect_true(&rt, tx.sendv_blocking(jobs).is_ok());
+    let (received, rx) = receiving.join(&rt);
+    expect_equal(&rt, received, Ok((3, 1)));
+    expect_equal(&rt, rx.try_recv(), Ok((4, 2)));
+}
+
+#[test]
+fn example_of_sender_sendv_timeout(rt: HostRuntime) {
+    let (tx, rx) = bounded(&rt, rt.alloc(), 1).expect(&rt, "bounded");
+    let jobs = [("compile", 1), ("link", 2)].into_iter().peekable();
+    if let Err(error) = tx.sendv_timeout(jobs, Duration::from_millis(5)) {
+        expect_true(&rt, error.is_timeout());
+        expect_equal(&rt, rx.try_recv(), Ok(("compile", 1)));
+        expect_true(&rt, tx.try_sendv(error.into_inner()).is_ok());
+    }
+    expect_equal(&rt, rx.try_recv(), Ok(("link", 2)));
+}
+
+#[test]
+fn example_of_sender_sendv_deadline(rt: HostRuntime) {
+    let (tx, rx) = bounded(&rt, rt.alloc(), 1).expect(&rt, "bounded");
+    let now = Instant::now(&rt).expect(&rt, "now");
+    let jobs = [("compile", 1), ("link", 2)].into_iter().peekable();
+    if let Err(error) = tx.sendv_deadline(jobs, now) {
+        expect_true(&rt, error.is_timeout());
+        expect_equal(&rt, error.into_inner().next(), Some(("link", 2)));
+    }
+    expect_equal(&rt, rx.try_recv(), Ok(("compile", 1)));
+}
+
+fn numbers<R: Wait + Clone>(rt: &R, alloc: Global) -> Result<Ends<u64, u64, R>, AllocError> {
+    bounded(rt, alloc, 10)
+}
+
+#[test]
+fn example_of_ends(rt: HostRuntime) {
+    let (tx, rx) = numbers(&rt, rt.alloc()).expect(&rt, "numbers");
+    tx.try_send(3, 0).expect(&rt, "try_send");
+    expect_equal(&rt, rx.capacity(), Some(10));
+}
+
+#[test]
+fn example_of_bounded(rt: HostRuntime) {
+    let (tx, rx) = bounded(&rt, rt.alloc(), 10).expect(&rt, "bounded");
+    tx.try_send("Foo", 0).expect(&rt, "try_send");
+    tx.try_send("Bar", 2).expect(&rt, "try_send");
+    expect_equal(&rt, rx.try_recv(), Ok(("Bar", 2)));
+}
+
+#[test]
+fn example_of_bounded_reserved(rt: HostRuntime) {
+    let (tx, rx) = bounded_reserved(&rt, rt.alloc(), 1).expect(&rt, "bounded_reserved");
+    tx.try_send("Foo", 0).expect(&rt, "try_send");
+    expect_equal(
+        &rt,
+        tx.try_send("Bar", 2),
+        Err(TrySendError::Full(("Bar", 2))),
+    );
+    expect_equal(&rt, rx.try_recv(), Ok(("Foo", 0)));
+}
+
+#[test]
+fn example_of_unbounded(rt: HostRuntime) {
+    let (tx, rx) = unbounded(&rt, rt.alloc()).expect(&rt, "unbounded");
+    wait_for(&rt, tx.send("Foo", 0)).expect(&rt, "wait_for");
+    wait_for(&rt, tx.send("Bar", 2)).expect(&rt, "wait_for");
+    expect_equal(&rt, wait_for(&rt, rx.recv()), Ok(("Bar", 2)));
+}
+
+fn first<R: Wait + Clone>(rx: &Receiver<u64, u64, R>) -> Result<u64, TryRecvError> {
+    let _guard = rx.close_on_drop();
+    let (number, _) = rx.try_recv()?;
+    Ok(number)
+}
+
+#[test]
+fn example_of_close_on_drop(rt: HostRuntime) {
+    let (tx, rx) = bounded(&rt, rt.alloc(), 1).expect(&rt, "bounded");
+    tx.try_send(3, 0).expect(&rt, "try_send");
+    expect_equal(&rt, first(&rx), Ok(3));
+    expect_true(&rt, tx.is_closed());
+}
+
+#[test]
+fn example_of_sender_close_on_drop(rt: HostRuntime) {
+    let (tx, rx) = unbounded(&rt, rt.alloc()).expect(&rt, "unbounded");
+    let other = tx.clone().expect(&rt, "clone");
+    let guard = tx.close_on_drop();
+    other.try_send("Foo", 0).expect(&rt, "try_send");
+    drop(guard);
+    expect_true(&rt, other.is_closed());
+    expect_equal(&rt, rx.try_recv(), Ok(("Foo", 0)));
+}
+
+#[test]
+fn example_of_receiver_close_on_drop(rt: HostRuntime) {
+    let (answer, answers) = unbounded::<&str, u64, _, _>(&rt, rt.alloc()).expect(&rt, "unbounded");
+    let (tx, requests) = unbounded(&rt, rt.alloc()).expect(&rt, "unbounded");
+    expect_true(&rt, tx.try_send(answer, 0).is_ok());
+    let guard = requests.close_on_drop();
+    drop(guard);
+    drop(requests);
+    expect_equal(&rt, answers.try_recv(), Err(TryRecvError::Closed));
+}
+
+#[test]
+fn example_of_iter(rt: HostRuntime) {
+    let (tx, rx) = bounded(&rt, rt.alloc(), 1).expect(&rt, "bounded");
+    let sending = thread::spawn(&rt, move || tx.send_blocking("Foo", 0)).expect(&rt, "spawn");
+    for (job, priority) in &rx {
+        expect_equal(&rt, (job, priority), ("Foo", 0));
+    }
+    expect_equal(&rt, sending.join(&rt), Ok(()));
+}
+
+#[test]
+fn example_of_into_iter(rt: HostRuntime) {
+    let (tx, rx) = unbounded(&rt, rt.alloc()).expect(&rt, "unbounded");
+    tx.try_send("Foo", 0).expect(&rt, "try_send");
+    for (job, priority) in rx {
+        expect_equal(&rt, (job, priority), ("Foo", 0));
+        expect_equal(&rt, tx.receiver_count(), 1);
+        tx.close();
+    }
+    expect_equal(&rt, tx.receiver_count(), 0);
+}
+
+#[test]
+fn example_of_try_iter(rt: HostRuntime) {
+    let (tx, rx) = unbounded(&rt, rt.alloc()).expect(&rt, "unbounded");
+    let mut there = rx.try_iter();
+    expect_equal(&rt, there.next(), None);
+    tx.try_send("Foo", 0).expect(&rt, "try_send");
+    expect_equal(&rt, there.next(), None);
+    expect_equal(&rt, rx.try_iter().next(), Some(("Foo", 0)));
+}
+
+#[test]
+fn example_of_receiver_iter(rt: HostRuntime) {
+    let (tx, rx) = unbounded(&rt, rt.alloc()).expect(&rt, "unbounded");
+    tx.try_send("tidy up", 1).expect(&rt, "try_send");
+    tx.try_send("put out the fire", 9).expect(&rt, "try_send");
+    drop(tx);
+    let mut jobs = rx.iter().map(|(job, _)| job);
+    expect_equal(&rt, jobs.next(), Some("put out the fire"));
+    expect_equal(&rt, jobs.next(), Some("tidy up"));
+    expect_equal(&rt, jobs.next(), None);
+}
+
+#[test]
+fn example_of_receiver_try_iter(rt: HostRuntime) {
+    let (tx, rx) = unbounded(&rt, rt.alloc()).expect(&rt, "unbounded");
+    tx.try_send("tidy up", 1).expect(&rt, "try_send");
+    tx.try_send("put out the fire", 9).expect(&rt, "try_send");
+    let mut done = Vec::new(rt.alloc());
+    for (job, _) in rx.try_iter() {
+        done.push(job).expect(&rt, "push");
+    }
+    expect_equal(
+        &rt,
+        done.as_slice(),
+        ["put out the fire", "tidy up"].as_slice(),
+    );
+}
+
+#[test]
+fn example_of_kinds_of_channels(rt: HostRuntime) {
+    let (tx, _rx) = bounded(&rt, rt.alloc(), 1).expect(&rt, "bounded");
+    expect_equal(&rt, tx.try_send("Foo", 0), Ok(()));
+    expect_equal(
+        &rt,
+        tx.try_send("Bar", 2),
+        Err(TrySendError::Full(("Bar", 2))),
+    );
+}
+
+#[test]
+fn example_of_order(rt: HostRuntime) {
+    let (tx, rx) = unbounded(&rt, rt.alloc()).expect(&rt, "unbounded");
+    let jobs = [("tidy up", 1), ("put out the fire", 9)];
+    tx.try_sendv(jobs.into_iter().peekable())
+        .expect(&rt, "try_sendv");
+    tx.try_send("call for help", 9).expect(&rt, "try_send");
+    expect_equal(&rt, rx.try_recv(), Ok(("put out the fire", 9)));
+    expect_equal(&rt, rx.try_recv(), Ok(("call for help", 9)));
+    expect_equal(&rt, rx.try_recv(), Ok(("tidy up", 1)));
+}
+
+#[test]
+fn example_of_order_2(rt: HostRuntime) {
+    let (tx, rx) = unbounded(&rt, rt.alloc()).expect(&rt, "unbounded");
+    tx.try_send("lunch", Reverse(12)).expect(&rt, "try_send");
+    tx.try_send("breakfast", Reverse(7)).expect(&rt, "try_send");
+    expect_equal(&rt, rx.try_recv(), Ok(("breakfast", Reverse(7))));
+}
+
+#[test]
+fn example_of_sharing(rt: HostRuntime) {
+    let (tx, rx) = bounded(&rt, rt.alloc(), 10).expect(&rt, "bounded");
+    let other = tx.clone().expect(&rt, "clone");
+    let working = thread::spawn(&rt, move || rx.iter().count()).expect(&rt, "spawn");
+    let sending = thread::spawn(&rt, move || other.send_blocking(3, 0)).expect(&rt, "spawn");
+    tx.send_blocking(4, 2).expect(&rt, "send_blocking");
+    expect_equal(&rt, sending.join(&rt), Ok(()));
+    drop(tx);
+    expect_equal(&rt, working.join(&rt), 2);
+}
+
+fn send_all<R: Wait + Clone>(tx: &Sender<u64, u64, R>, numbers: &[u64]) -> bool {
+    numbers
+        .iter()
+        .all(|number| tx.send_blocking(*number, 0).is_ok())
+}
+
+#[test]
+fn example_of_sharing_2(rt: HostRuntime) {
+    let (tx, rx) = unbounded(&rt, rt.alloc()).expect(&rt, "unbounded");
+    expect_true(&rt, send_all(&tx, &[3, 4]));
+    expect_equal(&rt, rx.len(), 2);
+}
+
+#[test]
+fn example_of_closing(rt: HostRuntime) {
+    let (tx, rx) = unbounded(&rt, rt.alloc()).expect(&rt, "unbounded");
+    tx.try_send("Foo", 0).expect(&rt, "try_send");
+    drop(tx);
+    expect_true(&rt, rx.is_closed());
+    expect_equal(&rt, rx.try_recv(), Ok(("Foo", 0)));
+    expect_equal(&rt, rx.try_recv(), Err(TryRecvError::Closed));
+}
+
+#[test]
+fn example_of_closing_2(rt: HostRuntime) {
+    let (tx, rx) = unbounded::<&str, u64, _, _>(&rt, rt.alloc()).expect(&rt, "unbounded");
+    let weak = tx.downgrade().expect(&rt, "downgrade");
+    let guard = rx.close_on_drop();
+    expect_true(&rt, weak.upgrade().is_some());
+    drop(guard);
+    expect_true(&rt, weak.upgrade().is_none());
+}
+
+#[test]
+fn example_of_blocking_and_not(rt: HostRuntime) {
+    let (tx, rx) = bounded(&rt, rt.alloc(), 1).expect(&rt, "bounded");
+    tx.try_send(3, 0).expect(&rt, "try_send"); // at once, or not at all
+    let receiving = thread::spawn(&rt, move || (rx.recv_blocking(), rx)).expect(&rt, "spawn");
+    tx.send_blocking(4, 2).expect(&rt, "send_blocking"); // once there is room
+    let (received, rx) = receiving.join(&rt);
+    expect_equal(&rt, received, Ok((3, 0)));
+    expect_equal(&rt, rx.try_recv(), Ok((4, 2)));
+}
+
+#[test]
+fn example_of_time_limits(rt: HostRuntime) {
+    let (tx, rx) = bounded(&rt, rt.alloc(), 1).expect(&rt, "bounded");
+    let limit = Duration::from_millis(5);
+    expect_equal(&rt, rx.recv_timeout(limit), Err(RecvTimeoutError::Timeout));
+    tx.send_timeout("Foo", 0, limit).expect(&rt, "send_timeout");
+    if let Err(late) = tx.send_timeout("Bar", 2, limit) {
+        expect_equal(&rt, late.into_inner(), ("Bar", 2));
+    }
+}
+
+#[test]
+fn example_of_iterating(rt: HostRuntime) {
+    let mut done = Vec::new(rt.alloc());
+    let (tx, rx) = bounded(&rt, rt.alloc(), 1).expect(&rt, "bounded");
+    let sending = thread::spawn(&rt, move || tx.send_blocking("Foo", 0)).expect(&rt, "spawn");
+    for (job, priority) in &rx {
+        done.push((job, priority)).expect(&rt, "push");
+    }
+    expect_equal(&rt, sending.join(&rt), Ok(()));
+    expect_equal(&rt, done.as_slice(), [("Foo", 0)].as_slice());
+}
+
+#[test]
+fn example_of_iterating_2(rt: HostRuntime) {
+    let (tx, rx) = unbounded(&rt, rt.alloc()).expect(&rt, "unbounded");
+    let jobs = [("compile", 2), ("link", 1), ("test", 3)];
+    tx.try_sendv(jobs.into_iter().peekable())
+        .expect(&rt, "try_sendv");
+    let mut batch = Vec::new(rt.alloc());
+    expect_equal(&rt, rx.recv_many_blocking(&mut batch, 2), Ok(2));
+    expect_equal(
+        &rt,
+        batch.as_slice(),
+        [("test", 3), ("compile", 2)].as_slice(),
+    );
+}
+
+#[test]
+fn example_of_futures(rt: HostRuntime) {
+    let (tx, rx) = bounded(&rt, rt.alloc(), 1).expect(&rt, "bounded");
+    let (received, sent) = wait_for(&rt, join(rx.recv(), tx.send("Foo", 0)));
+    expect_equal(&rt, (received, sent), (Ok(("Foo", 0)), Ok(())));
+    drop(tx);
+    expect_equal(&rt, wait_for(&rt, rx.stream().next()), None);
+}
+
+#[test]
+fn example_of_futures_2(rt: HostRuntime) {
+    let (tx, jobs) = unbounded(&rt, rt.alloc()).expect(&rt, "unbounded");
+    let (_stop, stops) = unbounded::<(), (), _, _>(&rt, rt.alloc()).expect(&rt, "unbounded");
+    tx.try_send("Foo", 0).expect(&rt, "try_send");
+    let has_come = match wait_for(&rt, select(jobs.recv(), stops.recv())) {
+        Either::Left((job, _)) => job == Ok(("Foo", 0)),
+        Either::Right(_) => false,
+    };
+    expect_true(&rt, has_come);
+}
+
+#[test]
+fn example_of_memory(rt: HostRuntime) {
+    let (tx, rx) = bounded_reserved(&rt, rt.alloc(), 100).expect(&rt, "bounded_reserved");
+    match tx.try_send("Foo", 0) {
+        Ok(()) => {}
+        Err(TrySendError::Full(unsent) | TrySendError::Closed(unsent)) => drop(unsent),
+        Err(TrySendError::Memory(_)) => panic!(rt; "not of a reserved channel"),
+    }
+    expect_equal(&rt, rx.len(), 1);
+}
+
+fn offer<R: Wait + Clone>(tx: &Sender<u64, u64, R>, number: u64) -> Option<u64>
+    ensures { IfSome result (λ unsent. unsent ≡ number) }
+{
+    match tx.try_send(number, 0) {
+        Ok(()) => None,
+        Err(refusal) => Some(refusal.into_inner().0),
+    }
+}
+
+#[test]
+fn example_of_what_is_proved(rt: HostRuntime) {
+    let (tx, rx) = bounded(&rt, rt.alloc(), 1).expect(&rt, "bounded");
+    expect_equal(&rt, offer(&tx, 3), None);
+    expect_equal(&rt, offer(&tx, 4), Some(4));
+    expect_equal(&rt, rx.len(), 1);
+}
+
+#[test]
+fn example_of_receiver_try_recv_many(rt: HostRuntime) {
+    let (tx, rx) = unbounded(&rt, rt.alloc()).expect(&rt, "unbounded");
+    let jobs = [("compile", 2), ("link", 1), ("test", 3)];
+    tx.try_sendv(jobs.into_iter().peekable())
+        .expect(&rt, "try_sendv");
+    let mut batch = Vec::new(rt.alloc());
+    expect_equal(&rt, rx.try_recv_many(&mut batch, 2), Ok(2));
+    expect_equal(
+        &rt,
+        batch.as_slice(),
+        [("test", 3), ("compile", 2)].as_slice(),
+    );
+    expect_equal(&rt, rx.len(), 1);
+}
+
+#[test]
+fn example_of_receiver_recv_many_blocking(rt: HostRuntime) {
+    let (tx, rx) = bounded(&rt, rt.alloc(), 10).expect(&rt, "bounded");
+    let sending = thread::spawn(&rt, move || tx.send_blocking("Foo", 0)).expect(&rt, "spawn");
+    let mut batch = Vec::new(rt.alloc());
+    expect_equal(&rt, rx.recv_many_blocking(&mut batch, 64), Ok(1));
+    expect_equal(&rt, batch.pop(), Some(("Foo", 0)));
+    expect_equal(&rt, sending.join(&rt), Ok(()));
+    let ended = rx.recv_many_blocking(&mut batch, 64);
+    expect_equal(&rt, ended, Err(RecvFault::Closed(RecvError)));
+}
+
+#[test]
+fn example_of_receiver_recv_many(rt: HostRuntime) {
+    let (tx, rx) = unbounded(&rt, rt.alloc()).expect(&rt, "unbounded");
+    let jobs = [("compile", 2), ("link", 1), ("test", 3)];
+    tx.try_sendv(jobs.into_iter().peekable())
+        .expect(&rt, "try_sendv");
+    let mut batch = Vec::new(rt.alloc());
+    let count = wait_for(&rt, rx.recv_many(&mut batch, 64)).expect(&rt, "wait_for");
+    expect_equal(&rt, count, 3);
+    expect_equal(&rt, batch.first(), Some(&("test", 3)));
+}
+
+#[test]
+fn example_of_recv_many(rt: HostRuntime) {
+    let (tx, rx) = unbounded(&rt, rt.alloc()).expect(&rt, "unbounded");
+    let mut batch = Vec::new(rt.alloc());
+    let mut receiving = rx.recv_many(&mut batch, 64);
+    expect_equal(&rt, wait_for(&rt, poll_immediate(&mut receiving)), None);
+    let jobs = [("compile", 2), ("link", 1)];
+    tx.try_sendv(jobs.into_iter().peekable())
+        .expect(&rt, "try_sendv");
+    expect_equal(&rt, wait_for(&rt, receiving), Ok(2));
+}
+
+#[test]
+fn example_of_receiver_peek_with(rt: HostRuntime) {
+    let (tx, rx) = unbounded(&rt, rt.alloc()).expect(&rt, "unbounded");
+    tx.try_send("water the plants", Reverse(30))
+        .expect(&rt, "try_send");
+    let now = 20;
+    let is_due = rx.peek_with(|_, Reverse(due)| *due <= now);
+    expect_equal(&rt, is_due, Some(false));
+    expect_equal(&rt, rx.len(), 1);
+}
+
+#[test]
+fn example_of_receiver_peek_priority(rt: HostRuntime) {
+    let (tx, rx) = unbounded(&rt, rt.alloc()).expect(&rt, "unbounded");
+    expect_equal(&rt, rx.peek_priority().expect(&rt, "peek_priority"), None);
+    tx.try_send("Foo", 7).expect(&rt, "try_send");
+    expect_equal(
+        &rt,
+        rx.peek_priority().expect(&rt, "peek_priority"),
+        Some(7),
+    );
+    expect_equal(&rt, rx.try_recv(), Ok(("Foo", 7)));
+}
+
+#[test]
+fn example_of_receiver(rt: HostRuntime) {
+    let (tx, rx) = unbounded(&rt, rt.alloc()).expect(&rt, "unbounded");
+    tx.try_send("first", 5).expect(&rt, "try_send");
+    tx.try_send("second", 5).expect(&rt, "try_send");
+    tx.try_send("urgent", 9).expect(&rt, "try_send");
+    expect_equal(&rt, rx.try_recv(), Ok(("urgent", 9)));
+    expect_equal(&rt, rx.try_recv(), Ok(("first", 5)));
+    expect_equal(&rt, rx.try_recv(), Ok(("second", 5)));
+}
+
+#[test]
+fn example_of_receiver_recv(rt: HostRuntime) {
+    let (tx, rx) = unbounded(&rt, rt.alloc()).expect(&rt, "unbounded");
+    let sending = thread::spawn(&rt, move || tx.try_send("Foo", 0)).expect(&rt, "spawn");
+    let (job, priority) = wait_for(&rt, rx.recv()).expect(&rt, "wait_for");
+    expect_equal(&rt, (job, priority), ("Foo", 0));
+    expect_equal(&rt, sending.join(&rt), Ok(()));
+}
+
+#[test]
+fn example_of_receiver_try_recv(rt: HostRuntime) {
+    let (tx, rx) = unbounded(&rt, rt.alloc()).expect(&rt, "unbounded");
+    expect_equal(&rt, rx.try_recv(), Err(TryRecvError::Empty));
+    tx.try_send("Foo", 0).expect(&rt, "try_send");
+    drop(tx);
+    expect_equal(&rt, rx.try_recv(), Ok(("Foo", 0)));
+    expect_equal(&rt, rx.try_recv(), Err(TryRecvError::Closed));
+}
+
+#[test]
+fn example_of_receiver_close(rt: HostRuntime) {
+    let (tx, rx) = unbounded(&rt, rt.alloc()).expect(&rt, "unbounded");
+    tx.try_send("Foo", 0).expect(&rt, "try_send");
+    expect_true(&rt, rx.close());
+    expect_true(&rt, !rx.close());
+    expect_equal(&rt, rx.try_recv(), Ok(("Foo", 0)));
+    expect_equal(&rt, rx.try_recv(), Err(TryRecvError::Closed));
+}
+
+#[test]
+fn example_of_receiver_is_closed(rt: HostRuntime) {
+    let (tx, rx) = unbounded(&rt, rt.alloc()).expect(&rt, "unbounded");
+    tx.try_send("Foo", 0).expect(&rt, "try_send");
+    drop(tx);
+    expect_true(&rt, rx.is_closed() && !rx.is_empty());
+}
+
+#[test]
+fn example_of_receiver_is_empty(rt: HostRuntime) {
+    let (tx, rx) = unbounded(&rt, rt.alloc()).expect(&rt, "unbounded");
+    expect_true(&rt, rx.is_empty());
+    tx.try_send("Foo", 0).expect(&rt, "try_send");
+    expect_true(&rt, !rx.is_empty());
+}
+
+#[test]
+fn example_of_receiver_is_full(rt: HostRuntime) {
+    let (tx, rx) = bounded(&rt, rt.alloc(), 2).expect(&rt, "bounded");
+    tx.try_send("Foo", 0).expect(&rt, "try_send");
+    expect_true(&rt, !rx.is_full());
+    tx.try_send("Bar", 2).expect(&rt, "try_send");
+    expect_true(&rt, rx.is_full());
+}
+
+#[test]
+fn example_of_receiver_len(rt: HostRuntime) {
+    let (tx, rx) = unbounded(&rt, rt.alloc()).expect(&rt, "unbounded");
+    tx.try_send("Foo", 0).expect(&rt, "try_send");
+    tx.try_send("Bar", 2).expect(&rt, "try_send");
+    expect_equal(&rt, rx.len(), 2);
+    drop(tx);
+    expect_equal(&rt, rx.len(), 2);
+}
+
+#[test]
+fn example_of_receiver_capacity(rt: HostRuntime) {
+    let (tx, rx) = bounded(&rt, rt.alloc(), 10).expect(&rt, "bounded");
+    tx.try_send("Foo", 0).expect(&rt, "try_send");
+    expect_equal(&rt, rx.capacity(), Some(10));
+}
+
+#[test]
+fn example_of_receiver_same_channel(rt: HostRuntime) {
+    let (_tx, rx) = unbounded::<&str, u64, _, _>(&rt, rt.alloc()).expect(&rt, "unbounded");
+    let (_other_tx, other) = unbounded(&rt, rt.alloc()).expect(&rt, "unbounded");
+    expect_true(&rt, rx.same_channel(&rx.clone().expect(&rt, "clone")));
+    expect_true(&rt, !rx.same_channel(&other));
+}
+
+#[test]
+fn example_of_receiver_sender_count(rt: HostRuntime) {
+    let (tx, rx) = unbounded::<&str, u64, _, _>(&rt, rt.alloc()).expect(&rt, "unbounded");
+    expect_equal(&rt, rx.sender_count(), 1);
+    drop(tx);
+    expect_equal(&rt, rx.sender_count(), 0);
+}
+
+#[test]
+fn example_of_receiver_receiver_count(rt: HostRuntime) {
+    let (_tx, rx) = unbounded::<&str, u64, _, _>(&rt, rt.alloc()).expect(&rt, "unbounded");
+    let other = rx.clone().expect(&rt, "clone");
+    expect_equal(&rt, rx.receiver_count(), 2);
+    drop(other);
+    expect_equal(&rt, rx.receiver_count(), 1);
+}
+
+#[test]
+fn example_of_clone_for_receiver(rt: HostRuntime) {
+    let (tx, rx) = unbounded(&rt, rt.alloc()).expect(&rt, "unbounded");
+    let other = rx.clone().expect(&rt, "clone");
+    tx.try_send("Foo", 0).expect(&rt, "try_send");
+    tx.try_send("Bar", 2).expect(&rt, "try_send");
+    expect_equal(&rt, rx.try_recv(), Ok(("Bar", 2)));
+    expect_equal(&rt, other.try_recv(), Ok(("Foo", 0)));
+}
+
+#[test]
+fn example_of_sender(rt: HostRuntime) {
+    let (tx, rx) = unbounded(&rt, rt.alloc()).expect(&rt, "unbounded");
+    let other = tx.clone().expect(&rt, "clone");
+    tx.try_send("Foo", 0).expect(&rt, "try_send");
+    drop(tx);
+    expect_true(&rt, !rx.is_closed());
+    drop(other);
+    expect_true(&rt, rx.is_closed());
+    expect_equal(&rt, rx.try_recv(), Ok(("Foo", 0)));
+}
+
+#[test]
+fn example_of_sender_try_sendv(rt: HostRuntime) {
+    let (tx, rx) = bounded(&rt, rt.alloc(), 2).expect(&rt, "bounded");
+    let jobs = [("compile", 2), ("link", 1), ("test", 0)];
+    if let Err(refusal) = tx.try_sendv(jobs.into_iter().peekable()) {
+        expect_true(&rt, refusal.is_full());
+        expect_equal(&rt, refusal.into_inner().next(), Some(("test", 0)));
+    }
+    expect_equal(&rt, rx.try_recv(), Ok(("compile", 2)));
+}
+
+#[test]
+fn example_of_sender_send(rt: HostRuntime) {
+    let (tx, rx) = bounded(&rt, rt.alloc(), 1).expect(&rt, "bounded");
+    wait_for(&rt, tx.send("Foo", 0)).expect(&rt, "wait_for");
+    let (sent, received) = wait_for(&rt, join(tx.send("Bar", 2), rx.recv()));
+    expect_equal(&rt, received, Ok(("Foo", 0)));
+    expect_equal(&rt, sent, Ok(()));
+}
+
+#[test]
+fn example_of_sender_sendv(rt: HostRuntime) {
+    let (tx, rx) = bounded(&rt, rt.alloc(), 1).expect(&rt, "bounded");
+    let jobs = [(3, 2), (4, 1)].into_iter().peekable();
+    let receiving = thread::spawn(&rt, move || (rx.recv_blocking(), rx)).expect(&rt, "spawn");
+    expect_true(&rt, wait_for(&rt, tx.sendv(jobs)).is_ok());
+    let (received, rx) = receiving.join(&rt);
+    expect_equal(&rt, received, Ok((3, 2)));
+    expect_equal(&rt, rx.try_recv(), Ok((4, 1)));
+}
+
+#[test]
+fn example_of_sender_try_send(rt: HostRuntime) {
+    let (tx, rx) = bounded(&rt, rt.alloc(), 1).expect(&rt, "bounded");
+    tx.try_send("Foo", 0).expect(&rt, "try_send");
+    expect_equal(
+        &rt,
+        tx.try_send("Bar", 2),
+        Err(TrySendError::Full(("Bar", 2))),
+    );
+    drop(rx);
+    let refused = tx.try_send("Bar", 2);
+    expect_equal(&rt, refused, Err(TrySendError::Closed(("Bar", 2))));
+}
+
+#[test]
+fn example_of_sender_try_send_evicting(rt: HostRuntime) {
+    let (tx, rx) = bounded(&rt, rt.alloc(), 2).expect(&rt, "bounded");
+    tx.try_send("report", 1).expect(&rt, "try_send");
+    tx.try_send("thumbnail", 0).expect(&rt, "try_send");
+    expect_equal(
+        &rt,
+        tx.try_send_evicting("payment", 9),
+        Ok(Some(("thumbnail", 0))),
+    );
+    let refused = tx.try_send_evicting("thumbnail", 0);
+    expect_equal(&rt, refused, Err(TrySendError::Full(("thumbnail", 0))));
+    expect_equal(&rt, rx.try_recv(), Ok(("payment", 9)));
+}
+
+#[test]
+fn example_of_sender_close(rt: HostRuntime) {
+    let (tx, rx) = unbounded(&rt, rt.alloc()).expect(&rt, "unbounded");
+    tx.try_send("Foo", 0).expect(&rt, "try_send");
+    expect_true(&rt, tx.close());
+    let refused = tx.try_send("Bar", 2);
+    expect_equal(&rt, refused, Err(TrySendError::Closed(("Bar", 2))));
+    expect_equal(&rt, rx.try_recv(), Ok(("Foo", 0)));
+    expect_equal(&rt, rx.try_recv(), Err(TryRecvError::Closed));
+}
+
+#[test]
+fn example_of_sender_is_closed(rt: HostRuntime) {
+    let (tx, rx) = unbounded::<&str, u64, _, _>(&rt, rt.alloc()).expect(&rt, "unbounded");
+    expect_true(&rt, !tx.is_closed());
+    drop(rx);
+    expect_true(&rt, tx.is_closed());
+}
+
+#[test]
+fn example_of_sender_is_empty(rt: HostRuntime) {
+    let (tx, rx) = unbounded(&rt, rt.alloc()).expect(&rt, "unbounded");
+    tx.try_send("Foo", 0).expect(&rt, "try_send");
+    expect_true(&rt, !tx.is_empty());
+    rx.try_recv().expect(&rt, "try_recv");
+    expect_true(&rt, tx.is_empty());
+}
+
+#[test]
+fn example_of_sender_is_full(rt: HostRuntime) {
+    let (tx, rx) = bounded(&rt, rt.alloc(), 1).expect(&rt, "bounded");
+    tx.try_send("Foo", 0).expect(&rt, "try_send");
+    expect_true(&rt, tx.is_full());
+    rx.try_recv().expect(&rt, "try_recv");
+    expect_true(&rt, !tx.is_full());
+}
+
+#[test]
+fn example_of_sender_len(rt: HostRuntime) {
+    let (tx, rx) = bounded(&rt, rt.alloc(), 10).expect(&rt, "bounded");
+    tx.try_send("Foo", 0).expect(&rt, "try_send");
+    tx.try_send("Bar", 2).expect(&rt, "try_send");
+    expect_equal(&rt, tx.len(), 2);
+    rx.try_recv().expect(&rt, "try_recv");
+    expect_equal(&rt, tx.len(), 1);
+}
+
+#[test]
+fn example_of_sender_capacity(rt: HostRuntime) {
+    let (tx, _rx) = bounded::<&str, u64, _, _>(&rt, rt.alloc(), 10).expect(&rt, "bounded");
+    expect_equal(&rt, tx.capacity(), Some(10));
+    let (tx, _rx) = unbounded::<&str, u64, _, _>(&rt, rt.alloc()).expect(&rt, "unbounded");
+    expect_equal(&rt, tx.capacity(), None);
+}
+
+#[test]
+fn example_of_sender_same_channel(rt: HostRuntime) {
+    let (tx, _rx) = unbounded::<&str, u64, _, _>(&rt, rt.alloc()).expect(&rt, "unbounded");
+    let (other, _other_rx) = unbounded(&rt, rt.alloc()).expect(&rt, "unbounded");
+    expect_true(&rt, tx.same_channel(&tx.clone().expect(&rt, "clone")));
+    expect_true(&rt, !tx.same_channel(&other));
+}
+
+#[test]
+fn example_of_sender_sender_count(rt: HostRuntime) {
+    let (tx, _rx) = unbounded::<&str, u64, _, _>(&rt, rt.alloc()).expect(&rt, "unbounded");
+    let other = tx.clone().expect(&rt, "clone");
+    expect_equal(&rt, tx.sender_count(), 2);
+    drop(other);
+    expect_equal(&rt, tx.sender_count(), 1);
+}
+
+#[test]
+fn example_of_sender_receiver_count(rt: HostRuntime) {
+    let (tx, rx) = unbounded::<&str, u64, _, _>(&rt, rt.alloc()).expect(&rt, "unbounded");
+    expect_equal(&rt, tx.receiver_count(), 1);
+    drop(rx);
+    expect_equal(&rt, tx.receiver_count(), 0);
+}
+
+#[test]
+fn example_of_clone_for_sender(rt: HostRuntime) {
+    let (tx, rx) = unbounded(&rt, rt.alloc()).expect(&rt, "unbounded");
+    let other = tx.clone().expect(&rt, "clone");
+    let sending = thread::spawn(&rt, move || other.try_send("Foo", 0)).expect(&rt, "spawn");
+    expect_equal(&rt, sending.join(&rt), Ok(()));
+    expect_true(&rt, !rx.is_closed());
+    drop(tx);
+    expect_true(&rt, rx.is_closed());
+}
+
+#[test]
+fn example_of_recv_stream(rt: HostRuntime) {
+    let (tx, rx) = unbounded(&rt, rt.alloc()).expect(&rt, "unbounded");
+    let mut stream = rx.stream();
+    tx.try_send("Foo", 0).expect(&rt, "try_send");
+    drop(tx);
+    expect_equal(&rt, wait_for(&rt, stream.next()), Some(("Foo", 0)));
+    expect_equal(&rt, wait_for(&rt, stream.next()), None);
+}
+
+#[test]
+fn example_of_into_stream(rt: HostRuntime) {
+    let (tx, rx) = unbounded(&rt, rt.alloc()).expect(&rt, "unbounded");
+    tx.try_send("Foo", 0).expect(&rt, "try_send");
+    let mut stream = rx.into_stream();
+    expect_equal(&rt, wait_for(&rt, stream.next()), Some(("Foo", 0)));
+    drop(stream);
+    expect_true(&rt, tx.is_closed());
+}
+
+#[test]
+fn example_of_receiver_stream(rt: HostRuntime) {
+    let (tx, rx) = unbounded(&rt, rt.alloc()).expect(&rt, "unbounded");
+    let jobs = [("compile", 2), ("link", 1), ("test", 3)];
+    tx.try_sendv(jobs.into_iter().peekable())
+        .expect(&rt, "try_sendv");
+    let pairs = wait_for(&rt, rx.stream().take(2).collect(rt.alloc())).expect(&rt, "wait_for");
+    expect_equal(
+        &rt,
+        pairs.as_slice(),
+        [("test", 3), ("compile", 2)].as_slice(),
+    );
+    expect_equal(&rt, rx.try_recv(), Ok(("link", 1)));
+}
+
+#[test]
+fn example_of_receiver_into_stream(rt: HostRuntime) {
+    let (tx, rx) = bounded(&rt, rt.alloc(), 1).expect(&rt, "bounded");
+    let stream = rx.into_stream();
+    let counting = thread::spawn(&rt, move || block_on(&rt, stream.count())).expect(&rt, "spawn");
+    tx.send_blocking("Foo", 0).expect(&rt, "send_blocking");
+    tx.send_blocking("Bar", 2).expect(&rt, "send_blocking");
+    drop(tx);
+    expect_equal(&rt, counting.join(&rt).expect(&rt, "join"), 2);
+}
+
+#[test]
+fn example_of_receiver_take_where(rt: HostRuntime) {
+    let (tx, rx) = unbounded(&rt, rt.alloc()).expect(&rt, "unbounded");
+    let jobs = [("compile", 2), ("link", 1), ("test", 3)];
+    tx.try_sendv(jobs.into_iter().peekable())
+        .expect(&rt, "try_sendv");
+    expect_equal(
+        &rt,
+        rx.take_where(|job, _| *job == "link"),
+        Some(("link", 1)),
+    );
+    expect_equal(&rt, rx.take_where(|job, _| *job == "link"), None);
+    expect_equal(&rt, rx.try_recv(), Ok(("test", 3)));
+}
+
+#[test]
+fn example_of_receiver_retain(rt: HostRuntime) {
+    let (tx, rx) = unbounded(&rt, rt.alloc()).expect(&rt, "unbounded");
+    let jobs = [("compile", 2), ("link", 1), ("test", 3)];
+    tx.try_sendv(jobs.into_iter().peekable())
+        .expect(&rt, "try_sendv");
+    let cancelled = rx.retain(|job, _| *job != "link").expect(&rt, "retain");
+    expect_equal(&rt, cancelled.as_slice(), [("link", 1)].as_slice());
+    expect_equal(&rt, rx.try_recv(), Ok(("test", 3)));
+    expect_equal(&rt, rx.len(), 1);
+}
+
+#[test]
+fn example_of_recv(rt: HostRuntime) {
+    let (tx, rx) = bounded(&rt, rt.alloc(), 1).expect(&rt, "bounded");
+    let mut receiving = rx.recv();
+    expect_equal(&rt, wait_for(&rt, poll_immediate(&mut receiving)), None);
+    tx.try_send("Foo", 0).expect(&rt, "try_send");
+    expect_equal(&rt, wait_for(&rt, receiving), Ok(("Foo", 0)));
+}
+
+#[test]
+fn example_of_send(rt: HostRuntime) {
+    let (tx, rx) = bounded(&rt, rt.alloc(), 1).expect(&rt, "bounded");
+    tx.try_send("Foo", 0).expect(&rt, "try_send");
+    let mut sending = tx.send("Bar", 2);
+    expect_equal(&rt, wait_for(&rt, poll_immediate(&mut sending)), None);
+    expect_equal(&rt, rx.try_recv(), Ok(("Foo", 0)));
+    expect_equal(&rt, wait_for(&rt, sending), Ok(()));
+}
+
+#[test]
+fn example_of_sendv(rt: HostRuntime) {
+    let (tx, rx) = bounded(&rt, rt.alloc(), 1).expect(&rt, "bounded");
+    let sending = tx.sendv([("compile", 2), ("link", 1)].into_iter().peekable());
+    expect_true(&rt, wait_for(&rt, poll_immediate(sending)).is_none());
+    expect_equal(&rt, rx.try_recv(), Ok(("compile", 2)));
+    expect_true(&rt, rx.is_empty());
+}
+
+#[test]
+fn example_of_weak_sender(rt: HostRuntime) {
+    let (tx, rx) = bounded(&rt, rt.alloc(), 1).expect(&rt, "bounded");
+    let weak = tx.downgrade().expect(&rt, "downgrade");
+    if let Some(sender) = weak.upgrade() {
+        sender.try_send("still here", 0).expect(&rt, "try_send");
+    }
+    expect_equal(&rt, rx.try_recv(), Ok(("still here", 0)));
+}
+
+#[test]
+fn example_of_weak_sender_upgrade(rt: HostRuntime) {
+    let (tx, rx) = unbounded::<&str, u64, _, _>(&rt, rt.alloc()).expect(&rt, "unbounded");
+    let weak = tx.downgrade().expect(&rt, "downgrade");
+    expect_true(&rt, weak.upgrade().is_some());
+    drop(tx);
+    expect_true(&rt, weak.upgrade().is_none() && rx.is_closed());
+}
+
+#[test]
+fn example_of_weak_sender_is_closed(rt: HostRuntime) {
+    let (tx, _rx) = unbounded::<&str, u64, _, _>(&rt, rt.alloc()).expect(&rt, "unbounded");
+    let weak = tx.downgrade().expect(&rt, "downgrade");
+    expect_true(&rt, !weak.is_closed());
+    drop(tx);
+    expect_true(&rt, weak.is_closed());
+}
+
+#[test]
+fn example_of_sender_downgrade(rt: HostRuntime) {
+    let (tx, rx) = unbounded::<&str, u64, _, _>(&rt, rt.alloc()).expect(&rt, "unbounded");
+    let _weak = tx.downgrade().expect(&rt, "downgrade");
+    expect_equal(&rt, rx.sender_count(), 1);
+    drop(tx);
+    expect_true(&rt, rx.is_closed());
+}
+
+#[test]
+fn example_of_clone_for_weak_sender(rt: HostRuntime) {
+    let (tx, rx) = unbounded(&rt, rt.alloc()).expect(&rt, "unbounded");
+    let weak = tx.downgrade().expect(&rt, "downgrade");
+    let other = weak.clone().expect(&rt, "clone");
+    drop(weak);
+    other
+        .upgrade()
+        .ok_or("closed")
+        .expect(&rt, "ok_or")
+        .try_send("Foo", 0)
+        .expect(&rt, "try_send");
+    expect_equal(&rt, rx.try_recv(), Ok(("Foo", 0)));
+}
+
+#[test]
+fn example_of_weak_receiver(rt: HostRuntime) {
+    let (tx, rx) = bounded(&rt, rt.alloc(), 1).expect(&rt, "bounded");
+    let weak = rx.downgrade().expect(&rt, "downgrade");
+    tx.try_send("still here", 0).expect(&rt, "try_send");
+    if let Some(receiver) = weak.upgrade() {
+        expect_equal(&rt, receiver.try_recv(), Ok(("still here", 0)));
+    }
+}
+
+#[test]
+fn example_of_weak_receiver_upgrade(rt: HostRuntime) {
+    let (tx, rx) = unbounded::<&str, u64, _, _>(&rt, rt.alloc()).expect(&rt, "unbounded");
+    let weak = rx.downgrade().expect(&rt, "downgrade");
+    expect_true(&rt, weak.upgrade().is_some());
+    drop(rx);
+    expect_true(&rt, weak.upgrade().is_none() && tx.is_closed());
+}
+
+#[test]
+fn example_of_weak_receiver_is_closed(rt: HostRuntime) {
+    let (tx, rx) = unbounded::<&str, u64, _, _>(&rt, rt.alloc()).expect(&rt, "unbounded");
+    let weak = rx.downgrade().expect(&rt, "downgrade");
+    expect_true(&rt, !weak.is_closed());
+    tx.close();
+    expect_true(&rt, weak.is_closed());
+}
+
+#[test]
+fn example_of_receiver_downgrade(rt: HostRuntime) {
+    let (tx, rx) = unbounded::<&str, u64, _, _>(&rt, rt.alloc()).expect(&rt, "unbounded");
+    let _weak = rx.downgrade().expect(&rt, "downgrade");
+    expect_equal(&rt, tx.receiver_count(), 1);
+    drop(rx);
+    expect_true(&rt, tx.is_closed());
+}
+
+#[test]
+fn example_of_clone_for_weak_receiver(rt: HostRuntime) {
+    let (tx, rx) = unbounded(&rt, rt.alloc()).expect(&rt, "unbounded");
+    let weak = rx.downgrade().expect(&rt, "downgrade");
+    let other = weak.clone().expect(&rt, "clone");
+    drop(weak);
+    tx.try_send("Foo", 0).expect(&rt, "try_send");
+    expect_equal(
+        &rt,
+        other
+            .upgrade()
+            .ok_or("closed")
+            .expect(&rt, "ok_or")
+            .try_recv(),
+        Ok(("Foo", 0)),
+    );
+}
+
+#[test]
+fn example_of_send_timeout_error(rt: HostRuntime) {
+    let late = SendTimeoutError::Timeout(("late", 3));
+    expect_true(&rt, late.is_timeout() && !late.is_closed());
+    let (message, priority) = late.into_inner();
+    expect_equal(&rt, (message, priority), ("late", 3));
+}
+
+#[test]
+fn example_of_send_timeout_error_into_inner(rt: HostRuntime) {
+    let (tx, rx) = bounded(&rt, rt.alloc(), 1).expect(&rt, "bounded");
+    drop(rx);
+    let refused = tx.send_timeout("Foo", 0, Duration::from_millis(5));
+    let unsent = refused.err().map(|error| error.into_inner());
+    expect_equal(&rt, unsent, Some(("Foo", 0)));
+}
+
+#[test]
+fn example_of_send_timeout_error_is_timeout(rt: HostRuntime) {
+    let (tx, _rx) = bounded(&rt, rt.alloc(), 1).expect(&rt, "bounded");
+    tx.try_send("Foo", 0).expect(&rt, "try_send");
+    let refused = tx.send_timeout("Bar", 2, Duration::from_millis(5));
+    expect_true(&rt, refused.is_err_and(|error| error.is_timeout()));
+}
+
+#[test]
+fn example_of_send_timeout_error_is_closed(rt: HostRuntime) {
+    let (tx, rx) = bounded(&rt, rt.alloc(), 1).expect(&rt, "bounded");
+    drop(rx);
+    let refused = tx.send_timeout("Foo", 0, Duration::from_millis(5));
+    expect_true(&rt, refused.is_err_and(|error| error.is_closed()));
+}
+
+#[test]
+fn example_of_send_timeout_error_is_memory(rt: HostRuntime) {
+    let refused = SendTimeoutError::Memory(("Foo", 0));
+    expect_true(&rt, refused.is_memory() && !refused.is_timeout());
+}
+
+#[test]
+fn example_of_recv_timeout_error(rt: HostRuntime) {
+    let (tx, rx) = bounded::<&str, u64, _, _>(&rt, rt.alloc(), 1).expect(&rt, "bounded");
+    let limit = Duration::from_millis(5);
+    expect_equal(&rt, rx.recv_timeout(limit), Err(RecvTimeoutError::Timeout));
+    drop(tx);
+    expect_equal(&rt, rx.recv_timeout(limit), Err(RecvTimeoutError::Closed));
+}
+
+#[test]
+fn example_of_recv_timeout_error_is_timeout(rt: HostRuntime) {
+    let (_tx, rx) = bounded::<&str, u64, _, _>(&rt, rt.alloc(), 1).expect(&rt, "bounded");
+    let refused = rx.recv_timeout(Duration::from_millis(5));
+    expect_true(&rt, refused.is_err_and(|error| error.is_timeout()));
+}
+
+#[test]
+fn example_of_recv_timeout_error_is_closed(rt: HostRuntime) {
+    let (tx, rx) = bounded::<&str, u64, _, _>(&rt, rt.alloc(), 1).expect(&rt, "bounded");
+    drop(tx);
+    let refused = rx.recv_timeout(Duration::from_millis(5));
+    expect_true(&rt, refused.is_err_and(|error| error.is_closed()));
+}
+
+#[test]
+fn example_of_recv_timeout_error_is_memory(rt: HostRuntime) {
+    let refused = RecvTimeoutError::Memory;
+    expect_true(&rt, refused.is_memory() && !refused.is_timeout());
+}

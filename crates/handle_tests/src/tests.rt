@@ -1,0 +1,35 @@
+//! Scripts of calls by handles and futures, and the tests that are none.
+use std::fmt::Debug;
+use std::process::Abort;
+
+mod batches;
+mod combined;
+mod errors;
+mod evicting;
+mod guards;
+mod looks;
+mod messages;
+mod orders;
+mod peeks;
+mod script;
+mod streams;
+mod taking;
+mod tries;
+mod waits;
+mod wakers;
+mod weak;
+
+/// `assert_eq!`, proved once: each one in place takes seconds of the check.
+fn expect_equal<X: PartialEq + Debug + Drop>(rt: &impl Abort, got: X, wanted: X) {
+    assert_eq!(rt; got, wanted);
+}
+
+/// The same in one round of a loop, which it names where the two differ.
+fn expect_equal_at<N: Debug + Drop, X: PartialEq + Debug + Drop>(
+    rt: &impl Abort,
+    round: N,
+    got: X,
+    wanted: X,
+) {
+    assert_eq!(rt; got, wanted, "at {round:?}");
+}

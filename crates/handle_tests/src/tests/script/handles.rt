@@ -1,0 +1,228 @@
+//! What a script asks of a handle.
+ghost use Rattle.std.specs.Iterator.{IsFinite};
+
+use super::words::{Host, Text, letter, number, pairs, told, told_sent, told_sent_all};
+use async_priority_channel::{Receiver, Sender, WeakReceiver, WeakSender};
+use std::alloc::{AllocError, Allocator};
+use std::time::Duration;
+
+pub type Tx<R, A> = Sender<char, u64, R, A>;
+
+pub type Rx<R, A> = Receiver<char, u64, R, A>;
+
+#[derive(Drop)]
+pub enum Handle<R: Host, A: Allocator + Copy> {
+    Sender(Tx<R, A>),
+    Receiver(Rx<R, A>),
+    WeakSender(WeakSender<char, u64, R, A>),
+    WeakReceiver(WeakReceiver<char, u64, R, A>),
+}
+
+// As `2 of 2 full 1+1`: how many are pending, the capacity, which is true of empty, full and closed,
+// and how many senders and receivers there are.
+fn told_looks(
+    rt: &impl Host,
+    len: u64,
+    capacity: Option<u64>,
+    are_true: [bool; 3],
+    handles: (usize, usize),
+) -> String {
+    let mut words = String::new(rt.alloc());
+    for (is_true, word) in are_true.into_iter().zip(["empty ", "full ", "closed "]) {
+        if is_true {
+            words.push_str(word).expect(rt, "memory");
+        }
+    }
+    let (senders, receivers) = handles;
+    let text: Result<String, AllocError> = match capacity {
+        Some(most) => format!(in rt.alloc(); "{len} of {most} {words}{senders}+{receivers}"),
+        None => format!(in rt.alloc(); "{len} of any {words}{senders}+{receivers}"),
+    };
+    text.expect(rt, "memory")
+}
+
+/// What the handle tells of its channel. A weak one tells no more than whether it is closed, and can
+/// be upgraded where it is not: if both are as wanted, all that is wanted is told.
+pub fn look<R: Host, A: Allocator + Copy>(rt: &R, handle: &Handle<R, A>, wanted: Text) -> String {
+    let (is_closed, is_upgraded) = match handle {
+        Handle::Sender(tx) => {
+            let are_true = [tx.is_empty(), tx.is_full(), tx.is_closed()];
+            let handles = (tx.sender_count(), tx.receiver_count());
+            return told_looks(rt, tx.len(), tx.capacity(), are_true, handles);
+        }
+        Handle::Receiver(rx) => {
+            let are_true = [rx.is_empty(), rx.is_full(), rx.is_closed()];
+            let handles = (rx.sender_count(), rx.receiver_count());
+            return told_looks(rt, rx.len(), rx.capacity(), are_true, handles);
+        }
+        Handle::WeakSender(weak) => (weak.is_closed(), weak.upgrade().is_some()),
+        Handle::WeakReceiver(weak) => (weak.is_closed(), weak.upgrade().is_some()),
+    };
+    if is_closed == wanted.contains("closed") && is_upgraded != is_closed {
+        return String::from_str(rt.alloc(), wanted).expect(rt, "memory");
+    }
+    format!(in rt.alloc(); "closed {is_closed}, upgraded {is_upgraded}").expect(rt, "memory")
+}
+
+// Sends so many, each with a greater priority than the one before.
+fn fill<R: Host, A: Allocator + Copy>(tx: &Tx<R, A>, msg: char, count: u64) -> u64 {
+    let mut sent = 0u64;
+    for priority in 0..count {
+        if tx.try_send(msg, priority).is_ok() {
+            sent = sent.wrapping_add(1);
+        }
+    }
+    sent
+}
+
+// A bulk send of so many; tells how many came back.
+fn flood<R: Host, A: Allocator + Copy>(rt: &R, tx: &Tx<R, A>, msg: char, count: u64) -> String {
+    let mut msgs = Vec::new(rt.alloc());
+    for _ in 0..count {
+        msgs.push((msg, 0)).expect(rt, "memory");
+    }
+    let sent = tx.try_sendv(msgs.into_iter().peekable());
+    told(
+        rt,
+        sent.map_err(|error| (told(rt, &error), error.into_inner().count())),
+    )
+}
+
+pub fn ask_sender<R: Host, A: Allocator + Copy>(rt: &R, tx: &Tx<R, A>, call: &[Text]) -> String {
+    match call {
+        ["try_send", msg, priority] => {
+            told_sent(rt, tx.try_send(letter(rt, *msg), number(rt, *priority)))
+        }
+        ["try_send_evicting", msg, priority] => {
+            let sent = tx.try_send_evicting(letter(rt, *msg), number(rt, *priority));
+            told_sent(rt, sent)
+        }
+        ["try_sendv", msgs @ ..] => told_sent_all(rt, tx.try_sendv(pairs(rt, msgs))),
+        ["fill", msg, count] => told(rt, fill(tx, letter(rt, *msg), number(rt, *count))),
+        ["flood", msg, count] => flood(rt, tx, letter(rt, *msg), number(rt, *count)),
+        ["send_blocking", msg, priority] => {
+            told_sent(
+                rt,
+                tx.send_blocking(letter(rt, *msg), number(rt, *priority)),
+            )
+        }
+        ["sendv_blocking", msgs @ ..] => told_sent_all(rt, tx.sendv_blocking(pairs(rt, msgs))),
+        ["send_timeout", msg, priority] => {
+            let msg = letter(rt, *msg);
+            told_sent(
+                rt,
+                tx.send_timeout(msg, number(rt, *priority), Duration::ZERO),
+            )
+        }
+        ["sendv_timeout", msgs @ ..] => {
+            told_sent_all(rt, tx.sendv_timeout(pairs(rt, msgs), Duration::ZERO))
+        }
+        ["close"] => told(rt, tx.close()),
+        ["debug"] => told(rt, tx),
+        _ => panic!(rt; "a sender has no call {call:?}"),
+    }
+}
+
+pub fn ask_receiver<R: Host, A: Allocator + Copy>(
+    rt: &R,
+    rx: &Rx<R, A>,
+    batch: &mut Vec<(char, u64)>,
+    call: &[Text],
+) -> String {
+    match call {
+        ["try_recv"] => told(rt, rx.try_recv()),
+        ["recv_blocking"] => told(rt, rx.recv_blocking()),
+        ["recv_timeout"] => told(rt, rx.recv_timeout(Duration::ZERO)),
+        ["try_recv_many", limit] => {
+            told(rt, rx.try_recv_many(batch, number(rt, *limit) as usize))
+        }
+        ["recv_many_blocking", limit] => {
+            told(
+                rt,
+                rx.recv_many_blocking(batch, number(rt, *limit) as usize),
+            )
+        }
+        ["try_iter"] => told_all(rt, rx.try_iter()),
+        ["iter"] => told_all(rt, rx.iter()),
+        ["peek"] => told(rt, rx.peek_with(|msg, priority| (*msg, *priority))),
+        ["peek_priority"] => told(rt, rx.peek_priority()),
+        ["take", wanted] => {
+            let wanted = letter(rt, *wanted);
+            told(rt, rx.take_where(|msg, _| *msg == wanted))
+        }
+        ["retain", least] => {
+            let least = number(rt, *least);
+            told_taken(rt, rx.retain(|_, priority| *priority >= least))
+        }
+        ["retain_count", least] => {
+            let least = number(rt, *least);
+            told(
+                rt,
+                rx.retain(|_, priority| *priority >= least)
+                    .map(|taken| taken.len()),
+            )
+        }
+        ["count"] => told(rt, rx.try_iter().count()),
+        ["close"] => told(rt, rx.close()),
+        ["debug"] => told(rt, rx),
+        _ => panic!(rt; "a receiver has no call {call:?}"),
+    }
+}
+
+/// `iter` and `into_iter` wait, and are for a closed channel.
+pub fn told_all<I: Iterator<Item = (char, u64)> + Drop>(rt: &impl Host, messages: I) -> String
+    requires { I.can_next messages × IsFinite (I.remaining messages) }
+{
+    let all: Vec<_> = messages.collect(rt.alloc()).expect(rt, "memory");
+    told(rt, all)
+}
+
+// In the order of the messages, since they come back in none.
+fn told_taken<R: Host, A: Allocator>(
+    rt: &R,
+    taken: Result<Vec<(char, u64), A>, AllocError>,
+) -> String {
+    let mut taken = match taken {
+        Ok(taken) => taken,
+        Err(error) => return told(rt, error),
+    };
+    taken.sort().expect(rt, "memory");
+    told(rt, taken)
+}
+
+/// The handle that the call makes, or why it makes none.
+pub fn make<R: Host, A: Allocator + Copy>(
+    rt: &R,
+    handle: &Handle<R, A>,
+    call: &[Text],
+) -> Option<Result<Handle<R, A>, AllocError>> {
+    match (handle, call) {
+        (Handle::Sender(tx), ["clone"]) => Some(tx.clone().map(|tx| Handle::Sender(tx))),
+        (Handle::Sender(tx), ["downgrade"]) => Some(
+            tx.downgrade().map(|weak| Handle::WeakSender(weak)),
+        ),
+        (Handle::Receiver(rx), ["clone"]) => Some(rx.clone().map(|rx| Handle::Receiver(rx))),
+        (Handle::Receiver(rx), ["downgrade"]) => Some(
+            rx.downgrade().map(|weak| Handle::WeakReceiver(weak)),
+        ),
+        (Handle::WeakSender(weak), ["upgrade"]) => weak.upgrade().map(|tx| Ok(Handle::Sender(tx))),
+        (Handle::WeakSender(weak), ["clone"]) => Some(
+            weak.clone().map(|weak| Handle::WeakSender(weak)),
+        ),
+        (Handle::WeakReceiver(weak), ["upgrade"]) => {
+            weak.upgrade().map(|rx| Ok(Handle::Receiver(rx)))
+        }
+        (Handle::WeakReceiver(weak), ["clone"]) => Some(
+            weak.clone().map(|weak| Handle::WeakReceiver(weak)),
+        ),
+        _ => panic!(rt; "it cannot {call:?}"),
+    }
+}
+
+pub fn are_same<R: Host, A: Allocator + Copy>(one: &Handle<R, A>, other: &Handle<R, A>) -> bool {
+    match (one, other) {
+        (Handle::Sender(one), Handle::Sender(other)) => one.same_channel(other),
+        (Handle::Receiver(one), Handle::Receiver(other)) => one.same_channel(other),
+        _ => false,
+    }
+}

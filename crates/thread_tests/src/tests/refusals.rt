@@ -1,0 +1,83 @@
+//! Memory that is refused to waits, and how much of it they ask for.
+use super::parties::{Party, block, is_bulk, long, refused, waits};
+use super::watch::Watch;
+use super::{expect_equal_at, expect_true};
+use async_priority_channel::bounded;
+use driver::calls::{Call, Side, Way};
+use driver::reply::Outcome;
+use refusing::Refusing;
+use std::time::Duration;
+
+// A wait asks for a waiter, and for an entry in the list of those that wait. A batch asks for its
+// memory too, a loop never fails, and a task asks for more.
+fn asks_for_two(call: Call) -> bool {
+    let is_on_a_thread = waits(call) && call.way() != Way::Future;
+    is_on_a_thread && matches!(call, Call::Send(_) | Call::Sendv(_) | Call::Recv(_))
+}
+
+#[test]
+fn each_request_of_a_wait_may_be_refused(rt: HostRuntime) {
+    for call in Call::ALL {
+        if !asks_for_two(call) {
+            continue;
+        }
+        for n in 1..3u64 {
+            let alloc = Refusing::new(rt.alloc());
+            let (party, other) = block(&rt, &rt, &alloc, call);
+            alloc.refuse_nth(n);
+            let watch = Watch::begin(&rt, "a wait without memory", (call, n));
+            let answer = party.make(&rt, &rt, &alloc, call, long());
+            watch.end(&rt);
+            expect_equal_at(&rt, (call, n), answer, refused(call, Outcome::Memory));
+            expect_equal_at(&rt, (call, n), alloc.refuse_none(), false);
+            // Nobody waits any more, and all goes on.
+            expect_true(&rt, other.help(), "the channel is open");
+            expect_equal_at(&rt, (call, n), party.len(), 1);
+        }
+    }
+}
+
+// There is room, and no memory for the message: a wait would not help.
+#[test]
+fn memory_for_a_message_is_not_waited_for(rt: HostRuntime) {
+    for call in Call::ALL {
+        if !waits(call) || call.side() != Side::Sender {
+            continue;
+        }
+        for limit in [Duration::ZERO, long(), Duration::MAX] {
+            let alloc = Refusing::new(rt.alloc());
+            let (tx, rx) = bounded(&rt, &alloc, 2).expect(&rt, "a channel");
+            alloc.refuse_all();
+            let watch = Watch::begin(&rt, "a send without memory", (call, limit));
+            let answer = Party::Sender(tx).make(&rt, &rt, &alloc, call, limit);
+            watch.end(&rt);
+            let round = (call, limit);
+            expect_equal_at(&rt, round, (answer.0, answer.2), (Outcome::Memory, 7));
+            expect_true(&rt, rx.is_empty(), "nothing was sent");
+        }
+    }
+}
+
+// What can be answered at once asks for nothing, but a batch for its own memory.
+#[test]
+fn what_need_not_wait_asks_for_nothing(rt: HostRuntime) {
+    for call in Call::ALL {
+        if !waits(call) || matches!(call, Call::RecvMany(_)) {
+            continue;
+        }
+        let alloc = Refusing::new(rt.alloc());
+        let (party, other) = block(&rt, &rt, &alloc, call);
+        let has_room = other.help() && (is_bulk(call) || other.help());
+        expect_true(&rt, has_room, "the channel is open");
+        alloc.refuse_nth(1);
+        let watch = Watch::begin(&rt, "what need not wait", call);
+        let answer = party.make(&rt, &rt, &alloc, call, long());
+        watch.end(&rt);
+        expect_equal_at(
+            &rt,
+            call,
+            (answer.0, alloc.refuse_none()),
+            (Outcome::Done, true),
+        );
+    }
+}
