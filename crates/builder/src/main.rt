@@ -3,8 +3,6 @@
 #![tactic(auto)]
 
 mod graph;
-#[cfg(test)]
-mod tests;
 mod workers;
 
 use anyhow::ensure;

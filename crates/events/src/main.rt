@@ -10,8 +10,6 @@ mod by_receives;
 mod by_streams;
 mod event;
 mod sources;
-#[cfg(test)]
-mod tests;
 
 use async_priority_channel::{bounded, unbounded};
 use board::Board;

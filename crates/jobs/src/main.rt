@@ -7,8 +7,6 @@
 
 mod job;
 mod queue;
-#[cfg(test)]
-mod tests;
 mod urgency;
 mod worker;
 

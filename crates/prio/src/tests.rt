@@ -2,7 +2,6 @@
 mod failures;
 mod memory;
 mod refusals;
-mod scripts;
 mod terminal;
 
 use crate::run::prio_run;

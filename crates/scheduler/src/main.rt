@@ -10,8 +10,6 @@
 mod desk;
 mod request;
 mod server;
-#[cfg(test)]
-mod tests;
 
 use desk::{Desk, Wish};
 use std::alloc::AllocGlobal;

@@ -4,7 +4,8 @@
 //!
 //! `soak rounds N SEED` runs so many rounds, and prints the same however the threads run. `soak
 //! minutes N SEED` runs rounds for so long, and tells each minute how far it is. A round has a seed
-//! of its own, one more than that of the round before, by which it can be run alone.
+//! of its own, one more than that of the round before, by which it can be run alone. Either begins
+//! with planted faults, and prints what is told of them.
 #![tactic(auto)]
 
 mod account;
@@ -12,14 +13,14 @@ mod alone;
 mod call;
 mod dice;
 mod message;
+mod planted;
 mod receiving;
 mod round;
 mod sending;
-#[cfg(test)]
-mod tests;
 mod watchdog;
 
 use anyhow::{Context, bail};
+use planted::show_planted;
 use round::run_round;
 use std::alloc::AllocGlobal;
 use std::random::RandomSource;
@@ -34,6 +35,7 @@ fn main(rt: HostRuntime) -> anyhow::Result<()> {
         bail!("soak rounds N SEED, or soak minutes N SEED");
     };
     let (count, seed): (u64, u64) = (count.parse()?, seed.parse()?);
+    show_planted(&rt)?;
     let sum = match kind.as_str() {
         "rounds" => run_rounds(rt, count, seed)?,
         "minutes" => run_minutes(rt, count, seed)?,
