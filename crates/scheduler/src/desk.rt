@@ -40,7 +40,7 @@ pub struct Desk<R: Wait + Clone> {
     requests: Requests<R>,
     // To take out what is cancelled.
     queue: Queue<R>,
-    turns: Sender<(), (), R>,
+    turns: Sender<u64, (), R>,
     asked: Vec<Asked<R>>,
 }
 
@@ -109,13 +109,19 @@ impl<R: Wait + Clone + AllocGlobal> Desk<R> {
         Ok(())
     }
 
-    /// Gives the server its turn, and waits for the answers to all that was asked since the last
-    /// one, in the order in which it was. The patience is of the real clock.
+    /// Gives the server its turn, where requests wait, and waits for the answers to all that was
+    /// asked since the last one, in the order in which it was. The patience is of the real clock.
     pub fn answers(&mut self, rt: &R, patience: Duration) -> anyhow::Result<Vec<(String, Answer)>>
     where
         R: Clock,
     {
-        self.turns.try_send((), ()).context("the server has gone")?;
+        // The server takes no more than these, however soon the next ones are asked.
+        let waiting = self.requests.len();
+        if 0 < waiting {
+            self.turns
+                .try_send(waiting, ())
+                .context("the server has gone")?;
+        }
         let Some(limit) = Instant::now(rt)?.checked_add(patience) else {
             bail!("a limit past the end of the clock");
         };

@@ -7,21 +7,25 @@ use std::sync::Wait;
 
 #[derive(Drop)]
 pub struct Server<R: Wait + Clone> {
-    turns: Receiver<(), (), R>,
+    // How many requests are served at a turn.
+    turns: Receiver<u64, (), R>,
     queue: Queue<R>,
 }
 
 impl<R: Wait + Clone> Server<R> {
-    pub fn new(turns: Receiver<(), (), R>, queue: Queue<R>) -> Self {
+    pub fn new(turns: Receiver<u64, (), R>, queue: Queue<R>) -> Self {
         Server { turns, queue }
     }
 
-    /// Serves all that waits, that of the earliest deadline first, at each of its turns, until no
-    /// more can come.
+    /// Serves at each of its turns the requests that waited as the turn was given, that of the
+    /// earliest deadline first, until no turn can come.
     pub fn serve(&self) {
         let mut now = 0;
-        for ((), ()) in &self.turns {
-            for (request, Reverse(deadline)) in self.queue.try_iter() {
+        for (waiting, ()) in &self.turns {
+            for _ in 0..waiting {
+                let Ok((request, Reverse(deadline))) = self.queue.try_recv() else {
+                    break;
+                };
                 let answer = answer(&mut now, request.work, deadline);
                 // A client that has gone wants no answer.
                 let _ = request.reply.try_send(answer, ());
