@@ -1,4 +1,5 @@
 //! Threads that wait.
+use futures::task::Poll;
 use std::alloc::AllocGlobal;
 use std::fmt::Debug;
 use std::process::Abort;
@@ -15,6 +16,7 @@ mod queue;
 mod refusals;
 mod relays;
 mod steps;
+mod tasks;
 mod waits;
 mod watch;
 
@@ -53,6 +55,10 @@ fn expect_equal_at<N: Debug + Drop, X: PartialEq + Debug + Drop>(
 /// `assert!`, proved once.
 fn expect_true(rt: &impl Abort, holds: bool, what: &str) {
     assert!(rt; holds, "{what}");
+}
+
+fn is_pending<T: Drop>(polled: Poll<T>) -> bool {
+    matches!(polled, Poll::Pending)
 }
 
 /// Gives another thread the time to begin to wait.

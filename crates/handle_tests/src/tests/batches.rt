@@ -1,11 +1,8 @@
 //! Many messages in one receive.
-use super::combined::{let_it_wait, watch};
 use super::expect_equal;
 use super::script::run;
 use async_priority_channel::{TryRecvManyError, unbounded};
 use refusing::Refusing;
-use std::sync::atomic::{AtomicBool, Ordering};
-use std::thread;
 
 #[test]
 fn many_come_in_one_receive(rt: HostRuntime) {
@@ -65,33 +62,6 @@ fn many_come_in_one_receive(rt: HostRuntime) {
         b1 by rx recv_many 3; b1 poll task = Pending; drop b1; tx try_sendv a 1 b 2
         looks = 2 of any 1+1; rx recv_many_blocking 3 = Ok(2); batch = [('b', 2), ('a', 1)]",
     );
-}
-
-// What comes in one step comes at once, the greatest first.
-#[test]
-fn a_thread_that_waits_gets_all_of_one_step(rt: HostRuntime) {
-    let (tx, rx) = unbounded(&rt, rt.alloc()).expect(&rt, "a channel");
-    let mut batch = Vec::new(rt.alloc());
-    let is_done = AtomicBool::new(false);
-    let ((received, is_sent), ()) = thread::join(
-        &rt,
-        || {
-            let both = thread::join(
-                &rt,
-                || rx.recv_many_blocking(&mut batch, 4),
-                || {
-                    let_it_wait(&rt);
-                    tx.try_sendv([('a', 1u64), ('b', 2)].into_iter().peekable())
-                        .is_ok()
-                },
-            );
-            is_done.store(true, Ordering::SeqCst);
-            both
-        },
-        || watch(&rt, &is_done, "a batch that a send has to bring"),
-    );
-    expect_equal(&rt, (is_sent, received), (true, Ok(2)));
-    expect_equal(&rt, batch.as_slice(), [('b', 2), ('a', 1)].as_slice());
 }
 
 // The batch's own memory is refused.

@@ -1,11 +1,7 @@
-//! Messages of several kinds: handles of channels, one whose drop needs the channel to be free, and
-//! such as have no size or a large one.
+//! Messages of several kinds: handles of channels, and such as have no size or a large one.
 use super::expect_equal;
 use async_priority_channel::{Sender, TryRecvError, TrySendError, bounded, unbounded};
 use std::sync::Wait;
-use std::sync::atomic::{AtomicBool, Ordering};
-use std::thread;
-use std::time::{Clock, Duration};
 
 #[test]
 fn a_channel_goes_through_a_channel(rt: HostRuntime) {
@@ -103,66 +99,6 @@ fn a_pending_receiver_goes_with_the_last_handle(rt: HostRuntime) {
     drop(outer_tx);
     expect_equal(&rt, tx.is_closed(), true);
     expect_equal(&rt, tx.try_send(8, 0), Err(TrySendError::Closed((8, 0))));
-}
-
-// Two seconds at most.
-fn wait_for<R: Clock + Wait>(rt: &R, flag: &AtomicBool) -> bool {
-    for _ in 0..2000 {
-        if flag.load(Ordering::SeqCst) {
-            return true;
-        }
-        thread::sleep(rt, Duration::from_millis(1));
-    }
-    false
-}
-
-#[derive(Drop)]
-struct Signs {
-    has_begun: AtomicBool,
-    may_end: AtomicBool,
-    was_in_time: AtomicBool,
-}
-
-/// Its drop goes on until another thread has used the channel.
-struct Gate<'a, R: Clock + Wait + Drop> {
-    rt: R,
-    signs: &'a Signs,
-}
-
-impl<'a, R: Clock + Wait + Drop> Drop for Gate<'a, R> {
-    fn drop(self) {
-        let Gate { rt, signs } = self;
-        signs.has_begun.store(true, Ordering::SeqCst);
-        if wait_for(&rt, &signs.may_end) {
-            signs.was_in_time.store(true, Ordering::SeqCst);
-        }
-    }
-}
-
-// Under the channel's lock that drop would keep all others out.
-#[test]
-fn what_goes_with_the_last_receiver_is_dropped_outside_the_lock(rt: HostRuntime) {
-    let signs = Signs {
-        has_begun: AtomicBool::new(false),
-        may_end: AtomicBool::new(false),
-        was_in_time: AtomicBool::new(false),
-    };
-    let (tx, rx) = unbounded(&rt, rt.alloc()).expect(&rt, "a channel");
-    let gate = Gate { rt, signs: &signs };
-    expect_equal(&rt, tx.try_send(gate, 1u64).is_ok(), true);
-    drop(rx.close_on_drop());
-    let ((), (has_begun, looks)) = thread::join(
-        &rt,
-        || drop(rx),
-        || {
-            let has_begun = wait_for(&rt, &signs.has_begun);
-            let looks = (tx.len(), tx.receiver_count());
-            signs.may_end.store(true, Ordering::SeqCst);
-            (has_begun, looks)
-        },
-    );
-    expect_equal(&rt, (has_begun, looks), (true, (0, 0)));
-    expect_equal(&rt, signs.was_in_time.load(Ordering::SeqCst), true);
 }
 
 #[test]

@@ -1,5 +1,5 @@
 //! Memory that is refused to waits, and how much of it they ask for.
-use super::parties::{Party, block, is_bulk, long, refused, waits};
+use super::parties::{Party, TIMED, block, is_bulk, long, refused, waits};
 use super::watch::Watch;
 use super::{expect_equal_at, expect_true};
 use async_priority_channel::bounded;
@@ -34,6 +34,27 @@ fn each_request_of_a_wait_may_be_refused(rt: HostRuntime) {
             expect_true(&rt, other.help(), "the channel is open");
             expect_equal_at(&rt, (call, n), party.len(), 1);
         }
+    }
+}
+
+// A wait that is over has left the list. So the next ones find the list's memory there, and ask for
+// their waiter alone.
+#[test]
+fn a_wait_leaves_no_place_behind(rt: HostRuntime) {
+    for call in TIMED {
+        let alloc = Refusing::new(rt.alloc());
+        let (party, other) = block(&rt, &rt, &alloc, call);
+        for round in 0..50u64 {
+            let (nth, millis) = if round == 0 { (0, 100) } else { (2, 2) };
+            alloc.refuse_nth(nth);
+            let watch = Watch::begin(&rt, "the end of a limit", (call, round));
+            let answer = party.make(&rt, &rt, &alloc, call, Duration::from_millis(millis));
+            watch.end(&rt);
+            let met_none = alloc.refuse_none();
+            let wanted = (Outcome::Timeout, round > 0);
+            expect_equal_at(&rt, (call, round), (answer.0, met_none), wanted);
+        }
+        expect_true(&rt, other.help(), "the channel is open");
     }
 }
 

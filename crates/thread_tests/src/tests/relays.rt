@@ -1,18 +1,14 @@
 //! Many threads that pass messages on: nothing is lost or made up, and all of it ends.
 use super::parties::{call_of, moves};
 use super::watch::Watch;
-use super::{Host, expect_equal, expect_equal_at, expect_true, let_others_wait};
+use super::{Host, expect_equal, expect_equal_at, expect_true};
 use async_priority_channel::{Ends, Receiver, RecvError, RecvFault, Sender, bounded, unbounded};
 use driver::calls::{Call, Input, Pair, Pairs, Side, Way};
 use driver::receive::receive;
 use driver::send::send;
-use futures::Future;
 use futures::executor::block_on;
-use futures::future::join;
-use futures::task::{Context, Poll};
 use std::alloc::Global;
 use std::sync::Wait;
-use std::sync::atomic::{AtomicU64, Ordering};
 use std::thread;
 use std::time::Duration;
 
@@ -185,26 +181,50 @@ fn by_all_calls_nothing_is_lost_or_made_up(rt: HostRuntime) {
     expect_equal(&rt, sum(back, came), sum_below(4000));
 }
 
+// Sends so many by one call, on its thread or by a task.
+fn send_all<R: Host>(rt: &R, tx: &Sender<u64, u64, R>, by: Way, count: u64) -> bool {
+    let all = (0..count).map(|i| (i, i)).peekable();
+    match by {
+        Way::Future => matches!(block_on(rt, tx.sendv(all)), Ok(Ok(()))),
+        _on_its_thread => tx.sendv_blocking(all).is_ok(),
+    }
+}
+
+// Receives until the channel is closed and empty, on its thread or by tasks.
+fn receive_all<R: Host>(rt: &R, rx: &Receiver<u64, u64, R>, by: Way) -> Total {
+    let mut received = (0, 0);
+    if by == Way::Future {
+        for _ in 0..u64::MAX {
+            match block_on(rt, rx.recv()).expect(rt, "an executor") {
+                Ok((number, _)) => received = sum(received, (1, number)),
+                Err(_) => break,
+            }
+        }
+    } else {
+        for (number, _) in rx {
+            received = sum(received, (1, number));
+        }
+    }
+    received
+}
+
 // Each of the two wakes the other for each message.
 #[test]
-fn a_bulk_send_and_a_loop_take_turns(rt: HostRuntime) {
-    let (tx, rx) = bounded(&rt, rt.alloc(), 1).expect(&rt, "a channel");
-    let watch = Watch::begin(&rt, "a bulk send into a channel for one", ());
-    let sending = thread::spawn(&rt, move || {
-        let by_thread = tx
-            .sendv_blocking((0..300u64).map(|i| (i, i)).peekable())
-            .is_ok();
-        let by_task = block_on(&rt, tx.sendv((300..600u64).map(|i| (i, i)).peekable()));
-        by_thread && matches!(by_task, Ok(Ok(())))
-    })
-    .expect(&rt, "a thread");
-    let mut received = (0, 0);
-    for (number, _) in &rx {
-        received = sum(received, (1, number));
+fn a_bulk_send_and_receives_take_turns(rt: HostRuntime) {
+    for sends_by in [Way::Blocking, Way::Future] {
+        for receives_by in [Way::Blocking, Way::Future] {
+            let (tx, rx) = bounded(&rt, rt.alloc(), 1).expect(&rt, "a channel");
+            let round = (sends_by, receives_by);
+            let watch = Watch::begin_long(&rt, "a bulk send into a channel for one", round);
+            let sending = thread::spawn(&rt, move || send_all(&rt, &tx, sends_by, 5000)).expect(
+                &rt, "a thread",
+            );
+            let received = receive_all(&rt, &rx, receives_by);
+            let are_sent = sending.join(&rt);
+            watch.end(&rt);
+            expect_equal_at(&rt, round, (are_sent, received), (true, sum_below(5000)));
+        }
     }
-    let are_sent = sending.join(&rt);
-    watch.end(&rt);
-    expect_equal(&rt, (are_sent, received), (true, sum_below(600)));
 }
 
 #[test]
@@ -284,58 +304,4 @@ fn two_threads_go_on_side_by_side(rt: HostRuntime) {
     );
     watch.end(&rt);
     expect_equal(&rt, could, (true, true));
-}
-
-// Counts the polls of a future, and of others beside it.
-#[derive(Drop)]
-struct Counted<'a, F> {
-    inner: F,
-    polls: &'a AtomicU64,
-}
-
-impl<F: Future> Future for Counted<'_, F> {
-    type Output = F::Output;
-
-    ghost can_poll = { λ c. F.can_poll c.inner };
-
-    ghost needs = { λ c s. F.needs c.inner s };
-
-    ghost gives = { λ c x. F.gives c.inner x };
-
-    fn poll(&mut self, cx: &mut Context<'_>) -> Poll<F::Output> {
-        self.polls.fetch_add(1, Ordering::SeqCst);
-        self.inner.poll(cx)
-    }
-}
-
-// A waker wakes its task also as it is dropped: two futures of one task could wake each other for
-// ever.
-#[test]
-fn two_receives_in_one_task_rest_while_they_wait(rt: HostRuntime) {
-    let polls = AtomicU64::new(0);
-    let (first_tx, first_rx) = bounded(&rt, rt.alloc(), 1).expect(&rt, "a channel");
-    let (second_tx, second_rx) = bounded(&rt, rt.alloc(), 1).expect(&rt, "a channel");
-    let watch = Watch::begin(&rt, "two receives in one task", ());
-    let sending = thread::spawn(&rt, move || {
-        let_others_wait(&rt);
-        let first = first_tx.try_send(1u8, 1u8).is_ok();
-        let_others_wait(&rt);
-        first && second_tx.try_send(2u8, 2u8).is_ok()
-    })
-    .expect(&rt, "a thread");
-    let first = Counted {
-        inner: first_rx.recv(),
-        polls: &polls,
-    };
-    let second = Counted {
-        inner: second_rx.recv(),
-        polls: &polls,
-    };
-    let received = block_on(&rt, join(first, second)).expect(&rt, "an executor");
-    let could = sending.join(&rt);
-    watch.end(&rt);
-    expect_true(&rt, could, "there is room");
-    expect_equal(&rt, received, (Ok((1, 1)), Ok((2, 2))));
-    let polls = polls.load(Ordering::SeqCst);
-    expect_equal_at(&rt, polls, polls < 10, true);
 }

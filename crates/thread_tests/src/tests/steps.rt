@@ -1,11 +1,48 @@
-//! Calls beside those of other threads: a batch is one step, and what goes is dropped once the lock
-//! is free.
+//! Calls beside those of other threads: a bulk call is one step, and a thread that has waited wakes
+//! those that wait for what it leaves.
+use super::clocks::{Paced, Plan, Times, second};
+use super::parties::{Party, TIMED, block, done};
 use super::watch::Watch;
-use super::{expect_equal, expect_true};
-use crate::gate::Gate;
-use async_priority_channel::{TryRecvManyError, bounded};
+use super::{Host, expect_equal, expect_equal_at, is_pending, let_others_wait};
+use async_priority_channel::{TryRecvManyError, bounded, unbounded};
+use futures::test::MockTask;
 use std::sync::atomic::{AtomicBool, Ordering};
 use std::thread;
+use std::time::{Clock, Duration};
+
+// One thread sends three by one call into a channel for one, while another receives. One step finds
+// room for one at most.
+#[test]
+fn a_bulk_try_does_not_wait_for_room(rt: HostRuntime) {
+    let is_over = AtomicBool::new(false);
+    let (tx, rx) = bounded(&rt, rt.alloc(), 1).expect(&rt, "a channel");
+    let watch = Watch::begin_long(&rt, "many bulk sends", ());
+    let (most, ()) = thread::join(
+        &rt,
+        || {
+            let mut most = 0;
+            for _ in 0..100_000u32 {
+                let three = [(1, 1), (2, 2), (3, 3)].into_iter().peekable();
+                let unsent = tx
+                    .try_sendv(three)
+                    .map_err(|error| error.into_inner().count());
+                most = most.max(3usize.saturating_sub(unsent.err().unwrap_or(0)));
+            }
+            is_over.store(true, Ordering::SeqCst);
+            most
+        },
+        || {
+            for _ in 0..u64::MAX {
+                let _ = rx.try_recv();
+                if is_over.load(Ordering::SeqCst) {
+                    return;
+                }
+            }
+        },
+    );
+    watch.end(&rt);
+    expect_equal(&rt, most, 1);
+}
 
 // One thread sends four by one call while another receives four at a time: none of these is split.
 #[test]
@@ -48,41 +85,93 @@ fn a_batch_is_one_step(rt: HostRuntime) {
     expect_equal(&rt, (is_split, is_less), (false, false));
 }
 
-// A message whose drop comes by a gate.
-struct Slow<'a> {
-    gate: &'a Gate,
-}
-
-impl Drop for Slow<'_> {
-    fn drop(self) {
-        let Slow { gate } = self;
-        gate.pass();
+// Lets the thread go on that halts as it waits, at the end of its time or before, until it has
+// answered.
+fn let_go_on<R: Clock>(rt: &R, times: &Times, is_late: bool, has_answered: &AtomicBool) {
+    if is_late {
+        times.pass_the_second();
+    }
+    times.gate.open();
+    for _ in 0..u64::MAX {
+        if has_answered.load(Ordering::SeqCst) {
+            return;
+        }
+        thread::sleep(rt, Duration::from_millis(1));
     }
 }
 
-// Under the channel's lock that drop would keep all others out.
+// Brings what the thread waits for, and more of it than there is place for, so that a task waits
+// until the thread has gone on. Tells whether that task is woken then.
+fn is_task_woken<R: Host>(
+    rt: &R,
+    other: &Party<Paced<'_, R>>,
+    times: &Times,
+    is_late: bool,
+    has_answered: &AtomicBool,
+) -> bool {
+    times.gate.wait(rt);
+    let could = other.help() && other.help();
+    let task = MockTask::new(rt).expect(rt, "a task");
+    let waits = match other {
+        Party::Sender(tx) => {
+            let mut sending = tx.send(9, 9);
+            let waits = is_pending(task.poll(&mut sending));
+            let_go_on(rt, times, is_late, has_answered);
+            waits
+        }
+        Party::Receiver(rx) => {
+            let mut receiving = rx.recv();
+            let waits = is_pending(task.poll(&mut receiving));
+            let_go_on(rt, times, is_late, has_answered);
+            waits
+        }
+    };
+    could && waits && task.is_woken()
+}
+
 #[test]
-fn what_goes_with_the_last_receiver_is_dropped_outside_the_lock(rt: HostRuntime) {
-    let gate = Gate::new();
-    gate.arm();
-    let (tx, rx) = bounded(&rt, rt.alloc(), 1).expect(&rt, "a channel");
-    expect_true(
+fn a_thread_that_has_waited_wakes_the_other_side(rt: HostRuntime) {
+    for call in TIMED {
+        for reading in [2u64, 3] {
+            for is_late in [false, true] {
+                let round = (call, reading, is_late);
+                let times = Times::new(Plan::HaltsAt(reading));
+                let paced = Paced::new(&rt, &times);
+                let (party, other) = block(&rt, &paced, rt.alloc(), call);
+                let has_answered = AtomicBool::new(false);
+                let watch = Watch::begin(&rt, "what comes as a thread waits", round);
+                let (answer, is_woken) = thread::join(
+                    &rt,
+                    || {
+                        let answer = party.make(&rt, &paced, rt.alloc(), call, second());
+                        has_answered.store(true, Ordering::SeqCst);
+                        answer
+                    },
+                    || is_task_woken(&rt, &other, &times, is_late, &has_answered),
+                );
+                watch.end(&rt);
+                expect_equal_at(&rt, round, (answer, is_woken), (done(call), true));
+            }
+        }
+    }
+}
+
+// What comes in one step comes at once, the greatest first.
+#[test]
+fn a_batch_that_was_waited_for_is_all_of_one_step(rt: HostRuntime) {
+    let (tx, rx) = unbounded(&rt, rt.alloc()).expect(&rt, "a channel");
+    let mut batch = Vec::new(rt.alloc());
+    let watch = Watch::begin(&rt, "a batch that a send has to bring", ());
+    let (received, is_sent) = thread::join(
         &rt,
-        tx.try_send(Slow { gate: &gate }, 1u64).is_ok(),
-        "there is room",
-    );
-    drop(rx.close_on_drop());
-    let watch = Watch::begin(&rt, "a look beside the drop of what was pending", ());
-    let ((), looks) = thread::join(
-        &rt,
-        move || drop(rx),
+        || rx.recv_many_blocking(&mut batch, 4),
         || {
-            gate.wait(&rt);
-            let looks = (tx.len(), tx.receiver_count());
-            gate.open();
-            looks
+            let_others_wait(&rt);
+            tx.try_sendv([('a', 1u64), ('b', 2)].into_iter().peekable())
+                .is_ok()
         },
     );
     watch.end(&rt);
-    expect_equal(&rt, looks, (0, 0));
+    expect_equal(&rt, (is_sent, received), (true, Ok(2)));
+    expect_equal(&rt, batch.as_slice(), [('b', 2), ('a', 1)].as_slice());
 }
