@@ -3,8 +3,8 @@
 //!
 //! `bounded`, `bounded_reserved` and `unbounded` make one. `Sender` and `Receiver` are its handles,
 //! whose pages list their calls; `WeakSender` and `WeakReceiver` know a channel and do not keep it
-//! open. `witnessed` has channels whose calls tell a history of all calls in their contracts, and
-//! `recorded` those that also keep it.
+//! open. `recorded` has channels that keep a history of all calls, and whose contracts tell it. The
+//! library `priority_channel_witnessed` has channels whose contracts alone tell it.
 //!
 //! # Kinds of channels
 //!
@@ -250,7 +250,6 @@ pub use priority_channel_core::errors::{
 pub use priority_channel_laws::laws;
 pub use priority_channel_recorded as recorded;
 pub use priority_channel_waits::timeouts::{RecvTimeoutError, SendTimeoutError};
-pub use priority_channel_witnessed as witnessed;
 pub use receiver::Receiver;
 pub use sender::Sender;
 pub use stream::{IntoStream, RecvStream};

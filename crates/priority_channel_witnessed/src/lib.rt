@@ -1,8 +1,8 @@
 //! A channel whose calls tell, in their contracts, that each reply is the next step of one history.
 //!
 //! A `Witnessed` is for many threads and tasks, each with a `Pass`, and for messages, priorities
-//! and wakers of any type. No entry of the history takes memory: it exists in contracts alone. A
-//! caller has it as `async_priority_channel::witnessed`.
+//! and wakers of any type. No entry of the history takes memory: it exists in contracts alone. The
+//! handles of `async_priority_channel` are not for it.
 #![tactic(auto)]
 
 mod entry;
