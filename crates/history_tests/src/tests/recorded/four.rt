@@ -1,0 +1,158 @@
+//! Four threads with a pass each, whose history is replayed on a plain list.
+ghost use Rattle.std.specs.Prelude.{◌≡◌};
+ghost use Rattle.priority_channel_recorded.specs.Log.{names};
+
+use crate::tests::{expect_equal, expect_equal_at};
+use priority_channel_core::errors::{TryRecvError, TrySendError};
+use priority_channel_recorded::{Call, Entry, Fresh, Pass, Recorded, Recording, Reply};
+use std::alloc::{AllocGlobal, Global};
+use std::marker::Brand;
+use std::process::Abort;
+use std::sync::{Mutex, Wait};
+use std::thread::{self, Threads};
+
+const CAPACITY: u64 = 3;
+
+// How many calls each makes.
+const CALLS: u64 = 1000;
+
+fn call(who: u64, i: u64) -> Call<u64, u64> {
+    let number = who.wrapping_mul(CALLS).wrapping_add(i);
+    match i.wrapping_add(who) % 5 {
+        0 => Call::TrySend(number, i % 7),
+        1 => Call::TryRecv,
+        2 => Call::Len,
+        3 => Call::TrySendEvicting(number, i % 3),
+        _ => Call::TrySend(number, i % 4),
+    }
+}
+
+// Makes the calls of one pass, and notes its entries.
+fn thousand<J: Recording, R: Wait>(
+    rt: &R,
+    recorder: &Recorded<u64, u64, J>,
+    alloc: Global,
+    told: &Mutex<Vec<Vec<Entry<u64, u64>>>>,
+    mut pass: Pass<u64, u64, J>,
+) -> Pass<u64, u64, J> {
+    let who = pass.number();
+    let mut entries = Vec::new(alloc);
+    for i in 0..CALLS {
+        let call = call(who, i);
+        if let Ok(reply) = recorder.call(rt, &mut pass, call) {
+            let _ = entries.push(Entry { who, call, reply });
+        }
+    }
+    let _ = told.lock(rt).push(entries);
+    pass
+}
+
+type Pair = (u64, u64);
+
+/// What is pending, in the order of acceptance.
+#[derive(Drop)]
+struct Plain {
+    pending: Vec<Pair>,
+}
+
+impl Plain {
+    // None where it is no call of the threads.
+    fn answer(&mut self, rt: &impl Abort, call: Call<u64, u64>) -> Option<Reply<u64, u64>> {
+        match call {
+            Call::TrySend(msg, priority) => {
+                let sent = if self.pending.len() as u64 == CAPACITY {
+                    Err(TrySendError::Full((msg, priority)))
+                } else {
+                    self.pending.push((msg, priority)).expect(rt, "memory");
+                    Ok(())
+                };
+                Some(Reply::Sent(sent))
+            }
+            Call::TrySendEvicting(msg, priority) => {
+                Some(Reply::Displaced(self.send_evicting(rt, (msg, priority))))
+            }
+            Call::TryRecv => Some(Reply::Received(self.receive())),
+            Call::Len => Some(Reply::Len(self.pending.len() as u64)),
+            _not_made => None,
+        }
+    }
+
+    // The last accepted of the least priority makes room for a greater one.
+    fn send_evicting(
+        &mut self,
+        rt: &impl Abort,
+        pair: Pair,
+    ) -> Result<Option<Pair>, TrySendError<Pair>> {
+        let mut out = None;
+        if self.pending.len() as u64 == CAPACITY {
+            let least = self.pending.iter().map(|other| other.1).min();
+            if least.is_none_or(|least| pair.1 <= least) {
+                return Err(TrySendError::Full(pair));
+            }
+            let place = self
+                .pending
+                .iter()
+                .rposition(|other| Some(other.1) == least);
+            out = place.map(|at| self.pending.remove(at));
+        }
+        self.pending.push(pair).expect(rt, "memory");
+        Ok(out)
+    }
+
+    // The first accepted of the greatest priority comes.
+    fn receive(&mut self) -> Result<Pair, TryRecvError> {
+        let greatest = self.pending.iter().map(|other| other.1).max();
+        let place = self
+            .pending
+            .iter()
+            .position(|other| Some(other.1) == greatest);
+        place
+            .map(|at| self.pending.remove(at))
+            .ok_or(TryRecvError::Empty)
+    }
+}
+
+fn make_one_history<J: Recording + Send + Sync, R: Threads + Wait + Sync + Abort + AllocGlobal>(
+    rt: &R,
+    fresh: Fresh<u64, u64>,
+)
+    requires names { fresh ≡ names J.log J.capacity J.name J.parts }
+    requires capacity { fresh.capacity ≡ 3 }
+    requires passes { fresh.passes ≡ 4 }
+{
+    let alloc = rt.alloc();
+    let made = Recorded::<u64, u64, J>::new(alloc, fresh, CAPACITY, 4000, 4);
+    let (recorder, passes) = made.expect(rt, "a recorder");
+    let told = Mutex::new(Vec::new(alloc));
+    let shared = &recorder;
+    let heard = &told;
+    let passes = thread::map_vec(
+        rt,
+        passes,
+        &|pass| thousand(rt, shared, alloc, heard, pass),
+    ).expect(rt, "memory for the passes");
+    let history = recorder.end(rt, passes);
+    let told = told.into_inner();
+    expect_equal(rt, (history.entries().len(), told.len()), (4000, 4));
+    // Each thread finds its own calls and replies there, in its order.
+    for entries in told {
+        let who = entries.get(0).map(|entry| entry.who);
+        let own = history
+            .entries()
+            .iter()
+            .filter(|entry| Some(entry.who) == who);
+        expect_equal(rt, (entries.len(), own.eq(entries.iter())), (1000, true));
+    }
+    let mut plain = Plain {
+        pending: Vec::new(alloc),
+    };
+    for entry in history.entries() {
+        let wanted = plain.answer(rt, entry.call);
+        expect_equal_at(rt, entry.call, Some(entry.reply), wanted);
+    }
+}
+
+#[test]
+fn four_threads_make_one_history(rt: HostRuntime) {
+    make_one_history::<Brand, _>(&rt, Fresh::new(CAPACITY, 4));
+}

@@ -1,5 +1,0 @@
-//! Tests of witnessed channels: what no contract says.
-#![tactic(auto)]
-
-#[cfg(test)]
-mod tests;
