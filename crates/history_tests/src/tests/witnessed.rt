@@ -14,7 +14,7 @@ use std::process::Abort;
 use std::sync::{Mutex, Wait};
 use std::thread::{self, Threads};
 
-mod futures;
+mod tasks;
 mod waits;
 
 // Whom a call has handed out: the tickets of those who waited for room, and for a message.
@@ -214,7 +214,7 @@ fn call_often<J: Recording, R: Wait>(
     all.1 = all.1.wrapping_add(received);
 }
 
-// Five times a pass that comes, makes its calls and goes; of another that asks meanwhile there may be
+// Five times a pass comes, makes its calls and goes. Where another one asks meanwhile there may be
 // none.
 fn call_by_guests<J: Recording, R: Wait>(
     rt: &R,

@@ -1,4 +1,4 @@
-use Rattle.history_tests.proofs.tests.witnessed.futures.tasks_wait_for_each_other.Given as goal
+use Rattle.history_tests.proofs.tests.witnessed.tasks.tasks_wait_for_each_other.Given as goal
 
 abbrev pub ghosts-relay-J-Recording : goal.ghosts-relay-J-Recording
 ghosts-relay-J-Recording g a = record {

@@ -1,4 +1,4 @@
-use Rattle.history_tests.proofs.tests.witnessed.futures.a_dropped_future_gives_up_and_leaves.Given as goal
+use Rattle.history_tests.proofs.tests.witnessed.tasks.a_dropped_future_gives_up_and_leaves.Given as goal
 
 abbrev pub ghosts-drop_those_that_wait-J-Recording : goal.ghosts-drop_those_that_wait-J-Recording
 ghosts-drop_those_that_wait-J-Recording g a = record {

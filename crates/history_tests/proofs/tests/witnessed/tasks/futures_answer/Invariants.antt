@@ -1,4 +1,4 @@
-use Rattle.history_tests.proofs.tests.witnessed.futures.futures_answer.Given as goal
+use Rattle.history_tests.proofs.tests.witnessed.tasks.futures_answer.Given as goal
 
 abbrev pub ghosts-answer-J-Recording : goal.ghosts-answer-J-Recording
 ghosts-answer-J-Recording g a = record {
