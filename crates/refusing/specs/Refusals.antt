@@ -1,6 +1,6 @@
 use Rattle.std.specs.Prelude.{Bool, true, false, ℕ, ◌==◌}
-use Rattle.refusing.specs.declared.Refusals.{Refusals}
-use Rattle.refusing.specs.declared.Refusals.TheVariants.{Never, Unmet, After, Always}
+use Rattle.refusing.specs.declared.requests.Refusals.{Refusals}
+use Rattle.refusing.specs.declared.requests.Refusals.TheVariants.{Never, Unmet, After, Always}
 
 -- whether the request that comes after k others is refused
 abbrev pub refuses_after : Refusals → ℕ → Bool

@@ -3,57 +3,15 @@
 //! Nothing but a test should stand on this crate.
 #![tactic(auto)]
 
-ghost use Rattle.std.specs.Prelude.{◌≡◌, ◌+◌, ◌==◌, ℕ};
-
+use requests::{Refusals, Requests};
 use std::alloc::{AllocError, Allocator};
-use std::cell::Cell;
 
+mod requests;
 mod rounds;
 #[cfg(test)]
 mod tests;
 
 pub use rounds::{Rounds, Vacuous};
-
-// Which of the requests to come are refused.
-#[derive(Clone, Copy)]
-enum Refusals {
-    Never,
-    // none any more, and the one that was named never came
-    Unmet,
-    // the one that comes after so many others, and no other
-    After(u64),
-    Always,
-}
-
-impl Refusals {
-    ghost use Rattle.refusing.specs.Refusals.{refuses_after};
-
-    // The nth alone, counted from 1.
-    fn nth(n: u64) -> Self
-        ensures { (k : ℕ) → refuses_after result k ≡ (k + 1 == n) }
-    {
-        n.checked_sub(1).map_or(Refusals::Never, Refusals::After)
-    }
-
-    // Takes the next request, and tells whether it is refused.
-    fn refuses_next(&mut self) -> bool
-        ensures next { result ≡ refuses_after self.old 0 }
-        ensures later { (k : ℕ) → refuses_after self.new k ≡ refuses_after self.old (k + 1) }
-    {
-        match *self {
-            Refusals::Never | Refusals::Unmet => false,
-            Refusals::After(0) => {
-                *self = Refusals::Never;
-                true
-            }
-            Refusals::After(others) => {
-                *self = Refusals::After(others - 1);
-                false
-            }
-            Refusals::Always => true,
-        }
-    }
-}
 
 /// An allocator that refuses the requests that a test names, by an `AllocError` as where memory has
 /// run out, and passes the others on to the allocator that it was made of.
@@ -77,14 +35,16 @@ impl Refusals {
 /// }
 /// ```
 ///
+/// Threads may share a `&` to it. So that a test can act just as a thread asks for memory,
+/// `hold_nth` halts a request.
+///
 /// - It sees no request that goes to another allocator, as to `rt.alloc()` itself.
 /// - A block that grows always moves, since the inner allocator's `grow` is not called.
-/// - A `&` to it stays on its thread.
-/// - No contract says which requests are refused, since none can tell what a cell holds. Tests do.
+/// - No contract says which requests are refused, since none can tell what threads share. Tests do.
 #[derive(Drop)]
 pub struct Refusing<B: Allocator> {
     inner: B,
-    refusals: Cell<Refusals>,
+    requests: Requests,
 }
 
 impl<B: Allocator> Refusing<B> {
@@ -92,32 +52,46 @@ impl<B: Allocator> Refusing<B> {
     pub fn new(inner: B) -> Self {
         Refusing {
             inner,
-            refusals: Cell::new(Refusals::Never),
+            requests: Requests::new(),
         }
     }
 
     /// From now on refuses the nth request, counted from 1, and no other. So `refuse_nth(0)`
     /// refuses none.
     pub fn refuse_nth(&self, n: u64) {
-        self.refusals.set(Refusals::nth(n));
+        self.requests.set(Refusals::nth(n));
     }
 
     /// From now on refuses each request.
     pub fn refuse_all(&self) {
-        self.refusals.set(Refusals::Always);
+        self.requests.set(Refusals::Always);
     }
 
     /// From now on refuses no request. Tells whether the one that `refuse_nth` named was still to
     /// come. So it is false once that was refused, and where none was named, as after `refuse_all`
     /// or `refuse_nth(0)`.
     pub fn refuse_none(&self) -> bool {
-        let is_to_come = matches!(self.refusals.get(), Refusals::After(_));
-        self.refusals.set(if is_to_come {
-            Refusals::Unmet
-        } else {
-            Refusals::Never
-        });
-        is_to_come
+        self.requests.end()
+    }
+
+    /// From now on halts the thread that makes the nth request, counted from 1, until `let_go`.
+    pub fn hold_nth(&self, n: u64) {
+        self.requests.hold_nth(n);
+    }
+
+    /// Whether a thread is halted.
+    pub fn is_holding(&self) -> bool {
+        self.requests.is_holding()
+    }
+
+    /// Lets the thread that is halted go on.
+    pub fn let_go(&self) {
+        self.requests.let_go();
+    }
+
+    /// How many requests were made so far, those that were refused among them.
+    pub fn count(&self) -> u64 {
+        self.requests.count()
     }
 
     /// Numbers for `refuse_nth`, from 1 on, until no request was left to refuse. So each was
@@ -126,29 +100,23 @@ impl<B: Allocator> Refusing<B> {
         Rounds::new(self)
     }
 
-    // From now on refuses no request. Tells whether the one that was named in this round never
-    // came.
+    // The same in this round, also where `refuse_none` was called by then.
     fn end_round(&self) -> bool {
-        matches!(
-            self.refusals.replace(Refusals::Never),
-            Refusals::Unmet | Refusals::After(_)
-        )
+        self.requests.end_round()
     }
 }
 
 // A function of its own, so that `allocate`, which is proved by hand, only calls it.
-fn count_request(refusals: &Cell<Refusals>) -> bool {
-    let mut left = refusals.get();
-    let is_refused = left.refuses_next();
-    refusals.set(left);
-    is_refused
+fn count_request(requests: &Requests) -> bool {
+    requests.hold();
+    requests.refuses_next()
 }
 
 unsafe impl<B: Allocator> Allocator for Refusing<B> {
     ghost dealloc_token = { λ heap ty ptr. B.dealloc_token heap.inner ty ptr };
 
     fn allocate(&self, size: usize, align: usize) -> Result<*mut u8, AllocError> {
-        if count_request(&self.refusals) {
+        if count_request(&self.requests) {
             return Err(AllocError);
         }
         self.inner.allocate(size, align)

@@ -1,11 +1,12 @@
 //! Memory that is refused to waits, and how much of it they ask for.
-use super::parties::{Party, TIMED, block, is_bulk, long, refused, waits};
+use super::parties::{Party, SIDES, TIMED, block, call_of, done, is_bulk, long, refused, waits};
 use super::watch::Watch;
-use super::{expect_equal_at, expect_true};
+use super::{Host, expect_equal_at, expect_true, let_others_wait};
 use async_priority_channel::bounded;
 use driver::calls::{Call, Side, Way};
 use driver::reply::Outcome;
 use refusing::Refusing;
+use std::thread;
 use std::time::Duration;
 
 // A wait asks for a waiter, and for an entry in the list of those that wait. A batch asks for its
@@ -15,25 +16,109 @@ fn asks_for_two(call: Call) -> bool {
     is_on_a_thread && matches!(call, Call::Send(_) | Call::Sendv(_) | Call::Recv(_))
 }
 
+// A wait is refused its nth request, where none waits before it or where one does.
+fn refuse_a_wait<R: Host>(rt: &R, call: Call, n: u64, is_second: bool) {
+    let alloc = Refusing::new(rt.alloc());
+    let (party, other) = block(rt, rt, &alloc, call);
+    let before = call_of(call.side(), Way::Blocking);
+    let round = (call, n, is_second);
+    let watch = Watch::begin(rt, "a wait without memory", round);
+    let (first, (answer, was_refused)) = thread::join(
+        rt,
+        || {
+            if !is_second {
+                return done(before);
+            }
+            party.make(rt, rt, &alloc, before, long())
+        },
+        || {
+            let_others_wait(rt);
+            alloc.refuse_nth(n);
+            let answer = party.make(rt, rt, &alloc, call, long());
+            let was_refused = !alloc.refuse_none();
+            // Nobody waits any more, and all goes on.
+            expect_true(rt, other.help(), "the channel is open");
+            (answer, was_refused)
+        },
+    );
+    watch.end(rt);
+    expect_equal_at(rt, round, first, done(before));
+    expect_equal_at(
+        rt,
+        round,
+        (answer, was_refused),
+        (refused(call, Outcome::Memory), true),
+    );
+}
+
 #[test]
 fn each_request_of_a_wait_may_be_refused(rt: HostRuntime) {
     for call in Call::ALL {
-        if !asks_for_two(call) {
-            continue;
+        if asks_for_two(call) {
+            for n in 1..3u64 {
+                refuse_a_wait(&rt, call, n, false);
+                // A bulk send leaves no other send blocked.
+                if !is_bulk(call) {
+                    refuse_a_wait(&rt, call, n, true);
+                }
+            }
         }
-        for n in 1..3u64 {
-            let alloc = Refusing::new(rt.alloc());
-            let (party, other) = block(&rt, &rt, &alloc, call);
-            alloc.refuse_nth(n);
-            let watch = Watch::begin(&rt, "a wait without memory", (call, n));
-            let answer = party.make(&rt, &rt, &alloc, call, long());
-            watch.end(&rt);
-            expect_equal_at(&rt, (call, n), answer, refused(call, Outcome::Memory));
-            expect_equal_at(&rt, (call, n), alloc.refuse_none(), false);
-            // Nobody waits any more, and all goes on.
-            expect_true(&rt, other.help(), "the channel is open");
-            expect_equal_at(&rt, (call, n), party.len(), 1);
-        }
+    }
+}
+
+// The first has its answer, and there is no memory to list the second.
+#[test]
+fn the_next_that_cannot_be_listed_is_told(rt: HostRuntime) {
+    for side in SIDES {
+        let alloc = Refusing::new(rt.alloc());
+        let call = call_of(side, Way::Blocking);
+        let (party, other) = block(&rt, &rt, &alloc, call);
+        let watch = Watch::begin(&rt, "the next of two waits", side);
+        let (first, (second, could)) = thread::join(
+            &rt,
+            || party.make(&rt, &rt, &alloc, call, long()),
+            || {
+                let_others_wait(&rt);
+                thread::join(
+                    &rt,
+                    || party.make(&rt, &rt, &alloc, call, long()),
+                    || {
+                        let_others_wait(&rt);
+                        alloc.refuse_all();
+                        other.help()
+                    },
+                )
+            },
+        );
+        watch.end(&rt);
+        let wanted = (done(call), refused(call, Outcome::Memory), true);
+        expect_equal_at(&rt, side, (first, second, could), wanted);
+    }
+}
+
+// It looks again after a pause, since it has to end with the channel alone.
+#[test]
+fn a_loop_goes_on_without_memory(rt: HostRuntime) {
+    for call in [Call::Iter, Call::IntoIter] {
+        let alloc = Refusing::new(rt.alloc());
+        let (party, other) = block(&rt, &rt, &alloc, call);
+        alloc.refuse_all();
+        let watch = Watch::begin(&rt, "a loop without memory", call);
+        let (answer, asked) = thread::join(
+            &rt,
+            || party.make(&rt, &rt, &alloc, call, long()),
+            || {
+                let before = alloc.count();
+                thread::sleep(&rt, Duration::from_millis(200));
+                let asked = alloc.count().saturating_sub(before);
+                expect_true(&rt, other.help(), "the channel is open");
+                asked
+            },
+        );
+        watch.end(&rt);
+        expect_equal_at(&rt, call, answer, done(call));
+        // One request a millisecond, or fewer on a busy machine.
+        expect_equal_at(&rt, (call, asked), 5 < asked && asked < 500, true);
     }
 }
 

@@ -1,11 +1,15 @@
 //! Calls beside those of other threads: a bulk call is one step, and a thread that has waited wakes
 //! those that wait for what it leaves.
 use super::clocks::{Paced, Plan, Times, second};
-use super::parties::{Party, TIMED, block, done};
+use super::parties::{Party, TIMED, block, done, long, moves};
 use super::watch::Watch;
 use super::{Host, expect_equal, expect_equal_at, is_pending, let_others_wait};
 use async_priority_channel::{TryRecvManyError, bounded, unbounded};
+use driver::calls::{Call, Way};
 use futures::test::MockTask;
+use refusing::Refusing;
+use std::alloc::{Allocator, Global};
+use std::sync::Wait;
 use std::sync::atomic::{AtomicBool, Ordering};
 use std::thread;
 use std::time::{Clock, Duration};
@@ -85,15 +89,47 @@ fn a_batch_is_one_step(rt: HostRuntime) {
     expect_equal(&rt, (is_split, is_less), (false, false));
 }
 
-// Lets the thread go on that halts as it waits, at the end of its time or before, until it has
-// answered.
-fn let_go_on<R: Clock>(rt: &R, times: &Times, is_late: bool, has_answered: &AtomicBool) {
-    if is_late {
-        times.pass_the_second();
+/// Where a thread halts as it waits.
+#[derive(Clone, Copy)]
+enum Halt<'a> {
+    /// As it reads the clock, which then tells the end of its time or not.
+    Reading(&'a Times, bool),
+    /// As it asks for memory, before it is listed.
+    Request(&'a Refusing<Global>),
+}
+
+impl Halt<'_> {
+    fn is_reached(self) -> bool {
+        match self {
+            Halt::Reading(times, _) => times.gate.is_reached(),
+            Halt::Request(alloc) => alloc.is_holding(),
+        }
     }
-    times.gate.open();
+
+    fn let_go(self) {
+        match self {
+            Halt::Reading(times, is_late) => {
+                if is_late {
+                    times.pass_the_second();
+                }
+                times.gate.open();
+            }
+            Halt::Request(alloc) => alloc.let_go(),
+        }
+    }
+
+    // Lets the thread go on, until it has answered.
+    fn let_answer<R: Clock>(self, rt: &R, has_answered: &AtomicBool) {
+        self.let_go();
+        wait_until(rt, || has_answered.load(Ordering::SeqCst));
+    }
+}
+
+fn wait_until<R: Clock>(rt: &R, holds: impl Fn() -> bool)
+    requires { holds.can_call }
+{
     for _ in 0..u64::MAX {
-        if has_answered.load(Ordering::SeqCst) {
+        if holds() {
             return;
         }
         thread::sleep(rt, Duration::from_millis(1));
@@ -102,27 +138,26 @@ fn let_go_on<R: Clock>(rt: &R, times: &Times, is_late: bool, has_answered: &Atom
 
 // Brings what the thread waits for, and more of it than there is place for, so that a task waits
 // until the thread has gone on. Tells whether that task is woken then.
-fn is_task_woken<R: Host>(
-    rt: &R,
-    other: &Party<Paced<'_, R>>,
-    times: &Times,
-    is_late: bool,
+fn is_task_woken<H: Host, R: Wait + Clone, A: Allocator + Copy>(
+    host: &H,
+    other: &Party<R, A>,
+    halt: Halt<'_>,
     has_answered: &AtomicBool,
 ) -> bool {
-    times.gate.wait(rt);
+    wait_until(host, || halt.is_reached());
     let could = other.help() && other.help();
-    let task = MockTask::new(rt).expect(rt, "a task");
+    let task = MockTask::new(host).expect(host, "a task");
     let waits = match other {
         Party::Sender(tx) => {
             let mut sending = tx.send(9, 9);
             let waits = is_pending(task.poll(&mut sending));
-            let_go_on(rt, times, is_late, has_answered);
+            halt.let_answer(host, has_answered);
             waits
         }
         Party::Receiver(rx) => {
             let mut receiving = rx.recv();
             let waits = is_pending(task.poll(&mut receiving));
-            let_go_on(rt, times, is_late, has_answered);
+            halt.let_answer(host, has_answered);
             waits
         }
     };
@@ -139,6 +174,7 @@ fn a_thread_that_has_waited_wakes_the_other_side(rt: HostRuntime) {
                 let paced = Paced::new(&rt, &times);
                 let (party, other) = block(&rt, &paced, rt.alloc(), call);
                 let has_answered = AtomicBool::new(false);
+                let halt = Halt::Reading(&times, is_late);
                 let watch = Watch::begin(&rt, "what comes as a thread waits", round);
                 let (answer, is_woken) = thread::join(
                     &rt,
@@ -147,12 +183,40 @@ fn a_thread_that_has_waited_wakes_the_other_side(rt: HostRuntime) {
                         has_answered.store(true, Ordering::SeqCst);
                         answer
                     },
-                    || is_task_woken(&rt, &other, &times, is_late, &has_answered),
+                    || is_task_woken(&rt, &other, halt, &has_answered),
                 );
                 watch.end(&rt);
                 expect_equal_at(&rt, round, (answer, is_woken), (done(call), true));
             }
         }
+    }
+}
+
+// Each call that waits, a future that is polled once among them, finds at its second look what has
+// come since the first.
+#[test]
+fn a_call_that_looks_again_wakes_the_other_side(rt: HostRuntime) {
+    for call in Call::ALL {
+        if !moves(call) || call.way() == Way::Try {
+            continue;
+        }
+        let alloc = Refusing::new(rt.alloc());
+        let (party, other) = block(&rt, &rt, &alloc, call);
+        alloc.hold_nth(1);
+        let has_answered = AtomicBool::new(false);
+        let halt = Halt::Request(&alloc);
+        let watch = Watch::begin(&rt, "what comes between two looks", call);
+        let (answer, is_woken) = thread::join(
+            &rt,
+            || {
+                let answer = party.make(&rt, &rt, &alloc, call, long());
+                has_answered.store(true, Ordering::SeqCst);
+                answer
+            },
+            || is_task_woken(&rt, &other, halt, &has_answered),
+        );
+        watch.end(&rt);
+        expect_equal_at(&rt, call, (answer, is_woken), (done(call), true));
     }
 }
 

@@ -36,7 +36,7 @@ use types.ByLocal.{env, alloc_all, pass_all, free_all, look_at, get, through, se
 use types.Kit.{‵, raw, ◌⊛◌, some, later, at_ret, ◌$◌, ◌∵◌, !, qed, done, move, keep, drop, use0, use1, split, join, feq_l, pick, await, suffices, group}
 use types.Part.{agg}
 use types.Run.{enter, lit, addr, stop, fld, no_more, and_then, first, branches, skips, exec, returns, returns_within}
-use Rattle.refusing.proofs.Fields.{inner_of, refusals_of, whole_owned, inner_owned, refusals_owned, fields_lent}
+use Rattle.refusing.proofs.Fields.{inner_of, requests_of, whole_owned, inner_owned, requests_owned, fields_lent}
 use Rattle.refusing.proofs.RefusingAllocator.allocate.Code as code
 use Rattle.refusing.proofs.RefusingAllocator.allocate.Statement.{statement}
 use Rattle.refusing.proofs.count_request.Met as count_request
@@ -66,18 +66,18 @@ allocate_spec 𝓤 𝓛 𝓜 𝓡 wired B L ghosts methods drops met _ =
     (f.Key.name args) function (code.unfolded 𝓤 𝓛.H 𝓜 𝓡 wired (B, tt) methods drops)
     (λ κs. (shr_vals, (uint_vals w64, (uint_vals w64, tt))))
     (λ κs. (shr_Tells (named 0) κs.0 (the_row (param 0 B)), (uint_Tells w64, (uint_Tells w64, tt)))) (λ κs qs bounds a τ are.
-    let κ = κs.0 in let inner = inner_of B a.0 in let refusals = refusals_of B a.0 in
+    let κ = κs.0 in let inner = inner_of B a.0 in let requests = requests_of B a.0 in
     let vs : Valss (usize ∷ usize ∷ []) = (uint_vals w64 a.1.0, (uint_vals w64 a.1.1.0, tt)) in
     let y : W.Ghost = ((κs, qs, bounds, a, (shr_vals a.0, vs)), τ) in
     -- the contract of `count_request`, and what it is called at; that of the inner allocator's
     -- `allocate`, and what that is called at
     let F = triple_of 𝓛 t.signature (t.spec 𝓛 𝓜.mem 𝓡.returns) in
-    let x : F.Ghost = (((κ, tt), (qs.0, tt), tt, (refusals, tt), (shr_vals refusals, tt)), tt) in
+    let x : F.Ghost = (((κ, tt), (qs.0, tt), tt, (requests, tt), (shr_vals requests, tt)), tt) in
     let G = triple_of 𝓛 (g.signature B) (g.spec B ghosts methods drops 𝓛 𝓜.mem 𝓡.returns) in let G' = g.ended B ghosts methods drops in
     let z : G.Ghost = ((κs, qs, bounds, (inner, a.1), (shr_vals inner, vs)), τ) in
     qed 𝓛 (((‵ (flft κ qs.0) ⊛ ‵ (flft κs.1.0 qs.1.0) ⊛ ‵ ftrue) ⊛ ‵ (whole_owned B a.0 κ) ⊛ ‵ (owns (usize ∷ usize ∷ []) a.1 vs)) ∷ raw ((c κs a).requires τ) ∷ []) ∵
-    split ! $ split ! $ move ! (2 ∷ []) $ split ! $ use1 𝓛 (‵ (inner_owned B a.0 κ) ⊛ ‵ (refusals_owned B a.0 κ)) (fields_lent B a.0 κ 𝓛) $ split ! $
-    -- [the inner allocator; the refusals; the other parameters; the token of κ; the other tokens;
+    split ! $ split ! $ move ! (2 ∷ []) $ split ! $ use1 𝓛 (‵ (inner_owned B a.0 κ) ⊛ ‵ (requests_owned B a.0 κ)) (fields_lent B a.0 κ 𝓛) $ split ! $
+    -- [the inner allocator; the requests; the other parameters; the token of κ; the other tokens;
     -- what is required]
     nothing ! $ nothing ! $ move ! (3 ∷ 0 ∷ []) $ join ! $ nothing ! $ move ! (5 ∷ 0 ∷ []) $ join ! $ join ! $ join ! $ use1 𝓛 (raw (F.pre x)) (id⊢ 𝓤 _) $
     enter ! _ _ _ _ _ $

@@ -28,7 +28,7 @@ use mir.Val.{vunit}
 use types.ByLocal.{alloc_all, pass_all, free_all, look_at, get, through, sets, lands_as}
 use types.Kit.{‵, raw, ◌⊛◌, some, later, ◌$◌, ◌∵◌, !, qed, done, move, keep, use1, split, join, feq_i, feq_l, pick, await, suffices, group}
 use types.Run.{enter, of_opd, unit_lit, addr, stop, fld, no_more, and_then, returns}
-use Rattle.refusing.proofs.Fields.{inner_of, whole_owned, inner_owned, refusals_owned, fields_lent}
+use Rattle.refusing.proofs.Fields.{inner_of, whole_owned, inner_owned, requests_owned, fields_lent}
 use Rattle.refusing.proofs.RefusingAllocator.deallocate.Code as code
 use Rattle.refusing.proofs.RefusingAllocator.deallocate.Statement.{statement}
 use Rattle.refusing.specs.contracts.Refusing.{the_row}
@@ -64,7 +64,7 @@ deallocate_spec 𝓤 𝓛 𝓜 𝓡 wired B L ghosts methods drops met _ =
     qed 𝓛 ((raw (alive 𝓛 S κs qs) ⊛ ‵ (whole_owned B a.0 κs.0) ⊛ ‵ (owns (RawPtr ∷ usize ∷ usize ∷ []) a.1 vs)) ∷ raw ((c κs a).requires τ) ∷ []) ∵
     split ! $ move ! (1 ∷ []) $ split ! $
     -- [self; the other parameters; the tokens; what is required]
-    use1 𝓛 (‵ (inner_owned B a.0 κs.0) ⊛ ‵ (refusals_owned B a.0 κs.0)) (fields_lent B a.0 κs.0 𝓛) $
+    use1 𝓛 (‵ (inner_owned B a.0 κs.0) ⊛ ‵ (requests_owned B a.0 κs.0)) (fields_lent B a.0 κs.0 𝓛) $
     split ! $ keep ! (0 ∷ 2 ∷ 3 ∷ 4 ∷ []) $ join ! $ move ! (1 ∷ 0 ∷ []) $ join ! $ join ! $ use1 𝓛 (raw (G.pre z)) (id⊢ 𝓤 _) $
     enter ! _ _ _ _ _ $
     alloc_all ! (λ l. pass_all ! refl ((tt, tt), (((rawptr_Lawful 𝓛).typed a.1.0 _ refl).0, ((tt, record { fits = are.1.1.0.1 }), ((tt, record { fits = are.1.1.1.0.1 }), tt)))) $
