@@ -99,14 +99,15 @@ enum Halt<'a> {
 }
 
 impl Halt<'_> {
-    fn is_reached(self) -> bool {
+    fn wait<R: Clock>(self, rt: &R) {
         match self {
-            Halt::Reading(times, _) => times.gate.is_reached(),
-            Halt::Request(alloc) => alloc.is_holding(),
+            Halt::Reading(times, _) => times.gate.wait(rt),
+            Halt::Request(alloc) => wait_for_request(rt, alloc),
         }
     }
 
-    fn let_go(self) {
+    // Lets the thread go on, until it has answered.
+    fn let_answer<R: Clock>(self, rt: &R, has_answered: &AtomicBool) {
         match self {
             Halt::Reading(times, is_late) => {
                 if is_late {
@@ -116,20 +117,18 @@ impl Halt<'_> {
             }
             Halt::Request(alloc) => alloc.let_go(),
         }
-    }
-
-    // Lets the thread go on, until it has answered.
-    fn let_answer<R: Clock>(self, rt: &R, has_answered: &AtomicBool) {
-        self.let_go();
-        wait_until(rt, || has_answered.load(Ordering::SeqCst));
+        for _ in 0..u64::MAX {
+            if has_answered.load(Ordering::SeqCst) {
+                return;
+            }
+            thread::sleep(rt, Duration::from_millis(1));
+        }
     }
 }
 
-fn wait_until<R: Clock>(rt: &R, holds: impl Fn() -> bool)
-    requires { holds.can_call }
-{
+fn wait_for_request<R: Clock>(rt: &R, alloc: &Refusing<Global>) {
     for _ in 0..u64::MAX {
-        if holds() {
+        if alloc.is_holding() {
             return;
         }
         thread::sleep(rt, Duration::from_millis(1));
@@ -144,7 +143,7 @@ fn is_task_woken<H: Host, R: Wait + Clone, A: Allocator + Copy>(
     halt: Halt<'_>,
     has_answered: &AtomicBool,
 ) -> bool {
-    wait_until(host, || halt.is_reached());
+    halt.wait(host);
     let could = other.help() && other.help();
     let task = MockTask::new(host).expect(host, "a task");
     let waits = match other {
@@ -200,16 +199,17 @@ fn a_call_that_looks_again_wakes_the_other_side(rt: HostRuntime) {
         if !moves(call) || call.way() == Way::Try {
             continue;
         }
-        let alloc = Refusing::new(rt.alloc());
-        let (party, other) = block(&rt, &rt, &alloc, call);
+        let memory = Refusing::new(rt.alloc());
+        let alloc = &memory;
+        let (party, other) = block(&rt, &rt, alloc, call);
         alloc.hold_nth(1);
         let has_answered = AtomicBool::new(false);
-        let halt = Halt::Request(&alloc);
+        let halt = Halt::Request(alloc);
         let watch = Watch::begin(&rt, "what comes between two looks", call);
         let (answer, is_woken) = thread::join(
             &rt,
             || {
-                let answer = party.make(&rt, &rt, &alloc, call, long());
+                let answer = party.make(&rt, &rt, alloc, call, long());
                 has_answered.store(true, Ordering::SeqCst);
                 answer
             },
