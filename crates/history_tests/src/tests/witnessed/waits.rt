@@ -1,5 +1,5 @@
 //! Waits on a thread: limits, what an ended wait leaves, and threads that wait for each other.
-ghost use Rattle.std.specs.Prelude.{◌≡◌, false};
+ghost use Rattle.std.specs.Prelude.{◌≡◌, false, true};
 ghost use Rattle.priority_channel_witnessed.specs.Log.{names};
 
 use crate::tests::{expect_equal, expect_equal_at};
