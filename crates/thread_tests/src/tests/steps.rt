@@ -89,46 +89,59 @@ fn a_batch_is_one_step(rt: HostRuntime) {
     expect_equal(&rt, (is_split, is_less), (false, false));
 }
 
-/// Where a thread halts as it waits.
-#[derive(Clone, Copy)]
-enum Halt<'a> {
-    /// As it reads the clock, which then tells the end of its time or not.
-    Reading(&'a Times, bool),
-    /// As it asks for memory, before it is listed.
-    Request(&'a Refusing<Global>),
+/// A place at which a thread halts as it waits.
+trait Halt {
+    fn is_reached(&self) -> bool;
+
+    /// Lets the thread go on.
+    fn let_go(&self);
 }
 
-impl Halt<'_> {
-    fn wait<R: Clock>(self, rt: &R) {
-        match self {
-            Halt::Reading(times, _) => times.gate.wait(rt),
-            Halt::Request(alloc) => wait_for_request(rt, alloc),
-        }
+/// A reading of the clock, which then tells the end of the thread's time or not.
+#[derive(Drop)]
+struct Reading<'a> {
+    times: &'a Times,
+    is_late: bool,
+}
+
+impl Halt for Reading<'_> {
+    fn is_reached(&self) -> bool {
+        self.times.gate.is_reached()
     }
 
-    // Lets the thread go on, until it has answered.
-    fn let_answer<R: Clock>(self, rt: &R, has_answered: &AtomicBool) {
-        match self {
-            Halt::Reading(times, is_late) => {
-                if is_late {
-                    times.pass_the_second();
-                }
-                times.gate.open();
-            }
-            Halt::Request(alloc) => alloc.let_go(),
+    fn let_go(&self) {
+        if self.is_late {
+            self.times.pass_the_second();
         }
-        for _ in 0..u64::MAX {
-            if has_answered.load(Ordering::SeqCst) {
-                return;
-            }
-            thread::sleep(rt, Duration::from_millis(1));
-        }
+        self.times.gate.open();
     }
 }
 
-fn wait_for_request<R: Clock>(rt: &R, alloc: &Refusing<Global>) {
+/// A request for memory, before the thread is listed.
+impl Halt for Refusing<Global> {
+    fn is_reached(&self) -> bool {
+        self.is_holding()
+    }
+
+    fn let_go(&self) {
+        Refusing::let_go(self);
+    }
+}
+
+fn wait_until_reached<H: Halt>(rt: &impl Clock, halt: &H) {
     for _ in 0..u64::MAX {
-        if alloc.is_holding() {
+        if halt.is_reached() {
+            return;
+        }
+        thread::sleep(rt, Duration::from_millis(1));
+    }
+}
+
+// Lets the thread go on, until it has answered.
+fn let_answer<H: Halt>(rt: &impl Clock, halt: &H, has_answered: &AtomicBool) {
+    halt.let_go();
+    for _ in 0..u64::MAX {
+        if has_answered.load(Ordering::SeqCst) {
             return;
         }
         thread::sleep(rt, Duration::from_millis(1));
@@ -137,13 +150,13 @@ fn wait_for_request<R: Clock>(rt: &R, alloc: &Refusing<Global>) {
 
 // Brings what the thread waits for, and more of it than there is place for, so that a task waits
 // until the thread has gone on. Tells whether that task is woken then.
-fn is_task_woken<H: Host, R: Wait + Clone, A: Allocator + Copy>(
+fn is_task_woken<H: Host, R: Wait + Clone, A: Allocator + Copy, S: Halt>(
     host: &H,
     other: &Party<R, A>,
-    halt: Halt<'_>,
+    halt: &S,
     has_answered: &AtomicBool,
 ) -> bool {
-    halt.wait(host);
+    wait_until_reached(host, halt);
     let could = other.help() && other.help();
     let task = MockTask::new(host).expect(host, "a task");
     // A waker wakes its task also as it is dropped, so the future lives until that was looked at.
@@ -151,13 +164,13 @@ fn is_task_woken<H: Host, R: Wait + Clone, A: Allocator + Copy>(
         Party::Sender(tx) => {
             let mut sending = tx.send(9, 9);
             let waits = is_pending(task.poll(&mut sending));
-            halt.let_answer(host, has_answered);
+            let_answer(host, halt, has_answered);
             waits && task.is_woken()
         }
         Party::Receiver(rx) => {
             let mut receiving = rx.recv();
             let waits = is_pending(task.poll(&mut receiving));
-            halt.let_answer(host, has_answered);
+            let_answer(host, halt, has_answered);
             waits && task.is_woken()
         }
     };
@@ -174,7 +187,10 @@ fn a_thread_that_has_waited_wakes_the_other_side(rt: HostRuntime) {
                 let paced = Paced::new(&rt, &times);
                 let (party, other) = block(&rt, &paced, rt.alloc(), call);
                 let has_answered = AtomicBool::new(false);
-                let halt = Halt::Reading(&times, is_late);
+                let halt = Reading {
+                    times: &times,
+                    is_late,
+                };
                 let watch = Watch::begin(&rt, "what comes as a thread waits", round);
                 let (answer, is_woken) = thread::join(
                     &rt,
@@ -183,7 +199,7 @@ fn a_thread_that_has_waited_wakes_the_other_side(rt: HostRuntime) {
                         has_answered.store(true, Ordering::SeqCst);
                         answer
                     },
-                    || is_task_woken(&rt, &other, halt, &has_answered),
+                    || is_task_woken(&rt, &other, &halt, &has_answered),
                 );
                 watch.end(&rt);
                 expect_equal_at(&rt, round, (answer, is_woken), (done(call), true));
@@ -200,21 +216,19 @@ fn a_call_that_looks_again_wakes_the_other_side(rt: HostRuntime) {
         if !moves(call) || call.way() == Way::Try {
             continue;
         }
-        let memory = Refusing::new(rt.alloc());
-        let alloc = &memory;
-        let (party, other) = block(&rt, &rt, alloc, call);
+        let alloc = Refusing::new(rt.alloc());
+        let (party, other) = block(&rt, &rt, &alloc, call);
         alloc.hold_nth(1);
         let has_answered = AtomicBool::new(false);
-        let halt = Halt::Request(alloc);
         let watch = Watch::begin(&rt, "what comes between two looks", call);
         let (answer, is_woken) = thread::join(
             &rt,
             || {
-                let answer = party.make(&rt, &rt, alloc, call, long());
+                let answer = party.make(&rt, &rt, &alloc, call, long());
                 has_answered.store(true, Ordering::SeqCst);
                 answer
             },
-            || is_task_woken(&rt, &other, halt, &has_answered),
+            || is_task_woken(&rt, &other, &alloc, &has_answered),
         );
         watch.end(&rt);
         expect_equal_at(&rt, call, (answer, is_woken), (done(call), true));
