@@ -3,7 +3,9 @@ use Rattle.std.specs.Prelude.{◌≡◌, ◌≢◌, ◌==◌, ◌≤◌, ℕ, Bo
 use Rattle.std.specs.List.{sum_by}
 use Rattle.std.specs.declared.cmp.Ordering.{Ordering}
 use Rattle.priority_channel_witnessed.specs.declared.entry.Entry.{Entry}
-use Rattle.priority_channel_witnessed.specs.History.{IsLegal}
+use Rattle.priority_channel_core.specs.machine.State.{Handed}
+use Rattle.priority_channel_core.specs.machine.Step.{Calls, Answers}
+use Rattle.priority_channel_witnessed.specs.History.{entry, IsLegal}
 
 -- a pass's number, how many calls were made with it, and the history that it has seen
 pub record Carried (T P W : Type 0) : Type 0 where
@@ -75,3 +77,11 @@ pub record IsTold {T P W : Type 0} (cmp : P → P → Ordering) (is_clone : W �
   pub seen : new.seen ≡ (old.seen ++ between) ++ last ∷ []
   pub legal : IsLegal cmp is_clone capacity is_reserved new.seen
   pub counted : new.count ≤ calls_of new.number new.seen
+
+-- One more call was made with the pass, under its number, and it was told of that call.
+pub record Tells {T P W : Type 0} (cmp : P → P → Ordering) (is_clone : W → W → Type 0)
+    (capacity : ℕ) (is_reserved : Bool) (old : Carried T P W) (made : Calls T P W)
+    (reply : Answers T P) (handed : Handed W) (new : Carried T P W) : Type 0 where
+  pub number : new.number ≡ old.number
+  pub counted : new.count ≡ old.count + 1
+  pub told : IsTold cmp is_clone capacity is_reserved old (entry old.number made reply handed) new

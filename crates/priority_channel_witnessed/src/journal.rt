@@ -2,8 +2,8 @@
 ghost use Rattle.std.specs.Prelude.{◌≡◌, ◌+◌, ◌<◌, ◌≤◌, ◌^◌, [], ◌∷◌, ◌++◌, length, vec_len, All, IfOk, IfErr, IfSome};
 ghost use mathlib.Core.List.{IsPrefix};
 ghost use Rattle.priority_channel_witnessed.specs.History.{IsHistory, IsLegal};
-ghost use Rattle.priority_channel_witnessed.specs.Passes.{calls_of, calls_made, calls_of_others, AreApart, Accounts, AreGiven, IsTold};
-ghost use Rattle.priority_channel_witnessed.specs.Tells.{entry_of, told_entry};
+ghost use Rattle.priority_channel_witnessed.specs.Passes.{calls_of, calls_made, calls_of_others, AreApart, Accounts, AreGiven, Tells};
+ghost use Rattle.priority_channel_witnessed.specs.Tells.{entry_of, call_of, answer_of, handed_told, told_entry};
 
 use crate::entry::{Telling, Told};
 use crate::log::{Log, Recording, Seen};
@@ -135,10 +135,8 @@ impl<T, P: Ord, W: Clone, J: Recording, A: Allocator> Journal<T, P, W, J, A> {
             (self.old ++ entry_of pass.old.number told handed ∷ []) core.now.state }
         ensures leads { IsHistory P.cmp W.is_clone J.capacity J.is_reserved self.new
             core.now.state }
-        ensures number { pass.new.number ≡ pass.old.number }
-        ensures counted { pass.new.count ≡ pass.old.count + 1 }
-        ensures told { IsTold P.cmp W.is_clone J.capacity J.is_reserved pass.old
-            (entry_of pass.old.number told handed) pass.new }
+        ensures told { Tells P.cmp W.is_clone J.capacity J.is_reserved pass.old (call_of told)
+            (answer_of told) (handed_told handed) pass.new }
     {
         await_given(rt, pass.number, self.next);
         let next = next(rt, self.count);

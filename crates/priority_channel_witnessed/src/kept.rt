@@ -1,8 +1,8 @@
 //! What the lock guards: a core, and the journal of its calls.
 ghost use Rattle.std.specs.Prelude.{◌≡◌, ◌+◌, IfSome};
 ghost use mathlib.Core.List.{IsPrefix};
-ghost use Rattle.priority_channel_witnessed.specs.History.{entry, IsLegal};
-ghost use Rattle.priority_channel_witnessed.specs.Passes.{IsTold};
+ghost use Rattle.priority_channel_witnessed.specs.History.{IsLegal};
+ghost use Rattle.priority_channel_witnessed.specs.Passes.{Tells};
 
 use crate::entry::Told;
 use crate::journal::Journal;
@@ -50,11 +50,8 @@ impl<T, P: Ord, W: Clone, J: Recording, A: Allocator + Copy> Kept<T, P, W, J, A>
         msg: T,
         priority: P,
     ) -> (Result<(), TrySendError<(T, P)>>, Wakes<W, A>)
-        ensures number { pass.new.number ≡ pass.old.number }
-        ensures counted { pass.new.count ≡ pass.old.count + 1 }
-        ensures told { IsTold P.cmp W.is_clone J.capacity J.is_reserved pass.old
-            (entry pass.old.number (Call.TrySend msg priority)
-            (Answer.TrySend result.0) result.1) pass.new }
+        ensures { Tells P.cmp W.is_clone J.capacity J.is_reserved pass.old
+            (Call.TrySend msg priority) (Answer.TrySend result.0) result.1 pass.new }
     {
         let (kept_msg, kept_priority) = (Snapshot::of(&msg), Snapshot::of(&priority));
         let (sent, wakes) = self.core.try_send(msg, priority);
@@ -70,10 +67,8 @@ impl<T, P: Ord, W: Clone, J: Recording, A: Allocator + Copy> Kept<T, P, W, J, A>
         log: &Log<T, P, W, J>,
         pass: &mut Pass<T, P, W, J>,
     ) -> (Result<(T, P), TryRecvError>, Wakes<W, A>)
-        ensures number { pass.new.number ≡ pass.old.number }
-        ensures counted { pass.new.count ≡ pass.old.count + 1 }
-        ensures told { IsTold P.cmp W.is_clone J.capacity J.is_reserved pass.old
-            (entry pass.old.number Call.TryRecv (Answer.TryRecv result.0) result.1) pass.new }
+        ensures { Tells P.cmp W.is_clone J.capacity J.is_reserved pass.old
+            Call.TryRecv (Answer.TryRecv result.0) result.1 pass.new }
     {
         let (received, wakes) = self.core.try_recv();
         let told = Told::TryRecv(Snapshot::of(&received));
@@ -88,10 +83,8 @@ impl<T, P: Ord, W: Clone, J: Recording, A: Allocator + Copy> Kept<T, P, W, J, A>
         log: &Log<T, P, W, J>,
         pass: &mut Pass<T, P, W, J>,
     ) -> (bool, Wakes<W, A>)
-        ensures number { pass.new.number ≡ pass.old.number }
-        ensures counted { pass.new.count ≡ pass.old.count + 1 }
-        ensures told { IsTold P.cmp W.is_clone J.capacity J.is_reserved pass.old
-            (entry pass.old.number Call.Close (Answer.Close result.0) result.1) pass.new }
+        ensures { Tells P.cmp W.is_clone J.capacity J.is_reserved pass.old
+            Call.Close (Answer.Close result.0) result.1 pass.new }
     {
         let (was_open, wakes) = self.core.close();
         let told = Told::Close(was_open);

@@ -2,9 +2,9 @@
 ghost use Rattle.std.specs.Prelude.{◌≡◌, ◌+◌, ◌≤◌, [], length, vec_len, All, IfOk, IfErr, IfSome};
 ghost use mathlib.Core.List.{IsPrefix};
 ghost use Rattle.priority_channel_core.specs.machine.State.{opening, nobody};
-ghost use Rattle.priority_channel_witnessed.specs.History.{entry, IsHistory, IsLegal};
+ghost use Rattle.priority_channel_witnessed.specs.History.{IsHistory, IsLegal};
 ghost use Rattle.priority_channel_witnessed.specs.Log.{names};
-ghost use Rattle.priority_channel_witnessed.specs.Passes.{calls_of, calls_made, calls_of_others, AreNew, AreApart, Accounts, IsTold};
+ghost use Rattle.priority_channel_witnessed.specs.Passes.{calls_of, calls_made, calls_of_others, AreNew, AreApart, Accounts, Tells};
 
 use crate::journal::Journal;
 use crate::kept::Kept;
@@ -144,11 +144,8 @@ impl<T, P: Ord, W: Clone, J: Recording, A: Allocator + Copy> Witnessed<T, P, W, 
         msg: T,
         priority: P,
     ) -> (Result<(), TrySendError<(T, P)>>, Wakes<W, A>)
-        ensures number { pass.new.number ≡ pass.old.number }
-        ensures counted { pass.new.count ≡ pass.old.count + 1 }
-        ensures told { IsTold P.cmp W.is_clone J.capacity J.is_reserved pass.old
-            (entry pass.old.number (Call.TrySend msg priority)
-            (Answer.TrySend result.0) result.1) pass.new }
+        ensures { Tells P.cmp W.is_clone J.capacity J.is_reserved pass.old
+            (Call.TrySend msg priority) (Answer.TrySend result.0) result.1 pass.new }
     {
         self.kept
             .lock(rt)
@@ -162,10 +159,8 @@ impl<T, P: Ord, W: Clone, J: Recording, A: Allocator + Copy> Witnessed<T, P, W, 
         rt: &R,
         pass: &mut Pass<T, P, W, J>,
     ) -> (Result<(T, P), TryRecvError>, Wakes<W, A>)
-        ensures number { pass.new.number ≡ pass.old.number }
-        ensures counted { pass.new.count ≡ pass.old.count + 1 }
-        ensures told { IsTold P.cmp W.is_clone J.capacity J.is_reserved pass.old
-            (entry pass.old.number Call.TryRecv (Answer.TryRecv result.0) result.1) pass.new }
+        ensures { Tells P.cmp W.is_clone J.capacity J.is_reserved pass.old
+            Call.TryRecv (Answer.TryRecv result.0) result.1 pass.new }
     {
         self.kept.lock(rt).try_recv(rt, &self.log, pass)
     }
@@ -173,10 +168,8 @@ impl<T, P: Ord, W: Clone, J: Recording, A: Allocator + Copy> Witnessed<T, P, W, 
     /// Closes the channel for good, and answers whether it was open. What is pending can still be
     /// received.
     pub fn close<R: Wait>(&self, rt: &R, pass: &mut Pass<T, P, W, J>) -> (bool, Wakes<W, A>)
-        ensures number { pass.new.number ≡ pass.old.number }
-        ensures counted { pass.new.count ≡ pass.old.count + 1 }
-        ensures told { IsTold P.cmp W.is_clone J.capacity J.is_reserved pass.old
-            (entry pass.old.number Call.Close (Answer.Close result.0) result.1) pass.new }
+        ensures { Tells P.cmp W.is_clone J.capacity J.is_reserved pass.old
+            Call.Close (Answer.Close result.0) result.1 pass.new }
     {
         self.kept.lock(rt).close(rt, &self.log, pass)
     }

@@ -1,8 +1,6 @@
 //! Sending many pairs in one step.
-ghost use Rattle.std.specs.Prelude.{◌≡◌, ◌+◌};
-ghost use Rattle.priority_channel_witnessed.specs.History.{entry};
 ghost use Rattle.priority_channel_witnessed.specs.Items.{list_in, listed, listed_poll};
-ghost use Rattle.priority_channel_witnessed.specs.Passes.{IsTold};
+ghost use Rattle.priority_channel_witnessed.specs.Passes.{Tells};
 
 use crate::entry::{Pairs, Told};
 use crate::kept::Kept;
@@ -23,11 +21,8 @@ impl<T: Drop, P: Ord + Drop, W: Clone, J: Recording, A: Allocator + Copy> Kept<T
         pass: &mut Pass<T, P, W, J>,
         msgs: Pairs<T, P, A>,
     ) -> (Result<(), TrySendError<Pairs<T, P, A>>>, Wakes<W, A>)
-        ensures number { pass.new.number ≡ pass.old.number }
-        ensures counted { pass.new.count ≡ pass.old.count + 1 }
-        ensures told { IsTold P.cmp W.is_clone J.capacity J.is_reserved pass.old
-            (entry pass.old.number (Call.TrySendv (list_in msgs))
-            (Answer.TrySendv (listed result.0)) result.1) pass.new }
+        ensures { Tells P.cmp W.is_clone J.capacity J.is_reserved pass.old
+            (Call.TrySendv (list_in msgs)) (Answer.TrySendv (listed result.0)) result.1 pass.new }
     {
         let kept_msgs = Snapshot::of(&msgs);
         let (sent, wakes) = self.core.try_sendv(msgs);
@@ -49,11 +44,9 @@ impl<T: Drop, P: Ord + Drop, W: Clone, J: Recording, A: Allocator + Copy> Kept<T
         CorePoll<Result<(), SendFault<Pairs<T, P, A>>>, Pairs<T, P, A>>,
         Wakes<W, A>,
     )
-        ensures number { pass.new.number ≡ pass.old.number }
-        ensures counted { pass.new.count ≡ pass.old.count + 1 }
-        ensures told { IsTold P.cmp W.is_clone J.capacity J.is_reserved pass.old
-            (entry pass.old.number (Call.PollSendv (list_in msgs) ticket waker.now)
-            (Answer.PollSendv (listed_poll result.0)) result.1) pass.new }
+        ensures { Tells P.cmp W.is_clone J.capacity J.is_reserved pass.old
+            (Call.PollSendv (list_in msgs) ticket waker.now)
+            (Answer.PollSendv (listed_poll result.0)) result.1 pass.new }
     {
         let kept_msgs = Snapshot::of(&msgs);
         let (answer, wakes) = self.core.poll_sendv(msgs, ticket, waker);

@@ -1,7 +1,5 @@
 //! A send that makes room in a full channel.
-ghost use Rattle.std.specs.Prelude.{◌≡◌, ◌+◌};
-ghost use Rattle.priority_channel_witnessed.specs.History.{entry};
-ghost use Rattle.priority_channel_witnessed.specs.Passes.{IsTold};
+ghost use Rattle.priority_channel_witnessed.specs.Passes.{Tells};
 
 use crate::entry::Told;
 use crate::kept::Kept;
@@ -23,11 +21,9 @@ impl<T, P: Ord, W: Clone, J: Recording, A: Allocator + Copy> Kept<T, P, W, J, A>
         msg: T,
         priority: P,
     ) -> (Result<Option<(T, P)>, TrySendError<(T, P)>>, Wakes<W, A>)
-        ensures number { pass.new.number ≡ pass.old.number }
-        ensures counted { pass.new.count ≡ pass.old.count + 1 }
-        ensures told { IsTold P.cmp W.is_clone J.capacity J.is_reserved pass.old
-            (entry pass.old.number (Call.TrySendEvicting msg priority)
-            (Answer.TrySendEvicting result.0) result.1) pass.new }
+        ensures { Tells P.cmp W.is_clone J.capacity J.is_reserved pass.old
+            (Call.TrySendEvicting msg priority)
+            (Answer.TrySendEvicting result.0) result.1 pass.new }
     {
         let (kept_msg, kept_priority) = (Snapshot::of(&msg), Snapshot::of(&priority));
         let (sent, wakes) = self.core.try_send_evicting(msg, priority);

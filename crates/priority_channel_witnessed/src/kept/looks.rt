@@ -1,8 +1,6 @@
 //! Calls that only look.
-ghost use Rattle.std.specs.Prelude.{◌≡◌, ◌+◌};
 ghost use Rattle.priority_channel_core.specs.machine.State.{nobody};
-ghost use Rattle.priority_channel_witnessed.specs.History.{entry};
-ghost use Rattle.priority_channel_witnessed.specs.Passes.{IsTold};
+ghost use Rattle.priority_channel_witnessed.specs.Passes.{Tells};
 
 use crate::entry::Told;
 use crate::kept::Kept;
@@ -19,10 +17,8 @@ impl<T, P: Ord, W: Clone, J: Recording, A: Allocator + Copy> Kept<T, P, W, J, A>
         log: &Log<T, P, W, J>,
         pass: &mut Pass<T, P, W, J>,
     ) -> bool
-        ensures number { pass.new.number ≡ pass.old.number }
-        ensures counted { pass.new.count ≡ pass.old.count + 1 }
-        ensures told { IsTold P.cmp W.is_clone J.capacity J.is_reserved pass.old
-            (entry pass.old.number Call.IsClosed (Answer.IsClosed result) nobody) pass.new }
+        ensures { Tells P.cmp W.is_clone J.capacity J.is_reserved pass.old
+            Call.IsClosed (Answer.IsClosed result) nobody pass.new }
     {
         let answer = self.core.is_closed();
         self.journal
@@ -36,10 +32,8 @@ impl<T, P: Ord, W: Clone, J: Recording, A: Allocator + Copy> Kept<T, P, W, J, A>
         log: &Log<T, P, W, J>,
         pass: &mut Pass<T, P, W, J>,
     ) -> bool
-        ensures number { pass.new.number ≡ pass.old.number }
-        ensures counted { pass.new.count ≡ pass.old.count + 1 }
-        ensures told { IsTold P.cmp W.is_clone J.capacity J.is_reserved pass.old
-            (entry pass.old.number Call.IsEmpty (Answer.IsEmpty result) nobody) pass.new }
+        ensures { Tells P.cmp W.is_clone J.capacity J.is_reserved pass.old
+            Call.IsEmpty (Answer.IsEmpty result) nobody pass.new }
     {
         let answer = self.core.is_empty();
         self.journal
@@ -53,10 +47,8 @@ impl<T, P: Ord, W: Clone, J: Recording, A: Allocator + Copy> Kept<T, P, W, J, A>
         log: &Log<T, P, W, J>,
         pass: &mut Pass<T, P, W, J>,
     ) -> bool
-        ensures number { pass.new.number ≡ pass.old.number }
-        ensures counted { pass.new.count ≡ pass.old.count + 1 }
-        ensures told { IsTold P.cmp W.is_clone J.capacity J.is_reserved pass.old
-            (entry pass.old.number Call.IsFull (Answer.IsFull result) nobody) pass.new }
+        ensures { Tells P.cmp W.is_clone J.capacity J.is_reserved pass.old
+            Call.IsFull (Answer.IsFull result) nobody pass.new }
     {
         let answer = self.core.is_full();
         self.journal
@@ -70,10 +62,8 @@ impl<T, P: Ord, W: Clone, J: Recording, A: Allocator + Copy> Kept<T, P, W, J, A>
         log: &Log<T, P, W, J>,
         pass: &mut Pass<T, P, W, J>,
     ) -> u64
-        ensures number { pass.new.number ≡ pass.old.number }
-        ensures counted { pass.new.count ≡ pass.old.count + 1 }
-        ensures told { IsTold P.cmp W.is_clone J.capacity J.is_reserved pass.old
-            (entry pass.old.number Call.Len (Answer.Len result) nobody) pass.new }
+        ensures { Tells P.cmp W.is_clone J.capacity J.is_reserved pass.old
+            Call.Len (Answer.Len result) nobody pass.new }
     {
         let answer = self.core.len();
         self.journal
@@ -87,10 +77,8 @@ impl<T, P: Ord, W: Clone, J: Recording, A: Allocator + Copy> Kept<T, P, W, J, A>
         log: &Log<T, P, W, J>,
         pass: &mut Pass<T, P, W, J>,
     ) -> Option<u64>
-        ensures number { pass.new.number ≡ pass.old.number }
-        ensures counted { pass.new.count ≡ pass.old.count + 1 }
-        ensures told { IsTold P.cmp W.is_clone J.capacity J.is_reserved pass.old
-            (entry pass.old.number Call.Capacity (Answer.Capacity result) nobody) pass.new }
+        ensures { Tells P.cmp W.is_clone J.capacity J.is_reserved pass.old
+            Call.Capacity (Answer.Capacity result) nobody pass.new }
     {
         let answer = self.core.capacity();
         self.journal
@@ -104,10 +92,8 @@ impl<T, P: Ord, W: Clone, J: Recording, A: Allocator + Copy> Kept<T, P, W, J, A>
         log: &Log<T, P, W, J>,
         pass: &mut Pass<T, P, W, J>,
     ) -> usize
-        ensures number { pass.new.number ≡ pass.old.number }
-        ensures counted { pass.new.count ≡ pass.old.count + 1 }
-        ensures told { IsTold P.cmp W.is_clone J.capacity J.is_reserved pass.old
-            (entry pass.old.number Call.SenderCount (Answer.SenderCount result) nobody) pass.new }
+        ensures { Tells P.cmp W.is_clone J.capacity J.is_reserved pass.old
+            Call.SenderCount (Answer.SenderCount result) nobody pass.new }
     {
         let answer = self.core.sender_count();
         self.journal
@@ -121,11 +107,8 @@ impl<T, P: Ord, W: Clone, J: Recording, A: Allocator + Copy> Kept<T, P, W, J, A>
         log: &Log<T, P, W, J>,
         pass: &mut Pass<T, P, W, J>,
     ) -> usize
-        ensures number { pass.new.number ≡ pass.old.number }
-        ensures counted { pass.new.count ≡ pass.old.count + 1 }
-        ensures told { IsTold P.cmp W.is_clone J.capacity J.is_reserved pass.old
-            (entry pass.old.number Call.ReceiverCount
-            (Answer.ReceiverCount result) nobody) pass.new }
+        ensures { Tells P.cmp W.is_clone J.capacity J.is_reserved pass.old
+            Call.ReceiverCount (Answer.ReceiverCount result) nobody pass.new }
     {
         let answer = self.core.receiver_count();
         self.journal.enter(rt, log, &self.core, pass, Told::ReceiverCount(answer), None);

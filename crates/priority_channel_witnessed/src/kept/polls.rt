@@ -1,8 +1,6 @@
 //! Calls that wait, and the end of a wait.
-ghost use Rattle.std.specs.Prelude.{◌≡◌, ◌+◌};
 ghost use Rattle.priority_channel_core.specs.machine.State.{nobody};
-ghost use Rattle.priority_channel_witnessed.specs.History.{entry};
-ghost use Rattle.priority_channel_witnessed.specs.Passes.{IsTold};
+ghost use Rattle.priority_channel_witnessed.specs.Passes.{Tells};
 
 use crate::entry::Told;
 use crate::kept::Kept;
@@ -24,11 +22,8 @@ impl<T, P: Ord, W: Clone, J: Recording, A: Allocator + Copy> Kept<T, P, W, J, A>
         ticket: Option<u64>,
         waker: &W,
     ) -> (CorePoll<Result<(T, P), RecvFault>, ()>, Wakes<W, A>)
-        ensures number { pass.new.number ≡ pass.old.number }
-        ensures counted { pass.new.count ≡ pass.old.count + 1 }
-        ensures told { IsTold P.cmp W.is_clone J.capacity J.is_reserved pass.old
-            (entry pass.old.number (Call.PollRecv ticket waker.now)
-            (Answer.PollRecv result.0) result.1) pass.new }
+        ensures { Tells P.cmp W.is_clone J.capacity J.is_reserved pass.old
+            (Call.PollRecv ticket waker.now) (Answer.PollRecv result.0) result.1 pass.new }
     {
         let (answer, wakes) = self.core.poll_recv(ticket, waker);
         let told = Told::PollRecv(ticket, Snapshot::of(waker), Snapshot::of(&answer));
@@ -47,11 +42,9 @@ impl<T, P: Ord, W: Clone, J: Recording, A: Allocator + Copy> Kept<T, P, W, J, A>
         ticket: Option<u64>,
         waker: &W,
     ) -> (CorePoll<Result<(), SendFault<(T, P)>>, (T, P)>, Wakes<W, A>)
-        ensures number { pass.new.number ≡ pass.old.number }
-        ensures counted { pass.new.count ≡ pass.old.count + 1 }
-        ensures told { IsTold P.cmp W.is_clone J.capacity J.is_reserved pass.old
-            (entry pass.old.number (Call.PollSend msg priority ticket waker.now)
-            (Answer.PollSend result.0) result.1) pass.new }
+        ensures { Tells P.cmp W.is_clone J.capacity J.is_reserved pass.old
+            (Call.PollSend msg priority ticket waker.now)
+            (Answer.PollSend result.0) result.1 pass.new }
     {
         let (kept_msg, kept_priority) = (Snapshot::of(&msg), Snapshot::of(&priority));
         let (answer, wakes) = self.core.poll_send(msg, priority, ticket, waker);
@@ -74,10 +67,8 @@ impl<T, P: Ord, W: Clone, J: Recording, A: Allocator + Copy> Kept<T, P, W, J, A>
         pass: &mut Pass<T, P, W, J>,
         ticket: u64,
     )
-        ensures number { pass.new.number ≡ pass.old.number }
-        ensures counted { pass.new.count ≡ pass.old.count + 1 }
-        ensures told { IsTold P.cmp W.is_clone J.capacity J.is_reserved pass.old
-            (entry pass.old.number (Call.GiveUp ticket) Answer.GiveUp nobody) pass.new }
+        ensures { Tells P.cmp W.is_clone J.capacity J.is_reserved pass.old
+            (Call.GiveUp ticket) Answer.GiveUp nobody pass.new }
     {
         self.core.give_up(ticket);
         self.journal

@@ -1,8 +1,6 @@
 //! Sending many pairs in one step.
-ghost use Rattle.std.specs.Prelude.{◌≡◌, ◌+◌};
-ghost use Rattle.priority_channel_witnessed.specs.History.{entry};
 ghost use Rattle.priority_channel_witnessed.specs.Items.{list_in, listed, listed_poll};
-ghost use Rattle.priority_channel_witnessed.specs.Passes.{IsTold};
+ghost use Rattle.priority_channel_witnessed.specs.Passes.{Tells};
 
 use crate::entry::Pairs;
 use crate::log::Recording;
@@ -27,11 +25,8 @@ impl<T: Drop, P: Ord + Drop, W: Clone, J: Recording, A: Allocator + Copy> Witnes
         pass: &mut Pass<T, P, W, J>,
         msgs: Pairs<T, P, A>,
     ) -> (Result<(), TrySendError<Pairs<T, P, A>>>, Wakes<W, A>)
-        ensures number { pass.new.number ≡ pass.old.number }
-        ensures counted { pass.new.count ≡ pass.old.count + 1 }
-        ensures told { IsTold P.cmp W.is_clone J.capacity J.is_reserved pass.old
-            (entry pass.old.number (Call.TrySendv (list_in msgs))
-            (Answer.TrySendv (listed result.0)) result.1) pass.new }
+        ensures { Tells P.cmp W.is_clone J.capacity J.is_reserved pass.old
+            (Call.TrySendv (list_in msgs)) (Answer.TrySendv (listed result.0)) result.1 pass.new }
     {
         self.kept.lock(rt).try_sendv(rt, &self.log, pass, msgs)
     }
@@ -50,11 +45,9 @@ impl<T: Drop, P: Ord + Drop, W: Clone, J: Recording, A: Allocator + Copy> Witnes
         CorePoll<Result<(), SendFault<Pairs<T, P, A>>>, Pairs<T, P, A>>,
         Wakes<W, A>,
     )
-        ensures number { pass.new.number ≡ pass.old.number }
-        ensures counted { pass.new.count ≡ pass.old.count + 1 }
-        ensures told { IsTold P.cmp W.is_clone J.capacity J.is_reserved pass.old
-            (entry pass.old.number (Call.PollSendv (list_in msgs) ticket waker.now)
-            (Answer.PollSendv (listed_poll result.0)) result.1) pass.new }
+        ensures { Tells P.cmp W.is_clone J.capacity J.is_reserved pass.old
+            (Call.PollSendv (list_in msgs) ticket waker.now)
+            (Answer.PollSendv (listed_poll result.0)) result.1 pass.new }
     {
         self.kept
             .lock(rt)

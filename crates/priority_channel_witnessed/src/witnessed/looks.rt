@@ -1,8 +1,6 @@
 //! Calls that only look.
-ghost use Rattle.std.specs.Prelude.{◌≡◌, ◌+◌};
 ghost use Rattle.priority_channel_core.specs.machine.State.{nobody};
-ghost use Rattle.priority_channel_witnessed.specs.History.{entry};
-ghost use Rattle.priority_channel_witnessed.specs.Passes.{IsTold};
+ghost use Rattle.priority_channel_witnessed.specs.Passes.{Tells};
 
 use crate::log::Recording;
 use crate::pass::Pass;
@@ -14,71 +12,56 @@ use std::sync::Wait;
 impl<T, P: Ord, W: Clone, J: Recording, A: Allocator + Copy> Witnessed<T, P, W, J, A> {
     /// Whether the channel is closed.
     pub fn is_closed<R: Wait>(&self, rt: &R, pass: &mut Pass<T, P, W, J>) -> bool
-        ensures number { pass.new.number ≡ pass.old.number }
-        ensures counted { pass.new.count ≡ pass.old.count + 1 }
-        ensures told { IsTold P.cmp W.is_clone J.capacity J.is_reserved pass.old
-            (entry pass.old.number Call.IsClosed (Answer.IsClosed result) nobody) pass.new }
+        ensures { Tells P.cmp W.is_clone J.capacity J.is_reserved pass.old
+            Call.IsClosed (Answer.IsClosed result) nobody pass.new }
     {
         self.kept.lock(rt).is_closed(rt, &self.log, pass)
     }
 
     /// Whether no pair is pending.
     pub fn is_empty<R: Wait>(&self, rt: &R, pass: &mut Pass<T, P, W, J>) -> bool
-        ensures number { pass.new.number ≡ pass.old.number }
-        ensures counted { pass.new.count ≡ pass.old.count + 1 }
-        ensures told { IsTold P.cmp W.is_clone J.capacity J.is_reserved pass.old
-            (entry pass.old.number Call.IsEmpty (Answer.IsEmpty result) nobody) pass.new }
+        ensures { Tells P.cmp W.is_clone J.capacity J.is_reserved pass.old
+            Call.IsEmpty (Answer.IsEmpty result) nobody pass.new }
     {
         self.kept.lock(rt).is_empty(rt, &self.log, pass)
     }
 
     /// Whether there is no room.
     pub fn is_full<R: Wait>(&self, rt: &R, pass: &mut Pass<T, P, W, J>) -> bool
-        ensures number { pass.new.number ≡ pass.old.number }
-        ensures counted { pass.new.count ≡ pass.old.count + 1 }
-        ensures told { IsTold P.cmp W.is_clone J.capacity J.is_reserved pass.old
-            (entry pass.old.number Call.IsFull (Answer.IsFull result) nobody) pass.new }
+        ensures { Tells P.cmp W.is_clone J.capacity J.is_reserved pass.old
+            Call.IsFull (Answer.IsFull result) nobody pass.new }
     {
         self.kept.lock(rt).is_full(rt, &self.log, pass)
     }
 
     /// How many pairs are pending.
     pub fn len<R: Wait>(&self, rt: &R, pass: &mut Pass<T, P, W, J>) -> u64
-        ensures number { pass.new.number ≡ pass.old.number }
-        ensures counted { pass.new.count ≡ pass.old.count + 1 }
-        ensures told { IsTold P.cmp W.is_clone J.capacity J.is_reserved pass.old
-            (entry pass.old.number Call.Len (Answer.Len result) nobody) pass.new }
+        ensures { Tells P.cmp W.is_clone J.capacity J.is_reserved pass.old
+            Call.Len (Answer.Len result) nobody pass.new }
     {
         self.kept.lock(rt).len(rt, &self.log, pass)
     }
 
     /// How many pairs may be pending at a time; None where the capacity is `u64::MAX`.
     pub fn capacity<R: Wait>(&self, rt: &R, pass: &mut Pass<T, P, W, J>) -> Option<u64>
-        ensures number { pass.new.number ≡ pass.old.number }
-        ensures counted { pass.new.count ≡ pass.old.count + 1 }
-        ensures told { IsTold P.cmp W.is_clone J.capacity J.is_reserved pass.old
-            (entry pass.old.number Call.Capacity (Answer.Capacity result) nobody) pass.new }
+        ensures { Tells P.cmp W.is_clone J.capacity J.is_reserved pass.old
+            Call.Capacity (Answer.Capacity result) nobody pass.new }
     {
         self.kept.lock(rt).capacity(rt, &self.log, pass)
     }
 
     /// How many senders the core counts: one, as passes are not counted.
     pub fn sender_count<R: Wait>(&self, rt: &R, pass: &mut Pass<T, P, W, J>) -> usize
-        ensures number { pass.new.number ≡ pass.old.number }
-        ensures counted { pass.new.count ≡ pass.old.count + 1 }
-        ensures told { IsTold P.cmp W.is_clone J.capacity J.is_reserved pass.old
-            (entry pass.old.number Call.SenderCount (Answer.SenderCount result) nobody) pass.new }
+        ensures { Tells P.cmp W.is_clone J.capacity J.is_reserved pass.old
+            Call.SenderCount (Answer.SenderCount result) nobody pass.new }
     {
         self.kept.lock(rt).sender_count(rt, &self.log, pass)
     }
 
     /// How many receivers the core counts: one, as passes are not counted.
     pub fn receiver_count<R: Wait>(&self, rt: &R, pass: &mut Pass<T, P, W, J>) -> usize
-        ensures number { pass.new.number ≡ pass.old.number }
-        ensures counted { pass.new.count ≡ pass.old.count + 1 }
-        ensures told { IsTold P.cmp W.is_clone J.capacity J.is_reserved pass.old
-            (entry pass.old.number Call.ReceiverCount
-            (Answer.ReceiverCount result) nobody) pass.new }
+        ensures { Tells P.cmp W.is_clone J.capacity J.is_reserved pass.old
+            Call.ReceiverCount (Answer.ReceiverCount result) nobody pass.new }
     {
         self.kept.lock(rt).receiver_count(rt, &self.log, pass)
     }

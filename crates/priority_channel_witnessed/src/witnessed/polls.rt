@@ -1,8 +1,6 @@
 //! Calls that wait, and the end of a wait.
-ghost use Rattle.std.specs.Prelude.{◌≡◌, ◌+◌};
 ghost use Rattle.priority_channel_core.specs.machine.State.{nobody};
-ghost use Rattle.priority_channel_witnessed.specs.History.{entry};
-ghost use Rattle.priority_channel_witnessed.specs.Passes.{IsTold};
+ghost use Rattle.priority_channel_witnessed.specs.Passes.{Tells};
 
 use crate::log::Recording;
 use crate::pass::Pass;
@@ -24,11 +22,8 @@ impl<T, P: Ord, W: Clone, J: Recording, A: Allocator + Copy> Witnessed<T, P, W, 
         ticket: Option<u64>,
         waker: &W,
     ) -> (CorePoll<Result<(T, P), RecvFault>, ()>, Wakes<W, A>)
-        ensures number { pass.new.number ≡ pass.old.number }
-        ensures counted { pass.new.count ≡ pass.old.count + 1 }
-        ensures told { IsTold P.cmp W.is_clone J.capacity J.is_reserved pass.old
-            (entry pass.old.number (Call.PollRecv ticket waker.now)
-            (Answer.PollRecv result.0) result.1) pass.new }
+        ensures { Tells P.cmp W.is_clone J.capacity J.is_reserved pass.old
+            (Call.PollRecv ticket waker.now) (Answer.PollRecv result.0) result.1 pass.new }
     {
         self.kept
             .lock(rt)
@@ -46,11 +41,9 @@ impl<T, P: Ord, W: Clone, J: Recording, A: Allocator + Copy> Witnessed<T, P, W, 
         ticket: Option<u64>,
         waker: &W,
     ) -> (CorePoll<Result<(), SendFault<(T, P)>>, (T, P)>, Wakes<W, A>)
-        ensures number { pass.new.number ≡ pass.old.number }
-        ensures counted { pass.new.count ≡ pass.old.count + 1 }
-        ensures told { IsTold P.cmp W.is_clone J.capacity J.is_reserved pass.old
-            (entry pass.old.number (Call.PollSend msg priority ticket waker.now)
-            (Answer.PollSend result.0) result.1) pass.new }
+        ensures { Tells P.cmp W.is_clone J.capacity J.is_reserved pass.old
+            (Call.PollSend msg priority ticket waker.now)
+            (Answer.PollSend result.0) result.1 pass.new }
     {
         self.kept
             .lock(rt)
@@ -59,10 +52,8 @@ impl<T, P: Ord, W: Clone, J: Recording, A: Allocator + Copy> Witnessed<T, P, W, 
 
     /// The party of this ticket waits no more. A ticket that is not listed changes nothing.
     pub fn give_up<R: Wait>(&self, rt: &R, pass: &mut Pass<T, P, W, J>, ticket: u64)
-        ensures number { pass.new.number ≡ pass.old.number }
-        ensures counted { pass.new.count ≡ pass.old.count + 1 }
-        ensures told { IsTold P.cmp W.is_clone J.capacity J.is_reserved pass.old
-            (entry pass.old.number (Call.GiveUp ticket) Answer.GiveUp nobody) pass.new }
+        ensures { Tells P.cmp W.is_clone J.capacity J.is_reserved pass.old
+            (Call.GiveUp ticket) Answer.GiveUp nobody pass.new }
     {
         self.kept.lock(rt).give_up(rt, &self.log, pass, ticket);
     }
