@@ -21,14 +21,14 @@ use Rattle.priority_channel_core.specs.machine.Step.{Calls, Answers}
 use Rattle.priority_channel_core.proofs.Polls.{kept_callable}
 use Rattle.priority_channel_witnessed.specs.History.{entry}
 use Rattle.priority_channel_witnessed.specs.Items.{list_in, listed, listed_poll}
-use Rattle.priority_channel_witnessed.specs.Passes.{Carried, IsTold}
-use Rattle.priority_channel_witnessed.specs.Waits.{AnswersTry, AnswersSendv, Leaves, IsAnswered, IsSentOn, at_last, before, listed_in_time, send_in_time}
+use Rattle.priority_channel_witnessed.specs.Passes.{Carried, IsTold, Tells}
+use Rattle.priority_channel_witnessed.specs.Waits.{AnswersTry, AnswersSendv, Leaves, IsAnswered, HasCalled, IsSentOn, at_last, before, listed_in_time, send_in_time}
 use mathlib.Core.List.{IsPrefix}
 use Rattle.futures.specs.declared.task.Poll.{Poll}
 use Rattle.futures.specs.declared.task.Poll.TheVariants as poll
 use Rattle.futures.specs.Poll.{OnPending}
 use Rattle.priority_channel_witnessed.specs.declared.entry.Entry.{Entry}
-use Rattle.priority_channel_witnessed.specs.Futures.{Continues, HasCalled, GivesRecv, GivesSend, GivesSendv, ListsSendv, GoesOn}
+use Rattle.priority_channel_witnessed.specs.Futures.{Continues, GivesRecv, GivesSend, GivesSendv, ListsSendv, GoesOn}
 use Rattle.priority_channel_witnessed.proofs.Histories.{told_step}
 
 -- what holds of a result, of the one that it is
@@ -72,18 +72,25 @@ module _ {T P W : Type 0} where
         let moves = next.step.moves in
         kept_callable (λ kept. kept ≡ (msg, priority)) moves.reply moves.ticket polled (back_is next.old moves.mid msg priority moves.reply handed moves.tried) moves.answered
 
--- what is told of a call under the pass's number
+-- what is told of a call, whomever it handed out
 module _ {T P W : Type 0} (cmp : P → P → Ordering) (is_clone : W → W → Type 0) (capacity : ℕ) (is_reserved : Bool) where
-  abbrev Tells : Carried T P W → Calls T P W → Answers T P → Carried T P W → Type 0
-  Tells old made reply new =
-      (handed : Handed W) × IsTold cmp is_clone capacity is_reserved old (entry old.number made reply handed) new
+  abbrev TellsOf : Carried T P W → Calls T P W → Answers T P → Carried T P W → Type 0
+  TellsOf old made reply new = (handed : Handed W) × Tells cmp is_clone capacity is_reserved old made reply handed new
 
   pub gave_up : (old mid new : Carried T P W) (pairs : List (T × P)) (result : Result (Unit {0}) (SendTimeoutError (List (T × P)))) (ticket : ℕ) (handed : Handed W)
-      → IsTold cmp is_clone capacity is_reserved old (entry old.number (call.GiveUp ticket) answer.GiveUp handed) mid
-      → mid.number ≡ old.number → mid.count ≡ old.count + 1 → IsSentOn cmp is_clone capacity is_reserved mid pairs result new
-      → IsSentOn cmp is_clone capacity is_reserved old pairs result new
-  gave_up old mid new pairs result ticket handed told number count more =
-      before {made = call.GiveUp ticket} {reply = answer.GiveUp} told number count refl more
+      → Tells cmp is_clone capacity is_reserved old (call.GiveUp ticket) answer.GiveUp handed mid
+      → IsSentOn cmp is_clone capacity is_reserved mid pairs result new → IsSentOn cmp is_clone capacity is_reserved old pairs result new
+  gave_up old mid new pairs result ticket handed told more =
+      before {made = call.GiveUp ticket} {reply = answer.GiveUp} told refl more
+
+  -- a bulk send that waits has made a call
+  pub sent_on_called : {old new : Carried T P W} {pairs : List (T × P)} {result : Result (Unit {0}) (SendTimeoutError (List (T × P)))}
+      → IsSentOn cmp is_clone capacity is_reserved old pairs result new → HasCalled old new (IsSentOn cmp is_clone capacity is_reserved old pairs result new)
+  sent_on_called (at_last told answers) =
+      record { number = told.number; counted = omega (arith, told.counted); told = at_last told answers }
+  sent_on_called (before told leaves more) =
+      let later = sent_on_called more in
+      record { number = later.number ∙ told.number; counted = omega (arith, told.counted, later.counted); told = before told leaves more }
 
   -- what is sent on from the rest is sent on from all
   pub goes_further : {X E : Type 0} (old mid new : Carried T P W) (pairs rest : List (T × P)) (list : E → List (T × P)) (polled : Result X E)
@@ -103,45 +110,33 @@ module _ {T P Z W : Type 0} where
 module _ {T P Z W : Type 0} (cmp : P → P → Ordering) (is_clone : W → W → Type 0) (capacity : ℕ) (is_reserved : Bool) where
   pub tried_last : (old new : Carried T P W) (pairs : List (T × P)) (reply known : Result (Unit {0}) (TrySendError (Ahead (IntoIter (T × P) Z) (T × P))))
       (result : Result (Unit {0}) (SendTimeoutError (List (T × P))))
-      → Tells cmp is_clone capacity is_reserved old (call.TrySendv pairs) (answer.TrySendv (listed reply)) new → new.count ≡ old.count + 1 → reply ≡ known → AnswersTry result (listed known)
+      → TellsOf cmp is_clone capacity is_reserved old (call.TrySendv pairs) (answer.TrySendv (listed reply)) new → reply ≡ known → AnswersTry result (listed known)
       → IsSentOn cmp is_clone capacity is_reserved old pairs result new
-  tried_last old new pairs reply known result told count is answers =
-      at_last (record {
-        made = call.TrySendv pairs;
-        reply = answer.TrySendv (listed reply);
-        handed = told.0;
-        told = told.1;
-        answers = (refl, rw is answers);
-      }) count
+  tried_last old new pairs reply known result told is answers =
+      at_last {made = call.TrySendv pairs} {reply = answer.TrySendv (listed reply)} told.1 (refl, rw is answers)
 
   pub polled_last : (old new : Carried T P W) (pairs : List (T × P)) (ticket : Option ℕ) (waker : W)
       (polled : CorePoll (Result (Unit {0}) (SendFault (Ahead (IntoIter (T × P) Z) (T × P)))) (Ahead (IntoIter (T × P) Z) (T × P))) (sent : Result (Unit {0}) (SendFault (Ahead (IntoIter (T × P) Z) (T × P))))
-      → Tells cmp is_clone capacity is_reserved old (call.PollSendv pairs ticket waker) (answer.PollSendv (listed_poll polled)) new → new.count ≡ old.count + 1 → polled ≡ Ready sent
+      → TellsOf cmp is_clone capacity is_reserved old (call.PollSendv pairs ticket waker) (answer.PollSendv (listed_poll polled)) new → polled ≡ Ready sent
       → IsSentOn cmp is_clone capacity is_reserved old pairs (listed_in_time (send_in_time sent)) new
-  polled_last old new pairs ticket waker polled sent told count is =
-      at_last (record {
-        made = call.PollSendv pairs ticket waker;
-        reply = answer.PollSendv (listed_poll polled);
-        handed = told.0;
-        told = told.1;
-        answers = rw is (ready_answers pairs ticket waker sent);
-      }) count
+  polled_last old new pairs ticket waker polled sent told is =
+      at_last {made = call.PollSendv pairs ticket waker} {reply = answer.PollSendv (listed_poll polled)} told.1 (rw is (ready_answers pairs ticket waker sent))
 
   module _ (old mid new : Carried T P W) (pairs : List (T × P)) (result : Result (Unit {0}) (SendTimeoutError (List (T × P)))) where
     pub tried_before : (reply : Result (Unit {0}) (TrySendError (Ahead (IntoIter (T × P) Z) (T × P)))) (rest : Ahead (IntoIter (T × P) Z) (T × P))
-        → Tells cmp is_clone capacity is_reserved old (call.TrySendv pairs) (answer.TrySendv (listed reply)) mid → mid.number ≡ old.number → mid.count ≡ old.count + 1 → reply ≡ Err (Full rest)
+        → TellsOf cmp is_clone capacity is_reserved old (call.TrySendv pairs) (answer.TrySendv (listed reply)) mid → reply ≡ Err (Full rest)
         → IsSentOn cmp is_clone capacity is_reserved mid (list_in rest) result new → IsSentOn cmp is_clone capacity is_reserved old pairs result new
-    tried_before reply rest told number count is more =
+    tried_before reply rest told is more =
         let leaves : Leaves {W = W} pairs (call.TrySendv pairs) (answer.TrySendv (listed reply)) (list_in rest) = rw is (refl, refl) in
-        before {made = call.TrySendv pairs} {reply = answer.TrySendv (listed reply)} told.1 number count leaves more
+        before {made = call.TrySendv pairs} {reply = answer.TrySendv (listed reply)} told.1 leaves more
 
     pub polled_before : (ticket : Option ℕ) (waker : W) (polled : CorePoll (Result (Unit {0}) (SendFault (Ahead (IntoIter (T × P) Z) (T × P)))) (Ahead (IntoIter (T × P) Z) (T × P)))
         (rest : Ahead (IntoIter (T × P) Z) (T × P)) (at : ℕ)
-        → Tells cmp is_clone capacity is_reserved old (call.PollSendv pairs ticket waker) (answer.PollSendv (listed_poll polled)) mid → mid.number ≡ old.number → mid.count ≡ old.count + 1 → polled ≡ Pending rest at
+        → TellsOf cmp is_clone capacity is_reserved old (call.PollSendv pairs ticket waker) (answer.PollSendv (listed_poll polled)) mid → polled ≡ Pending rest at
         → IsSentOn cmp is_clone capacity is_reserved mid (list_in rest) result new → IsSentOn cmp is_clone capacity is_reserved old pairs result new
-    polled_before ticket waker polled rest at told number count is more =
+    polled_before ticket waker polled rest at told is more =
         let leaves : Leaves pairs (call.PollSendv pairs ticket waker) (answer.PollSendv (listed_poll polled)) (list_in rest) = rw is (refl, refl) in
-        before {made = call.PollSendv pairs ticket waker} {reply = answer.PollSendv (listed_poll polled)} told.1 number count leaves more
+        before {made = call.PollSendv pairs ticket waker} {reply = answer.PollSendv (listed_poll polled)} told.1 leaves more
 
 -- What a future gives is told from the pass that it holds now, and so from the one before.
 module _ {T P W : Type 0} (cmp : P → P → Ordering) (is_clone : W → W → Type 0) (capacity : ℕ) (is_reserved : Bool) (old mid : Carried T P W) where
@@ -151,11 +146,13 @@ module _ {T P W : Type 0} (cmp : P → P → Ordering) (is_clone : W → W → T
       let last : List (Entry T P W) = entry old.number answered.made answered.reply answered.handed ∷ [] in
       (told.between ++ last, sym (append_assoc old.seen told.between last) ∙ sym told.seen)
 
-  pub answered_later : (new : Carried T P W) (answers_so : Calls T P W → Answers T P → Type 0) → mid.number ≡ old.number → IsPrefix old.seen mid.seen
+  pub answered_later : (new : Carried T P W) (answers_so : Calls T P W → Answers T P → Type 0) → mid.number ≡ old.number → old.count < mid.count → IsPrefix old.seen mid.seen
       → IsAnswered cmp is_clone capacity is_reserved mid answers_so new → IsAnswered cmp is_clone capacity is_reserved old answers_so new
-  answered_later new answers_so number front answered =
+  answered_later new answers_so number counted front answered =
       let told = answered.told in
       record {
+        number = answered.number ∙ number;
+        counted = omega (arith, counted, answered.counted);
         made = answered.made;
         reply = answered.reply;
         handed = answered.handed;
@@ -172,22 +169,21 @@ module _ {T P W : Type 0} (cmp : P → P → Ordering) (is_clone : W → W → T
   has_called_later new fact more number counted goes later =
       record { number = later.number ∙ number; counted = omega (arith, counted, later.counted); told = goes later.told }
 
-  pub lists_later : {X E : Type 0} (new : Carried T P W) (polled : Result X E) (lists : E → Calls T P W → Answers T P → Type 0) → mid.number ≡ old.number → IsPrefix old.seen mid.seen
+  pub lists_later : {X E : Type 0} (new : Carried T P W) (polled : Result X E) (lists : E → Calls T P W → Answers T P → Type 0) → mid.number ≡ old.number → old.count < mid.count → IsPrefix old.seen mid.seen
       → IfErr polled (λ kept. IsAnswered cmp is_clone capacity is_reserved mid (lists kept) new) → IfErr polled (λ kept. IsAnswered cmp is_clone capacity is_reserved old (lists kept) new)
-  lists_later new (Ok answer) lists number front listed = tt
-  lists_later new (Err kept) lists number front listed = answered_later new (lists kept) number front listed
+  lists_later new (Ok answer) lists number counted front listed = tt
+  lists_later new (Err kept) lists number counted front listed = answered_later new (lists kept) number counted front listed
 
-  pub receives_later : (holds : Option (Carried T P W)) (lists : Calls T P W → Answers T P → Type 0) → holds ≡ Some old → mid.number ≡ old.number → old.count < mid.count
-      → IsAnswered cmp is_clone capacity is_reserved old lists mid
+  pub receives_later : (holds : Option (Carried T P W)) (lists : Calls T P W → Answers T P → Type 0) → holds ≡ Some old → IsAnswered cmp is_clone capacity is_reserved old lists mid
       → (given : _) → GivesRecv cmp is_clone capacity is_reserved (Some mid) given → GivesRecv cmp is_clone capacity is_reserved holds given
-  receives_later holds lists is number counted listed given gives =
-      rw is (has_called_later given.1 _ _ number counted (answered_later given.1 _ number (answered_front lists listed)) gives)
+  receives_later holds lists is listed given gives =
+      rw is (answered_later given.1 _ listed.number listed.counted (answered_front lists listed) gives)
 
-  pub sends_later : (holds : Option (Carried T P W × (T × P))) (lists : Calls T P W → Answers T P → Type 0) (pair : T × P) → holds ≡ Some (old, pair) → mid.number ≡ old.number
-      → old.count < mid.count → IsAnswered cmp is_clone capacity is_reserved old lists mid
+  pub sends_later : (holds : Option (Carried T P W × (T × P))) (lists : Calls T P W → Answers T P → Type 0) (pair : T × P) → holds ≡ Some (old, pair)
+      → IsAnswered cmp is_clone capacity is_reserved old lists mid
       → (given : _) → GivesSend cmp is_clone capacity is_reserved (Some (mid, pair)) given → GivesSend cmp is_clone capacity is_reserved holds given
-  sends_later holds lists pair is number counted listed given gives =
-      rw is (has_called_later given.1 _ _ number counted (answered_later given.1 _ number (answered_front lists listed)) gives.0, gives.1)
+  sends_later holds lists pair is listed given gives =
+      rw is (answered_later given.1 _ listed.number listed.counted (answered_front lists listed) gives.0, gives.1)
 
   module _ {Z : Type 0} (msgs rest : Ahead (IntoIter (T × P) Z) (T × P)) where
     pub sends_on_later : (holds : Option (Carried T P W × Ahead (IntoIter (T × P) Z) (T × P))) → holds ≡ Some (old, msgs) → mid.number ≡ old.number → old.count < mid.count
@@ -197,9 +193,9 @@ module _ {T P W : Type 0} (cmp : P → P → Ordering) (is_clone : W → W → T
         rw is (has_called_later given.1 _ _ number counted (goes _ given.1) gives)
 
     pub waits_on : (holds : Option (Carried T P W × Ahead (IntoIter (T × P) Z) (T × P))) (polled listed was is_now : Option ℕ) → holds ≡ Some (old, msgs)
-        → mid.number ≡ old.number → old.count < mid.count → IsAnswered cmp is_clone capacity is_reserved old (ListsSendv (list_in rest) was is_now) mid
+        → IsAnswered cmp is_clone capacity is_reserved old (ListsSendv (list_in rest) was is_now) mid
         → GoesOn cmp is_clone capacity is_reserved old (list_in msgs) mid (list_in rest) → polled ≡ was → listed ≡ is_now
-        → Continues holds (Some (mid, rest)) (λ past present. HasCalled past.0 present.0 (IsAnswered cmp is_clone capacity is_reserved past.0 (ListsSendv (list_in present.1) polled listed) present.0
-        × GoesOn cmp is_clone capacity is_reserved past.0 (list_in past.1) present.0 (list_in present.1)))
-    waits_on holds polled listed was is_now is number counted lists goes first next =
-        rw is (record { number = number; counted = counted; told = (rw first (rw next lists), goes) })
+        → Continues holds (Some (mid, rest)) (λ past present. IsAnswered cmp is_clone capacity is_reserved past.0 (ListsSendv (list_in present.1) polled listed) present.0
+        × GoesOn cmp is_clone capacity is_reserved past.0 (list_in past.1) present.0 (list_in present.1))
+    waits_on holds polled listed was is_now is lists goes first next =
+        rw is (rw first (rw next lists), goes)

@@ -1,5 +1,5 @@
 -- What a future of a channel holds, and what it gives at its end.
-use Rattle.std.specs.Prelude.{◌≡◌, ◌<◌, ℕ, Bool, Option, Some, None, List, Result, IfErr, IsSomeAnd}
+use Rattle.std.specs.Prelude.{◌≡◌, ℕ, Bool, Option, Some, None, List, Result, IfErr, IsSomeAnd}
 use Rattle.std.specs.declared.cmp.Ordering.{Ordering}
 use Rattle.std.specs.declared.vec.IntoIter.{IntoIter}
 use Rattle.std.specs.declared.iter.Ahead.{Ahead}
@@ -13,7 +13,7 @@ use Rattle.priority_channel_core.specs.declared.calls.CorePoll.TheVariants.{Pend
 use Rattle.priority_channel_core.specs.machine.Step.{Calls, Answers}
 use Rattle.priority_channel_witnessed.specs.Items.{list_in}
 use Rattle.priority_channel_witnessed.specs.Passes.{Carried}
-use Rattle.priority_channel_witnessed.specs.Waits.{IsAnswered, IsSentOn, AnswersRecv, AnswersSend, recv_in_time, send_in_time, listed_in_time}
+use Rattle.priority_channel_witnessed.specs.Waits.{IsAnswered, HasCalled, IsSentOn, AnswersRecv, AnswersSend, recv_in_time, send_in_time, listed_in_time}
 
 -- What a future holds until its answer: its pass, and what it sends. Under which ticket it is listed,
 -- once it is. The source of its wakes.
@@ -26,12 +26,6 @@ pub record Underway (X : Type 0) : Type 0 where
 abbrev pub Continues : {X : Type 0} → Option X → Option X → (X → X → Type 0) → Type 0
 Continues None new goes = new ≡ None
 Continues (Some before) new goes = IsSomeAnd new (λ after. goes before after)
-
--- The pass has made a call or more, of which it was told so much.
-pub record HasCalled {T P W : Type 0} (old new : Carried T P W) (fact : Type 0) : Type 0 where
-  pub number : new.number ≡ old.number
-  pub counted : old.count < new.count
-  pub told : fact
 
 module _ {T P W : Type 0} where
   -- a poll of who was listed under the one ticket, if any, and is now under the other for a message
@@ -58,17 +52,15 @@ module _ {T P W : Type 0} where
         → Type 0
     GivesRecv None given = ⊥
     GivesRecv (Some old) given =
-        HasCalled old given.1
-        (IsAnswered cmp is_clone capacity is_reserved old (AnswersRecv (recv_in_time given.0))
-        given.1)
+        IsAnswered cmp is_clone capacity is_reserved old (AnswersRecv (recv_in_time given.0))
+        given.1
 
     abbrev pub GivesSend : Option (Carried T P W × (T × P))
         → Result (Unit {0}) (SendFault (T × P)) × Carried T P W → Type 0
     GivesSend None given = ⊥
     GivesSend (Some held) given =
-        HasCalled held.0 given.1
-        (IsAnswered cmp is_clone capacity is_reserved held.0
-        (AnswersSend held.1.0 held.1.1 (send_in_time given.0)) given.1)
+        IsAnswered cmp is_clone capacity is_reserved held.0
+        (AnswersSend held.1.0 held.1.1 (send_in_time given.0)) given.1
         × IfErr given.0 (λ fault. unsent fault ≡ held.1)
 
     abbrev pub GivesSendv : {Z : Type 0}
@@ -92,9 +84,8 @@ module _ {T P W : Type 0} where
     abbrev pub WaitsRecv : Underway (Carried T P W) → Underway (Carried T P W) → Type 0
     WaitsRecv old new =
         Continues old.holds new.holds
-        (λ before after. HasCalled before after
-        (IsAnswered cmp is_clone capacity is_reserved before (ListsRecv old.ticket new.ticket)
-        after))
+        (λ before after. IsAnswered cmp is_clone capacity is_reserved before
+        (ListsRecv old.ticket new.ticket) after)
 
     -- and its pair
     abbrev pub WaitsSend : Underway (Carried T P W × (T × P)) → Underway (Carried T P W × (T × P))
@@ -102,9 +93,8 @@ module _ {T P W : Type 0} where
     WaitsSend old new =
         Continues old.holds new.holds
         (λ before after. (after.1 ≡ before.1)
-        × HasCalled before.0 after.0
-        (IsAnswered cmp is_clone capacity is_reserved before.0
-        (ListsSend before.1 old.ticket new.ticket) after.0))
+        × IsAnswered cmp is_clone capacity is_reserved before.0
+        (ListsSend before.1 old.ticket new.ticket) after.0)
 
     -- and the rest of its pairs
     abbrev pub WaitsSendv : {Z : Type 0}
@@ -112,7 +102,6 @@ module _ {T P W : Type 0} where
         → Underway (Carried T P W × Ahead (IntoIter (T × P) Z) (T × P)) → Type 0
     WaitsSendv old new =
         Continues old.holds new.holds
-        (λ before after. HasCalled before.0 after.0
-        (IsAnswered cmp is_clone capacity is_reserved before.0
+        (λ before after. IsAnswered cmp is_clone capacity is_reserved before.0
         (ListsSendv (list_in after.1) old.ticket new.ticket) after.0
-        × GoesOn before.0 (list_in before.1) after.0 (list_in after.1)))
+        × GoesOn before.0 (list_in before.1) after.0 (list_in after.1))

@@ -1,6 +1,6 @@
 -- What a call that waits tells of its answer. Errors are those of a call with a limit: without one,
 -- an error is the same, and never that the time is over.
-use Rattle.std.specs.Prelude.{◌≡◌, ◌⊎◌, ◌+◌, ℕ, Bool, List, Result, Ok, Err}
+use Rattle.std.specs.Prelude.{◌≡◌, ◌⊎◌, ◌<◌, ℕ, Bool, List, Result, Ok, Err}
 use Rattle.std.specs.Result.{result_map_both}
 use Rattle.std.specs.declared.cmp.Ordering.{Ordering}
 use Rattle.std.specs.declared.vec.IntoIter.{IntoIter}
@@ -22,7 +22,7 @@ use Rattle.priority_channel_core.specs.machine.State.{Handed}
 use Rattle.priority_channel_core.specs.machine.Step.{Calls, Answers}
 use Rattle.priority_channel_witnessed.specs.History.{entry}
 use Rattle.priority_channel_witnessed.specs.Items.{list_in}
-use Rattle.priority_channel_witnessed.specs.Passes.{Carried, IsTold}
+use Rattle.priority_channel_witnessed.specs.Passes.{Carried, IsTold, Tells}
 
 -- what a receive without a limit gives, as that of one with a limit
 abbrev pub recv_in_time : {X : Type 0} → Result X RecvFault → Result X RecvTimeoutError
@@ -106,16 +106,25 @@ module _ {T P W : Type 0} where
   Leaves pairs (call.GiveUp ticket) answer.GiveUp rest = rest ≡ pairs
   Leaves pairs made reply rest = ⊥
 
--- The pass was told, last of all, of a call under its own number that answers so: what it sees now
--- is a legal history that begins with all that it had seen and ends with this call.
+-- One call or more was made with the pass, under its number, and it was told, last of all, of one
+-- that answers so: what it sees now is a legal history that begins with all that it had seen and
+-- ends with this call.
 pub record IsAnswered {T P W : Type 0} (cmp : P → P → Ordering) (is_clone : W → W → Type 0)
     (capacity : ℕ) (is_reserved : Bool) (old : Carried T P W)
     (answers_so : Calls T P W → Answers T P → Type 0) (new : Carried T P W) : Type 0 where
+  pub number : new.number ≡ old.number
+  pub counted : old.count < new.count
   pub made : Calls T P W
   pub reply : Answers T P
   pub handed : Handed W
   pub told : IsTold cmp is_clone capacity is_reserved old (entry old.number made reply handed) new
   pub answers : answers_so made reply
+
+-- The pass has made a call or more, of which it was told so much.
+pub record HasCalled {T P W : Type 0} (old new : Carried T P W) (fact : Type 0) : Type 0 where
+  pub number : new.number ≡ old.number
+  pub counted : old.count < new.count
+  pub told : fact
 
 -- The calls of a bulk send that waits, all that the pass made: the last one answers, and each other
 -- one leaves a rest for the next.
@@ -123,13 +132,15 @@ pub data IsSentOn {T P W : Type 0} (cmp : P → P → Ordering) (is_clone : W �
     (capacity : ℕ) (is_reserved : Bool) : Carried T P W → List (T × P)
     → Result (Unit {0}) (SendTimeoutError (List (T × P))) → Carried T P W → Type 0 where
   at_last : {old new : Carried T P W} {pairs : List (T × P)}
-      {result : Result (Unit {0}) (SendTimeoutError (List (T × P)))}
-      → IsAnswered cmp is_clone capacity is_reserved old (AnswersSendv pairs result) new
-      → new.count ≡ old.count + 1 → IsSentOn cmp is_clone capacity is_reserved old pairs result new
+      {result : Result (Unit {0}) (SendTimeoutError (List (T × P)))} {made : Calls T P W}
+      {reply : Answers T P} {handed : Handed W}
+      → Tells cmp is_clone capacity is_reserved old made reply handed new
+      → AnswersSendv pairs result made reply
+      → IsSentOn cmp is_clone capacity is_reserved old pairs result new
   before : {old mid new : Carried T P W} {pairs rest : List (T × P)}
       {result : Result (Unit {0}) (SendTimeoutError (List (T × P)))} {made : Calls T P W}
       {reply : Answers T P} {handed : Handed W}
-      → IsTold cmp is_clone capacity is_reserved old (entry old.number made reply handed) mid
-      → mid.number ≡ old.number → mid.count ≡ old.count + 1 → Leaves pairs made reply rest
+      → Tells cmp is_clone capacity is_reserved old made reply handed mid
+      → Leaves pairs made reply rest
       → IsSentOn cmp is_clone capacity is_reserved mid rest result new
       → IsSentOn cmp is_clone capacity is_reserved old pairs result new

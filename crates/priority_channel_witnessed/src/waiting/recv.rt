@@ -1,5 +1,5 @@
 //! The future that receives one pair.
-ghost use Rattle.std.specs.Prelude.{◌≡◌, ⊤, ◌<◌, Some, None, Result};
+ghost use Rattle.std.specs.Prelude.{◌≡◌, ⊤, Some, None, Result};
 ghost use Rattle.futures.specs.Task.{Covers, Keeps};
 ghost use Rattle.futures.specs.Poll.{IfReady, OnPending};
 ghost use Rattle.priority_channel_parts.specs.declared.errors.RecvFault.{RecvFault};
@@ -84,8 +84,6 @@ impl<T: Drop, P: Ord + Drop, R: Wait, J: Recording, A: Allocator + Copy> Recv<
 > {
     // A try, pending where it found nothing.
     fn try_by(&self, pass: &mut Pass<T, P, Waiter<A>, J>) -> Poll<Result<(T, P), RecvFault>>
-        ensures number { pass.new.number ≡ pass.old.number }
-        ensures counted { pass.old.count < pass.new.count }
         ensures told { IfReady result (λ received. IsAnswered P.cmp ⟦<Waiter<A> as Clone>⟧.is_clone
             J.capacity J.is_reserved pass.old (AnswersRecv (recv_in_time received)) pass.new) }
         ensures refused { OnPending result (IsAnswered P.cmp ⟦<Waiter<A> as Clone>⟧.is_clone
@@ -101,9 +99,7 @@ impl<T: Drop, P: Ord + Drop, R: Wait, J: Recording, A: Allocator + Copy> Recv<
 
     // Memory for waiting was refused: waits no more, and receives what has come by then.
     fn end_by(&self, pass: &mut Pass<T, P, Waiter<A>, J>) -> Result<(T, P), RecvFault>
-        ensures number { pass.new.number ≡ pass.old.number }
-        ensures counted { pass.old.count < pass.new.count }
-        ensures told { IsAnswered P.cmp ⟦<Waiter<A> as Clone>⟧.is_clone J.capacity J.is_reserved
+        ensures { IsAnswered P.cmp ⟦<Waiter<A> as Clone>⟧.is_clone J.capacity J.is_reserved
             pass.old (AnswersRecv (recv_in_time result)) pass.new }
     {
         self.channel.unlist(self.rt, pass, self.ticket);
@@ -119,8 +115,6 @@ impl<T: Drop, P: Ord + Drop, R: Wait, J: Recording, A: Allocator + Copy> Recv<
         cx: &mut Context<'_>,
         pass: &mut Pass<T, P, Waiter<A>, J>,
     ) -> Poll<Result<(T, P), RecvFault>>
-        ensures number { pass.new.number ≡ pass.old.number }
-        ensures counted { pass.old.count < pass.new.count }
         ensures told { IfReady result (λ received. IsAnswered P.cmp ⟦<Waiter<A> as Clone>⟧.is_clone
             J.capacity J.is_reserved pass.old (AnswersRecv (recv_in_time received)) pass.new) }
         ensures waits { OnPending result (IsAnswered P.cmp ⟦<Waiter<A> as Clone>⟧.is_clone
@@ -154,8 +148,6 @@ impl<T: Drop, P: Ord + Drop, R: Wait, J: Recording, A: Allocator + Copy> Recv<
         cx: &mut Context<'_>,
         pass: &mut Pass<T, P, Waiter<A>, J>,
     ) -> Poll<Result<(T, P), RecvFault>>
-        ensures number { pass.new.number ≡ pass.old.number }
-        ensures counted { pass.old.count < pass.new.count }
         ensures told { IfReady result (λ received. IsAnswered P.cmp ⟦<Waiter<A> as Clone>⟧.is_clone
             J.capacity J.is_reserved pass.old (AnswersRecv (recv_in_time received)) pass.new) }
         ensures waits { OnPending result (IsAnswered P.cmp ⟦<Waiter<A> as Clone>⟧.is_clone

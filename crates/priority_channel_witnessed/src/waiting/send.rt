@@ -1,5 +1,5 @@
 //! The future that sends one pair.
-ghost use Rattle.std.specs.Prelude.{◌≡◌, ⊤, ◌<◌, Some, None, Err, IfOk, IfErr};
+ghost use Rattle.std.specs.Prelude.{◌≡◌, ⊤, Some, None, Err, IfOk, IfErr};
 ghost use Rattle.futures.specs.Task.{Covers, Keeps};
 ghost use Rattle.futures.specs.Poll.{IfReady, OnPending};
 ghost use Rattle.priority_channel_parts.specs.Errors.{unsent};
@@ -89,8 +89,6 @@ impl<T: Drop, P: Ord + Drop, R: Wait, J: Recording, A: Allocator + Copy> Send<
         pass: &mut Pass<T, P, Waiter<A>, J>,
         pair: (T, P),
     ) -> Result<Result<(), SendFault<(T, P)>>, (T, P)>
-        ensures number { pass.new.number ≡ pass.old.number }
-        ensures counted { pass.old.count < pass.new.count }
         ensures told { IfOk result (λ sent. IsAnswered P.cmp ⟦<Waiter<A> as Clone>⟧.is_clone
             J.capacity J.is_reserved pass.old (AnswersSend pair.0 pair.1 (send_in_time sent))
             pass.new) }
@@ -114,8 +112,6 @@ impl<T: Drop, P: Ord + Drop, R: Wait, J: Recording, A: Allocator + Copy> Send<
         pass: &mut Pass<T, P, Waiter<A>, J>,
         pair: (T, P),
     ) -> Result<(), SendFault<(T, P)>>
-        ensures number { pass.new.number ≡ pass.old.number }
-        ensures counted { pass.old.count < pass.new.count }
         ensures told { IsAnswered P.cmp ⟦<Waiter<A> as Clone>⟧.is_clone J.capacity J.is_reserved
             pass.old (AnswersSend pair.0 pair.1 (send_in_time result)) pass.new }
         ensures unsent { IfErr result (λ fault. unsent fault ≡ pair) }
@@ -134,8 +130,6 @@ impl<T: Drop, P: Ord + Drop, R: Wait, J: Recording, A: Allocator + Copy> Send<
         pass: &mut Pass<T, P, Waiter<A>, J>,
         pair: (T, P),
     ) -> Result<Result<(), SendFault<(T, P)>>, (T, P)>
-        ensures number { pass.new.number ≡ pass.old.number }
-        ensures counted { pass.old.count < pass.new.count }
         ensures told { IfOk result (λ sent. IsAnswered P.cmp ⟦<Waiter<A> as Clone>⟧.is_clone
             J.capacity J.is_reserved pass.old (AnswersSend pair.0 pair.1 (send_in_time sent))
             pass.new) }
@@ -173,8 +167,6 @@ impl<T: Drop, P: Ord + Drop, R: Wait, J: Recording, A: Allocator + Copy> Send<
         pass: &mut Pass<T, P, Waiter<A>, J>,
         pair: (T, P),
     ) -> Result<Result<(), SendFault<(T, P)>>, (T, P)>
-        ensures number { pass.new.number ≡ pass.old.number }
-        ensures counted { pass.old.count < pass.new.count }
         ensures told { IfOk result (λ sent. IsAnswered P.cmp ⟦<Waiter<A> as Clone>⟧.is_clone
             J.capacity J.is_reserved pass.old (AnswersSend pair.0 pair.1 (send_in_time sent))
             pass.new) }

@@ -1,7 +1,5 @@
 //! Receiving a pair on a thread that waits for it.
-ghost use Rattle.std.specs.Prelude.{◌≡◌, ◌+◌, ◌<◌};
-ghost use Rattle.priority_channel_witnessed.specs.History.{entry};
-ghost use Rattle.priority_channel_witnessed.specs.Passes.{IsTold};
+ghost use Rattle.priority_channel_witnessed.specs.Passes.{Tells};
 ghost use Rattle.priority_channel_witnessed.specs.Waits.{IsAnswered, AnswersRecv, recv_in_time, received_or_over};
 
 use crate::log::Recording;
@@ -32,9 +30,7 @@ impl<T, P: Ord, J: Recording, A: Allocator + Copy> Witnessed<T, P, Waiter<A>, J,
         rt: &R,
         pass: &mut Pass<T, P, Waiter<A>, J>,
     ) -> Result<(T, P), RecvFault>
-        ensures number { pass.new.number ≡ pass.old.number }
-        ensures counted { pass.old.count < pass.new.count }
-        ensures told { IsAnswered P.cmp ⟦<Waiter<A> as Clone>⟧.is_clone J.capacity J.is_reserved
+        ensures { IsAnswered P.cmp ⟦<Waiter<A> as Clone>⟧.is_clone J.capacity J.is_reserved
             pass.old (AnswersRecv (recv_in_time result)) pass.new }
     {
         match self.recv_until(rt, pass, &Endless) {
@@ -64,9 +60,7 @@ impl<T, P: Ord, J: Recording, A: Allocator + Copy> Witnessed<T, P, Waiter<A>, J,
         pass: &mut Pass<T, P, Waiter<A>, J>,
         timeout: Duration,
     ) -> Result<(T, P), RecvTimeoutError>
-        ensures number { pass.new.number ≡ pass.old.number }
-        ensures counted { pass.old.count < pass.new.count }
-        ensures told { IsAnswered P.cmp ⟦<Waiter<A> as Clone>⟧.is_clone J.capacity J.is_reserved
+        ensures { IsAnswered P.cmp ⟦<Waiter<A> as Clone>⟧.is_clone J.capacity J.is_reserved
             pass.old (AnswersRecv result) pass.new }
     {
         let deadline = Deadline::after(rt, timeout);
@@ -83,9 +77,7 @@ impl<T, P: Ord, J: Recording, A: Allocator + Copy> Witnessed<T, P, Waiter<A>, J,
         pass: &mut Pass<T, P, Waiter<A>, J>,
         deadline: Instant,
     ) -> Result<(T, P), RecvTimeoutError>
-        ensures number { pass.new.number ≡ pass.old.number }
-        ensures counted { pass.old.count < pass.new.count }
-        ensures told { IsAnswered P.cmp ⟦<Waiter<A> as Clone>⟧.is_clone J.capacity J.is_reserved
+        ensures { IsAnswered P.cmp ⟦<Waiter<A> as Clone>⟧.is_clone J.capacity J.is_reserved
             pass.old (AnswersRecv result) pass.new }
     {
         let deadline = Deadline::at(rt, deadline);
@@ -102,9 +94,7 @@ impl<T, P: Ord, J: Recording, A: Allocator + Copy> Witnessed<T, P, Waiter<A>, J,
         pass: &mut Pass<T, P, Waiter<A>, J>,
         until: &U,
     ) -> Result<Result<(T, P), RecvFault>, U::Over>
-        ensures number { pass.new.number ≡ pass.old.number }
-        ensures counted { pass.old.count < pass.new.count }
-        ensures told { IsAnswered P.cmp ⟦<Waiter<A> as Clone>⟧.is_clone J.capacity J.is_reserved
+        ensures { IsAnswered P.cmp ⟦<Waiter<A> as Clone>⟧.is_clone J.capacity J.is_reserved
             pass.old (AnswersRecv (received_or_over result)) pass.new }
     {
         match self.recv_now(rt, pass) {
@@ -130,9 +120,7 @@ impl<T, P: Ord, J: Recording, A: Allocator + Copy> Witnessed<T, P, Waiter<A>, J,
         until: &U,
         waiter: &Waiter<A>,
     ) -> Result<Result<(T, P), RecvFault>, U::Over>
-        ensures number { pass.new.number ≡ pass.old.number }
-        ensures counted { pass.old.count < pass.new.count }
-        ensures told { IsAnswered P.cmp ⟦<Waiter<A> as Clone>⟧.is_clone J.capacity J.is_reserved
+        ensures { IsAnswered P.cmp ⟦<Waiter<A> as Clone>⟧.is_clone J.capacity J.is_reserved
             pass.old (AnswersRecv (received_or_over result)) pass.new }
     {
         let mut ticket = None;
@@ -159,9 +147,7 @@ impl<T, P: Ord, J: Recording, A: Allocator + Copy> Witnessed<T, P, Waiter<A>, J,
         ticket: u64,
         over: O,
     ) -> Result<Result<(T, P), RecvFault>, O>
-        ensures number { pass.new.number ≡ pass.old.number }
-        ensures counted { pass.old.count < pass.new.count }
-        ensures told { IsAnswered P.cmp ⟦<Waiter<A> as Clone>⟧.is_clone J.capacity J.is_reserved
+        ensures { IsAnswered P.cmp ⟦<Waiter<A> as Clone>⟧.is_clone J.capacity J.is_reserved
             pass.old (AnswersRecv (received_or_over result)) pass.new }
     {
         self.give_up(rt, pass, ticket);
@@ -178,11 +164,8 @@ impl<T, P: Ord, J: Recording, A: Allocator + Copy> Witnessed<T, P, Waiter<A>, J,
         rt: &R,
         pass: &mut Pass<T, P, Waiter<A>, J>,
     ) -> Result<(T, P), TryRecvError>
-        ensures number { pass.new.number ≡ pass.old.number }
-        ensures counted { pass.new.count ≡ pass.old.count + 1 }
-        ensures told { (handed : _) × IsTold P.cmp ⟦<Waiter<A> as Clone>⟧.is_clone J.capacity
-            J.is_reserved pass.old
-            (entry pass.old.number Call.TryRecv (Answer.TryRecv result) handed) pass.new }
+        ensures { (handed : _) × Tells P.cmp ⟦<Waiter<A> as Clone>⟧.is_clone J.capacity
+            J.is_reserved pass.old Call.TryRecv (Answer.TryRecv result) handed pass.new }
     {
         let (received, wakes) = self.try_recv(rt, pass);
         wake_all(rt, wakes);
@@ -197,11 +180,9 @@ impl<T, P: Ord, J: Recording, A: Allocator + Copy> Witnessed<T, P, Waiter<A>, J,
         ticket: Option<u64>,
         waiter: &Waiter<A>,
     ) -> CorePoll<Result<(T, P), RecvFault>, ()>
-        ensures number { pass.new.number ≡ pass.old.number }
-        ensures counted { pass.new.count ≡ pass.old.count + 1 }
-        ensures told { (handed : _) × IsTold P.cmp ⟦<Waiter<A> as Clone>⟧.is_clone J.capacity
-            J.is_reserved pass.old (entry pass.old.number (Call.PollRecv ticket waiter.now)
-            (Answer.PollRecv result) handed) pass.new }
+        ensures { (handed : _) × Tells P.cmp ⟦<Waiter<A> as Clone>⟧.is_clone J.capacity
+            J.is_reserved pass.old (Call.PollRecv ticket waiter.now)
+            (Answer.PollRecv result) handed pass.new }
     {
         let (polled, wakes) = self.poll_recv(rt, pass, ticket, waiter);
         wake_all(rt, wakes);

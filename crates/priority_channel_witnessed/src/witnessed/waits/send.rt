@@ -1,10 +1,9 @@
 //! Sending a pair on a thread that waits for room.
-ghost use Rattle.std.specs.Prelude.{◌≡◌, ◌+◌, ◌<◌, IfErr, IfSome};
+ghost use Rattle.std.specs.Prelude.{◌≡◌, IfErr, IfSome};
 ghost use Rattle.priority_channel_parts.specs.Errors.{rest_of, unsent};
 ghost use Rattle.priority_channel_core.specs.code.Replies.{kept_by};
 ghost use Rattle.priority_channel_waits.specs.Waits.{unsent_in_time};
-ghost use Rattle.priority_channel_witnessed.specs.History.{entry};
-ghost use Rattle.priority_channel_witnessed.specs.Passes.{IsTold};
+ghost use Rattle.priority_channel_witnessed.specs.Passes.{Tells};
 ghost use Rattle.priority_channel_witnessed.specs.Waits.{IsAnswered, AnswersSend, send_in_time, sent_or_over};
 
 use crate::log::Recording;
@@ -38,8 +37,6 @@ impl<T, P: Ord, J: Recording, A: Allocator + Copy> Witnessed<T, P, Waiter<A>, J,
         msg: T,
         priority: P,
     ) -> Result<(), SendFault<(T, P)>>
-        ensures number { pass.new.number ≡ pass.old.number }
-        ensures counted { pass.old.count < pass.new.count }
         ensures told { IsAnswered P.cmp ⟦<Waiter<A> as Clone>⟧.is_clone J.capacity J.is_reserved
             pass.old (AnswersSend msg priority (send_in_time result)) pass.new }
         ensures unsent { IfErr result (λ fault. unsent fault ≡ (msg, priority)) }
@@ -65,8 +62,6 @@ impl<T, P: Ord, J: Recording, A: Allocator + Copy> Witnessed<T, P, Waiter<A>, J,
         priority: P,
         timeout: Duration,
     ) -> Result<(), SendTimeoutError<(T, P)>>
-        ensures number { pass.new.number ≡ pass.old.number }
-        ensures counted { pass.old.count < pass.new.count }
         ensures told { IsAnswered P.cmp ⟦<Waiter<A> as Clone>⟧.is_clone J.capacity J.is_reserved
             pass.old (AnswersSend msg priority result) pass.new }
         ensures unsent { IfErr result (λ error. unsent_in_time error ≡ (msg, priority)) }
@@ -84,8 +79,6 @@ impl<T, P: Ord, J: Recording, A: Allocator + Copy> Witnessed<T, P, Waiter<A>, J,
         priority: P,
         deadline: Instant,
     ) -> Result<(), SendTimeoutError<(T, P)>>
-        ensures number { pass.new.number ≡ pass.old.number }
-        ensures counted { pass.old.count < pass.new.count }
         ensures told { IsAnswered P.cmp ⟦<Waiter<A> as Clone>⟧.is_clone J.capacity J.is_reserved
             pass.old (AnswersSend msg priority result) pass.new }
         ensures unsent { IfErr result (λ error. unsent_in_time error ≡ (msg, priority)) }
@@ -102,8 +95,6 @@ impl<T, P: Ord, J: Recording, A: Allocator + Copy> Witnessed<T, P, Waiter<A>, J,
         pair: (T, P),
         until: &U,
     ) -> Sent<(T, P), U::Over>
-        ensures number { pass.new.number ≡ pass.old.number }
-        ensures counted { pass.old.count < pass.new.count }
         ensures told { IsAnswered P.cmp ⟦<Waiter<A> as Clone>⟧.is_clone J.capacity J.is_reserved
             pass.old (AnswersSend pair.0 pair.1 (sent_or_over result)) pass.new }
         ensures unsent { IfErr (sent_or_over result) (λ error. unsent_in_time error ≡ pair) }
@@ -133,8 +124,6 @@ impl<T, P: Ord, J: Recording, A: Allocator + Copy> Witnessed<T, P, Waiter<A>, J,
         until: &U,
         waiter: &Waiter<A>,
     ) -> Sent<(T, P), U::Over>
-        ensures number { pass.new.number ≡ pass.old.number }
-        ensures counted { pass.old.count < pass.new.count }
         ensures told { IsAnswered P.cmp ⟦<Waiter<A> as Clone>⟧.is_clone J.capacity J.is_reserved
             pass.old (AnswersSend pair.0 pair.1 (sent_or_over result)) pass.new }
         ensures unsent { IfErr (sent_or_over result) (λ error. unsent_in_time error ≡ pair) }
@@ -166,8 +155,6 @@ impl<T, P: Ord, J: Recording, A: Allocator + Copy> Witnessed<T, P, Waiter<A>, J,
         ticket: u64,
         over: O,
     ) -> Sent<(T, P), O>
-        ensures number { pass.new.number ≡ pass.old.number }
-        ensures counted { pass.old.count < pass.new.count }
         ensures told { IsAnswered P.cmp ⟦<Waiter<A> as Clone>⟧.is_clone J.capacity J.is_reserved
             pass.old (AnswersSend pair.0 pair.1 (sent_or_over result)) pass.new }
         ensures unsent { IfErr (sent_or_over result) (λ error. unsent_in_time error ≡ pair) }
@@ -188,11 +175,9 @@ impl<T, P: Ord, J: Recording, A: Allocator + Copy> Witnessed<T, P, Waiter<A>, J,
         pass: &mut Pass<T, P, Waiter<A>, J>,
         pair: (T, P),
     ) -> Result<(), TrySendError<(T, P)>>
-        ensures number { pass.new.number ≡ pass.old.number }
-        ensures counted { pass.new.count ≡ pass.old.count + 1 }
-        ensures told { (handed : _) × IsTold P.cmp ⟦<Waiter<A> as Clone>⟧.is_clone J.capacity
-            J.is_reserved pass.old (entry pass.old.number (Call.TrySend pair.0 pair.1)
-            (Answer.TrySend result) handed) pass.new }
+        ensures told { (handed : _) × Tells P.cmp ⟦<Waiter<A> as Clone>⟧.is_clone J.capacity
+            J.is_reserved pass.old (Call.TrySend pair.0 pair.1) (Answer.TrySend result)
+            handed pass.new }
         ensures whole { IfErr result (λ error. rest_of error ≡ pair) }
     {
         let (msg, priority) = pair;
@@ -210,12 +195,9 @@ impl<T, P: Ord, J: Recording, A: Allocator + Copy> Witnessed<T, P, Waiter<A>, J,
         ticket: Option<u64>,
         waiter: &Waiter<A>,
     ) -> CorePoll<Result<(), SendFault<(T, P)>>, (T, P)>
-        ensures number { pass.new.number ≡ pass.old.number }
-        ensures counted { pass.new.count ≡ pass.old.count + 1 }
-        ensures told { (handed : _) × IsTold P.cmp ⟦<Waiter<A> as Clone>⟧.is_clone J.capacity
-            J.is_reserved pass.old
-            (entry pass.old.number (Call.PollSend pair.0 pair.1 ticket waiter.now)
-            (Answer.PollSend result) handed) pass.new }
+        ensures told { (handed : _) × Tells P.cmp ⟦<Waiter<A> as Clone>⟧.is_clone J.capacity
+            J.is_reserved pass.old (Call.PollSend pair.0 pair.1 ticket waiter.now)
+            (Answer.PollSend result) handed pass.new }
         ensures whole { IfSome (kept_by result) (λ kept. kept ≡ pair) }
     {
         let (msg, priority) = pair;

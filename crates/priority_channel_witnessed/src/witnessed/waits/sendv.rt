@@ -1,9 +1,7 @@
 //! Sending many pairs on a thread that waits for room.
-ghost use Rattle.std.specs.Prelude.{◌≡◌, ◌+◌, ◌<◌};
-ghost use Rattle.priority_channel_witnessed.specs.History.{entry};
 ghost use Rattle.priority_channel_witnessed.specs.Items.{list_in, listed, listed_poll};
-ghost use Rattle.priority_channel_witnessed.specs.Passes.{IsTold};
-ghost use Rattle.priority_channel_witnessed.specs.Waits.{IsSentOn, send_in_time, sent_or_over, listed_in_time};
+ghost use Rattle.priority_channel_witnessed.specs.Passes.{Tells};
+ghost use Rattle.priority_channel_witnessed.specs.Waits.{HasCalled, IsSentOn, send_in_time, sent_or_over, listed_in_time};
 
 use crate::entry::Pairs;
 use crate::log::Recording;
@@ -27,16 +25,16 @@ impl<T: Drop, P: Ord + Drop, J: Recording, A: Allocator + Copy> Witnessed<T, P, 
     /// ```
     /// channel.sendv_blocking(rt, pass, jobs.into_iter().peekable())?;
     /// ```
+    #[tactic(auto, using(crate::proofs::Waits::sent_on_called))]
     pub fn sendv_blocking<R: Wait>(
         &self,
         rt: &R,
         pass: &mut Pass<T, P, Waiter<A>, J>,
         msgs: Pairs<T, P, A>,
     ) -> Result<(), SendFault<Pairs<T, P, A>>>
-        ensures number { pass.new.number ≡ pass.old.number }
-        ensures counted { pass.old.count < pass.new.count }
-        ensures told { IsSentOn P.cmp ⟦<Waiter<A> as Clone>⟧.is_clone J.capacity J.is_reserved
-            pass.old (list_in msgs) (listed_in_time (send_in_time result)) pass.new }
+        ensures { HasCalled pass.old pass.new (IsSentOn P.cmp ⟦<Waiter<A> as Clone>⟧.is_clone
+            J.capacity J.is_reserved pass.old (list_in msgs)
+            (listed_in_time (send_in_time result)) pass.new) }
     {
         match self.sendv_until(rt, pass, msgs, &Endless) {
             Ok(sent) => sent,
@@ -61,10 +59,9 @@ impl<T: Drop, P: Ord + Drop, J: Recording, A: Allocator + Copy> Witnessed<T, P, 
         msgs: Pairs<T, P, A>,
         timeout: Duration,
     ) -> Result<(), SendTimeoutError<Pairs<T, P, A>>>
-        ensures number { pass.new.number ≡ pass.old.number }
-        ensures counted { pass.old.count < pass.new.count }
-        ensures told { IsSentOn P.cmp ⟦<Waiter<A> as Clone>⟧.is_clone J.capacity J.is_reserved
-            pass.old (list_in msgs) (listed_in_time result) pass.new }
+        ensures { HasCalled pass.old pass.new (IsSentOn P.cmp ⟦<Waiter<A> as Clone>⟧.is_clone
+            J.capacity J.is_reserved pass.old (list_in msgs)
+            (listed_in_time result) pass.new) }
     {
         let deadline = Deadline::after(rt, timeout);
         in_time(self.sendv_until(rt, pass, msgs, &deadline))
@@ -78,10 +75,9 @@ impl<T: Drop, P: Ord + Drop, J: Recording, A: Allocator + Copy> Witnessed<T, P, 
         msgs: Pairs<T, P, A>,
         deadline: Instant,
     ) -> Result<(), SendTimeoutError<Pairs<T, P, A>>>
-        ensures number { pass.new.number ≡ pass.old.number }
-        ensures counted { pass.old.count < pass.new.count }
-        ensures told { IsSentOn P.cmp ⟦<Waiter<A> as Clone>⟧.is_clone J.capacity J.is_reserved
-            pass.old (list_in msgs) (listed_in_time result) pass.new }
+        ensures { HasCalled pass.old pass.new (IsSentOn P.cmp ⟦<Waiter<A> as Clone>⟧.is_clone
+            J.capacity J.is_reserved pass.old (list_in msgs)
+            (listed_in_time result) pass.new) }
     {
         let deadline = Deadline::at(rt, deadline);
         in_time(self.sendv_until(rt, pass, msgs, &deadline))
@@ -95,9 +91,7 @@ impl<T: Drop, P: Ord + Drop, J: Recording, A: Allocator + Copy> Witnessed<T, P, 
         msgs: Pairs<T, P, A>,
         until: &U,
     ) -> Sent<Pairs<T, P, A>, U::Over>
-        ensures number { pass.new.number ≡ pass.old.number }
-        ensures counted { pass.old.count < pass.new.count }
-        ensures told { IsSentOn P.cmp ⟦<Waiter<A> as Clone>⟧.is_clone J.capacity J.is_reserved
+        ensures { IsSentOn P.cmp ⟦<Waiter<A> as Clone>⟧.is_clone J.capacity J.is_reserved
             pass.old (list_in msgs) (listed_in_time (sent_or_over result)) pass.new }
     {
         match self.sendv_now(rt, pass, msgs) {
@@ -125,9 +119,7 @@ impl<T: Drop, P: Ord + Drop, J: Recording, A: Allocator + Copy> Witnessed<T, P, 
         until: &U,
         waiter: &Waiter<A>,
     ) -> Sent<Pairs<T, P, A>, U::Over>
-        ensures number { pass.new.number ≡ pass.old.number }
-        ensures counted { pass.old.count < pass.new.count }
-        ensures told { IsSentOn P.cmp ⟦<Waiter<A> as Clone>⟧.is_clone J.capacity J.is_reserved
+        ensures { IsSentOn P.cmp ⟦<Waiter<A> as Clone>⟧.is_clone J.capacity J.is_reserved
             pass.old (list_in msgs) (listed_in_time (sent_or_over result)) pass.new }
     {
         let mut rest = msgs;
@@ -157,9 +149,7 @@ impl<T: Drop, P: Ord + Drop, J: Recording, A: Allocator + Copy> Witnessed<T, P, 
         ticket: u64,
         over: O,
     ) -> Sent<Pairs<T, P, A>, O>
-        ensures number { pass.new.number ≡ pass.old.number }
-        ensures counted { pass.old.count < pass.new.count }
-        ensures told { IsSentOn P.cmp ⟦<Waiter<A> as Clone>⟧.is_clone J.capacity J.is_reserved
+        ensures { IsSentOn P.cmp ⟦<Waiter<A> as Clone>⟧.is_clone J.capacity J.is_reserved
             pass.old (list_in msgs) (listed_in_time (sent_or_over result)) pass.new }
     {
         self.give_up(rt, pass, ticket);
@@ -178,11 +168,9 @@ impl<T: Drop, P: Ord + Drop, J: Recording, A: Allocator + Copy> Witnessed<T, P, 
         pass: &mut Pass<T, P, Waiter<A>, J>,
         msgs: Pairs<T, P, A>,
     ) -> Result<(), TrySendError<Pairs<T, P, A>>>
-        ensures number { pass.new.number ≡ pass.old.number }
-        ensures counted { pass.new.count ≡ pass.old.count + 1 }
-        ensures told { (handed : _) × IsTold P.cmp ⟦<Waiter<A> as Clone>⟧.is_clone J.capacity
-            J.is_reserved pass.old (entry pass.old.number (Call.TrySendv (list_in msgs))
-            (Answer.TrySendv (listed result)) handed) pass.new }
+        ensures { (handed : _) × Tells P.cmp ⟦<Waiter<A> as Clone>⟧.is_clone J.capacity
+            J.is_reserved pass.old (Call.TrySendv (list_in msgs))
+            (Answer.TrySendv (listed result)) handed pass.new }
     {
         let (sent, wakes) = self.try_sendv(rt, pass, msgs);
         wake_all(rt, wakes);
@@ -198,12 +186,9 @@ impl<T: Drop, P: Ord + Drop, J: Recording, A: Allocator + Copy> Witnessed<T, P, 
         ticket: Option<u64>,
         waiter: &Waiter<A>,
     ) -> CorePoll<Result<(), SendFault<Pairs<T, P, A>>>, Pairs<T, P, A>>
-        ensures number { pass.new.number ≡ pass.old.number }
-        ensures counted { pass.new.count ≡ pass.old.count + 1 }
-        ensures told { (handed : _) × IsTold P.cmp ⟦<Waiter<A> as Clone>⟧.is_clone J.capacity
-            J.is_reserved pass.old
-            (entry pass.old.number (Call.PollSendv (list_in msgs) ticket waiter.now)
-            (Answer.PollSendv (listed_poll result)) handed) pass.new }
+        ensures { (handed : _) × Tells P.cmp ⟦<Waiter<A> as Clone>⟧.is_clone J.capacity
+            J.is_reserved pass.old (Call.PollSendv (list_in msgs) ticket waiter.now)
+            (Answer.PollSendv (listed_poll result)) handed pass.new }
     {
         let (polled, wakes) = self.poll_sendv(rt, pass, msgs, ticket, waiter);
         wake_all(rt, wakes);

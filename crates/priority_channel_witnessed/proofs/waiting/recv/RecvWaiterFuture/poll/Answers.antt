@@ -4,5 +4,5 @@ use Rattle.priority_channel_witnessed.proofs.waiting.recv.RecvWaiterFuture.poll.
 
 pub returns-in-Pending-clause-same : goal.returns-in-Pending-clause-same
 returns-in-Pending-clause-same g c =
-    receives_later g.P.Ord.cmp _ _ _ _ c.poll_by.new.pass _ _ (search rules) c.poll_by.ensures.number c.poll_by.ensures.counted
+    receives_later g.P.Ord.cmp _ _ _ _ c.poll_by.new.pass _ _ (search rules)
     (on_pending c.poll_by.result _ (search rules) c.poll_by.ensures.waits)

@@ -4,5 +4,5 @@ use Rattle.priority_channel_witnessed.proofs.waiting.send.SendWaiterFuture.poll.
 
 pub returns-in-Err-clause-same : goal.returns-in-Err-clause-same
 returns-in-Err-clause-same g c =
-    sends_later g.P.Ord.cmp _ _ _ _ c.poll_by.new.pass _ _ c.in-Err.pair (search rules) c.poll_by.ensures.number c.poll_by.ensures.counted
+    sends_later g.P.Ord.cmp _ _ _ _ c.poll_by.new.pass _ _ c.in-Err.pair (search rules)
     (on_err c.poll_by.result _ c.in-Err.pair (search rules) c.poll_by.ensures.waits)

@@ -9,4 +9,4 @@ returns-in-Err-clause-goes_on g c =
 
 pub returns-in-Err-clause-waits : goal.returns-in-Err-clause-waits
 returns-in-Err-clause-waits g c =
-    lists_later g.P.Ord.cmp _ _ _ _ c.try_by.new.pass _ c.list_by-in-Err.result _ c.try_by.ensures.number c.try_by.ensures.begins c.list_by-in-Err.ensures.waits
+    lists_later g.P.Ord.cmp _ _ _ _ c.try_by.new.pass _ c.list_by-in-Err.result _ c.try_by.ensures.number c.try_by.ensures.counted c.try_by.ensures.begins c.list_by-in-Err.ensures.waits

@@ -9,6 +9,6 @@ returns-in-Err-clause-same g c =
 
 pub returns-in-Err-clause-waits : goal.returns-in-Err-clause-waits
 returns-in-Err-clause-waits g c =
-    waits_on g.P.Ord.cmp _ _ _ _ c.poll_by.new.pass c.in-Some.msgs c.in-Err.rest _ _ _ _ _ (search rules) c.poll_by.ensures.number c.poll_by.ensures.counted
+    waits_on g.P.Ord.cmp _ _ _ _ c.poll_by.new.pass c.in-Some.msgs c.in-Err.rest _ _ _ _ _ (search rules)
     (on_err c.poll_by.result _ c.in-Err.rest (search rules) c.poll_by.ensures.waits) (on_err c.poll_by.result _ c.in-Err.rest (search rules) c.poll_by.ensures.goes_on)
     (search rules) (search rules)
