@@ -1,5 +1,6 @@
-//! What the errors of the core print and hand back, and which lead to which.
-use super::{expect_equal, expect_true};
+//! What the errors of the core print, and which are equal. What they hold, tell and turn into, their
+//! clauses say.
+use super::expect_equal;
 use priority_channel_core::errors::{
     RecvError, RecvFault, SendError, SendFault, TryRecvError, TryRecvManyError, TrySendError,
 };
@@ -10,9 +11,6 @@ use std::process::Abort;
 // A message that can be neither printed nor compared.
 #[derive(Drop)]
 struct Opaque;
-
-// A message that cannot be dropped either.
-struct Parcel;
 
 const SEND_CLOSED: &str = "sending into a closed channel";
 
@@ -87,91 +85,4 @@ fn errors_are_equal_where_variant_and_content_are(rt: HostRuntime) {
     expect_apart(&rt, &[TryRecvError::Empty, TryRecvError::Closed]);
     expect_apart(&rt, &[RecvFault::Memory, RecvFault::Closed(RecvError)]);
     expect_apart(&rt, &[TryRecvManyError::Memory, TryRecvManyError::Empty]);
-}
-
-#[test]
-fn errors_tell_why(rt: HostRuntime) {
-    let full = TrySendError::Full(1);
-    let memory = TrySendError::Memory(1);
-    let closed = TrySendError::Closed(1);
-    expect_true(
-        &rt,
-        full.is_full() && !full.is_closed() && !full.is_memory(),
-        "full",
-    );
-    expect_true(
-        &rt,
-        memory.is_memory() && !memory.is_full() && !memory.is_closed(),
-        "memory",
-    );
-    expect_true(
-        &rt,
-        closed.is_closed() && !closed.is_full() && !closed.is_memory(),
-        "closed",
-    );
-    let (empty, closed) = (TryRecvError::Empty, TryRecvError::Closed);
-    expect_true(&rt, empty.is_empty() && !empty.is_closed(), "empty");
-    expect_true(
-        &rt,
-        closed.is_closed() && !closed.is_empty(),
-        "closed and empty",
-    );
-    let (memory, closed) = (SendFault::Memory(1), SendFault::Closed(SendError(1)));
-    expect_true(
-        &rt,
-        memory.is_memory() && !memory.is_closed(),
-        "memory of a wait",
-    );
-    expect_true(
-        &rt,
-        closed.is_closed() && !closed.is_memory(),
-        "a closed wait",
-    );
-    let (memory, closed) = (RecvFault::Memory, RecvFault::Closed(RecvError));
-    expect_true(
-        &rt,
-        memory.is_memory() && !memory.is_closed(),
-        "memory of a receive",
-    );
-    expect_true(
-        &rt,
-        closed.is_closed() && !closed.is_memory(),
-        "a closed receive",
-    );
-    let (memory, closed) = (TryRecvManyError::Memory, TryRecvManyError::Closed);
-    expect_true(
-        &rt,
-        memory.is_memory() && !memory.is_closed(),
-        "memory of a batch",
-    );
-    expect_true(
-        &rt,
-        closed.is_closed() && !closed.is_empty(),
-        "a closed batch",
-    );
-}
-
-#[test]
-fn errors_hand_back_what_was_not_sent_and_lead_to_one_another(rt: HostRuntime) {
-    expect_equal(&rt, TrySendError::Full(('l', 3)).into_inner(), ('l', 3));
-    let Parcel = TrySendError::Closed(Parcel).into_inner();
-    let Parcel = SendError(Parcel).into_inner();
-    let Parcel = SendFault::Closed(SendError(Parcel)).into_inner();
-    let Parcel = SendFault::Memory(Parcel).into_inner();
-
-    let (closed, memory) = (SendError(1), SendFault::Memory(1));
-    let (empty, ended) = (TryRecvError::Empty, TryRecvError::Closed);
-    expect_equal(&rt, SendFault::from(closed), SendFault::Closed(closed));
-    expect_equal(&rt, TrySendError::from(closed), TrySendError::Closed(1));
-    expect_equal(&rt, TrySendError::from(memory), TrySendError::Memory(1));
-    let closed = SendFault::Closed(closed);
-    expect_equal(&rt, TrySendError::from(closed), TrySendError::Closed(1));
-    expect_equal(&rt, TryRecvError::from(RecvError), ended);
-    expect_equal(
-        &rt,
-        RecvFault::from(RecvError),
-        RecvFault::Closed(RecvError),
-    );
-    expect_equal(&rt, TryRecvManyError::from(empty), TryRecvManyError::Empty);
-    expect_equal(&rt, TryRecvManyError::from(ended), TryRecvManyError::Closed);
 }
