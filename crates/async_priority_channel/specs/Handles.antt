@@ -1,10 +1,10 @@
 -- What handles and futures show of their channel. What is behind its lock, no value shows.
 use Rattle.std.specs.Prelude.{◌≡◌, ℕ, Bool, true, List, [], IfErr, IfSome, Option, Some, None, Result}
-use Rattle.priority_channel_parts.specs.declared.errors.SendFault.{SendFault}
-use Rattle.priority_channel_parts.specs.Errors.{unsent}
+use Rattle.priority_channel_core.specs.declared.errors.SendFault.{SendFault}
+use Rattle.priority_channel_core.specs.Errors.{unsent}
 use Rattle.priority_channel_laws.specs.Holding.{Holding, HoldsTail}
-use Rattle.priority_channel_parts.specs.declared.side.Side.{Side}
-use Rattle.priority_channel_parts.specs.declared.side.Side.TheVariants.{Room, Message}
+use Rattle.priority_channel_core.specs.declared.side.Side.{Side}
+use Rattle.priority_channel_core.specs.declared.side.Side.TheVariants.{Room, Message}
 
 -- what never changes of a channel: its capacity, and the sources at which tasks wait for room and
 -- for a message

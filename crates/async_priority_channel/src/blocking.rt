@@ -2,7 +2,7 @@
 ghost use Rattle.std.specs.Prelude.{◌≡◌, IfErr};
 ghost use Rattle.std.specs.Iterator.Adapters.{peekable_can};
 ghost use Rattle.priority_channel_core.specs.code.Lists.{HasList};
-ghost use Rattle.priority_channel_parts.specs.Errors.{unsent};
+ghost use Rattle.priority_channel_core.specs.Errors.{unsent};
 ghost use Rattle.priority_channel_laws.specs.Holding.{HoldsTail};
 ghost use Rattle.priority_channel_waits.specs.Waits.{unsent_in_time};
 

@@ -2,7 +2,7 @@
 ghost use Rattle.std.specs.Prelude.{◌≡◌, ◌<◌, ⊤, ℕ, true, false, IfOk, IfSome, IfNone, OnErr, Result, vec_len, vec_capacity};
 ghost use Rattle.futures.specs.Task.{Covers, Keeps};
 ghost use Rattle.futures.specs.Poll.{IfReady, OnPending};
-ghost use Rattle.priority_channel_parts.specs.declared.errors.RecvFault.{RecvFault};
+ghost use Rattle.priority_channel_core.specs.declared.errors.RecvFault.{RecvFault};
 ghost use Rattle.async_priority_channel.specs.Batches.{Appends, IsWithin};
 
 use crate::receiver::Receiver;

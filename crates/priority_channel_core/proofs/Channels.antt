@@ -5,8 +5,8 @@ use Rattle.std.specs.Prelude.{◌==◌, if◌then◌else◌}
 use Rattle.priority_channel_core.specs.machine.State.{State, Handed, nobody}
 use Rattle.priority_channel_core.specs.machine.Sends.{AddsFront}
 use Rattle.priority_channel_bag.specs.Bag.{Contents}
-use Rattle.priority_channel_parts.specs.Word.{Word}
-use Rattle.priority_channel_parts.specs.Waiters.{HasOwnTickets}
+use Rattle.priority_channel_core.specs.Word.{Word}
+use Rattle.priority_channel_core.specs.Waiters.{HasOwnTickets}
 use Rattle.priority_channel_core.specs.code.Channel.{state_of, IsSound}
 use Rattle.std.proofs.lemmas.Bool.{cases_lt}
 use Rattle.priority_channel_bag.specs.Digits.{digits}

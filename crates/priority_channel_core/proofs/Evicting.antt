@@ -6,13 +6,13 @@ use Rattle.std.specs.declared.cmp.Ordering.{Ordering}
 use Rattle.priority_channel_bag.proofs.Kept.{every_part}
 use Rattle.priority_channel_bag.specs.Bag.{Contents}
 use Rattle.priority_channel_bag.specs.Least.{TakesLeast, TakesOne, NoneBelow, Displaces}
-use Rattle.priority_channel_parts.specs.Word.{Word}
-use Rattle.priority_channel_parts.specs.declared.errors.TrySendError.TheVariants.{Full}
+use Rattle.priority_channel_core.specs.Word.{Word}
+use Rattle.priority_channel_core.specs.declared.errors.TrySendError.TheVariants.{Full}
 use Rattle.priority_channel_core.specs.machine.State.{State, Handed, nobody, room}
 use Rattle.priority_channel_core.specs.machine.Good.{IsGood}
 use Rattle.priority_channel_core.specs.machine.Evicts.{Evicts}
 use Rattle.priority_channel_core.specs.machine.OtherCalls.{Frees}
-use Rattle.priority_channel_parts.specs.Waiters.{HasOwnTickets}
+use Rattle.priority_channel_core.specs.Waiters.{HasOwnTickets}
 use Rattle.priority_channel_core.specs.code.Channel.{state_of, IsSound}
 use Rattle.priority_channel_core.proofs.Sends.{refuses_full}
 

@@ -7,8 +7,8 @@ use Rattle.std.proofs.lemmas.Nat.{mul-le}
 use Rattle.std.specs.declared.cmp.Ordering.{Ordering}
 use Rattle.priority_channel_core.specs.declared.calls.Call.TheVariants as call
 use Rattle.priority_channel_core.specs.declared.calls.Answer.TheVariants as answer
-use Rattle.priority_channel_parts.specs.declared.errors.TryRecvError.{TryRecvError}
-use Rattle.priority_channel_parts.specs.declared.errors.TryRecvError.TheVariants.{Empty, Closed}
+use Rattle.priority_channel_core.specs.declared.errors.TryRecvError.{TryRecvError}
+use Rattle.priority_channel_core.specs.declared.errors.TryRecvError.TheVariants.{Empty, Closed}
 use Rattle.priority_channel_core.specs.machine.State.{State, Handed, nobody}
 use Rattle.priority_channel_bag.specs.Digits.{digits}
 use Rattle.priority_channel_bag.specs.Greatest.{TakesGreatest}

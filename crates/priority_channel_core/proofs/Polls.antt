@@ -8,20 +8,20 @@ use Rattle.priority_channel_core.specs.declared.calls.Call.TheVariants as call
 use Rattle.priority_channel_core.specs.declared.calls.Answer.TheVariants as answer
 use Rattle.priority_channel_core.specs.declared.calls.CorePoll.{CorePoll}
 use Rattle.priority_channel_core.specs.declared.calls.CorePoll.TheVariants.{Ready, Pending}
-use Rattle.priority_channel_parts.specs.declared.side.Side.{Side}
-use Rattle.priority_channel_parts.specs.declared.side.Side.TheVariants.{Room}
-use Rattle.priority_channel_parts.specs.declared.errors.TrySendError.{TrySendError}
-use Rattle.priority_channel_parts.specs.declared.errors.TrySendError.TheVariants.{Full, Closed, Memory}
-use Rattle.priority_channel_parts.specs.declared.errors.SendFault.{SendFault}
-use Rattle.priority_channel_parts.specs.declared.errors.SendFault.TheVariants as send
-use Rattle.priority_channel_parts.specs.declared.errors.TryRecvError.{TryRecvError}
-use Rattle.priority_channel_parts.specs.declared.errors.TryRecvError.TheVariants as try_recv
-use Rattle.priority_channel_parts.specs.declared.errors.RecvFault.{RecvFault}
-use Rattle.priority_channel_parts.specs.declared.errors.RecvFault.TheVariants as recv
-use Rattle.priority_channel_parts.specs.Errors.{rest_of}
+use Rattle.priority_channel_core.specs.declared.side.Side.{Side}
+use Rattle.priority_channel_core.specs.declared.side.Side.TheVariants.{Room}
+use Rattle.priority_channel_core.specs.declared.errors.TrySendError.{TrySendError}
+use Rattle.priority_channel_core.specs.declared.errors.TrySendError.TheVariants.{Full, Closed, Memory}
+use Rattle.priority_channel_core.specs.declared.errors.SendFault.{SendFault}
+use Rattle.priority_channel_core.specs.declared.errors.SendFault.TheVariants as send
+use Rattle.priority_channel_core.specs.declared.errors.TryRecvError.{TryRecvError}
+use Rattle.priority_channel_core.specs.declared.errors.TryRecvError.TheVariants as try_recv
+use Rattle.priority_channel_core.specs.declared.errors.RecvFault.{RecvFault}
+use Rattle.priority_channel_core.specs.declared.errors.RecvFault.TheVariants as recv
+use Rattle.priority_channel_core.specs.Errors.{rest_of}
 use Rattle.priority_channel_bag.specs.Digits.{digits}
-use Rattle.priority_channel_parts.specs.Waiting.{is_given_listed}
-use Rattle.priority_channel_parts.specs.Waiters.{Waiters, unlist, search_bound}
+use Rattle.priority_channel_core.specs.Waiting.{is_given_listed}
+use Rattle.priority_channel_core.specs.Waiters.{Waiters, unlist, search_bound}
 use Rattle.priority_channel_core.specs.machine.State.{State, Handed, nobody}
 use Rattle.priority_channel_core.specs.machine.Good.{IsGood}
 use Rattle.priority_channel_core.specs.machine.Sends.{AddsFront, Sends}

@@ -3,7 +3,7 @@ use Rattle.std.proofs.Common.{◌≡◌, ℕ, ◌+◌, ◌<◌, ◌==◌, if◌t
 use Rattle.std.proofs.lemmas.Bool.Decides.{nat_tests}
 use Rattle.std.specs.declared.cmp.Ordering.{Ordering}
 use Rattle.priority_channel_bag.specs.Least.{TakesOne, TakesAll}
-use Rattle.priority_channel_parts.specs.Waiters.{HasOwnTickets}
+use Rattle.priority_channel_core.specs.Waiters.{HasOwnTickets}
 use Rattle.priority_channel_core.specs.declared.calls.Call.TheVariants as call
 use Rattle.priority_channel_core.specs.declared.calls.Answer.TheVariants as answer
 use Rattle.priority_channel_core.specs.machine.State.{State, Handed, nobody}

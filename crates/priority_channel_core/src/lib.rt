@@ -5,9 +5,12 @@
 //! `specs/`; `docs/DEFINITIONS.md` says them in words.
 #![tactic(auto)]
 
+pub mod awaitable_atomics;
 pub mod calls;
 pub mod channel;
+pub mod errors;
 pub mod laws;
+pub mod side;
+pub mod waiting_list;
 
 pub use priority_channel_bag::{bag, comparisons, item};
-pub use priority_channel_parts::{awaitable_atomics, errors, side};

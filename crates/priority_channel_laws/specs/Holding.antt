@@ -8,14 +8,14 @@ use Rattle.priority_channel_core.specs.declared.calls.Call.{Call}
 use Rattle.priority_channel_core.specs.declared.calls.Answer.{Answer}
 use Rattle.priority_channel_core.specs.declared.calls.CorePoll.{CorePoll}
 use Rattle.priority_channel_core.specs.declared.calls.CorePoll.TheVariants.{Ready, Pending}
-use Rattle.priority_channel_parts.specs.declared.errors.SendFault.{SendFault}
-use Rattle.priority_channel_parts.specs.declared.errors.SendFault.TheVariants as send_fault
-use Rattle.priority_channel_parts.specs.declared.errors.TrySendError.{TrySendError}
-use Rattle.priority_channel_parts.specs.declared.errors.TrySendError.TheVariants as send_error
-use Rattle.priority_channel_parts.specs.Errors.{unsent}
+use Rattle.priority_channel_core.specs.declared.errors.SendFault.{SendFault}
+use Rattle.priority_channel_core.specs.declared.errors.SendFault.TheVariants as send_fault
+use Rattle.priority_channel_core.specs.declared.errors.TrySendError.{TrySendError}
+use Rattle.priority_channel_core.specs.declared.errors.TrySendError.TheVariants as send_error
+use Rattle.priority_channel_core.specs.Errors.{unsent}
 use Rattle.priority_channel_core.specs.machine.State.{State, Handed}
 use Rattle.priority_channel_core.specs.machine.Sends.{AddsFront}
-use Rattle.priority_channel_parts.specs.Waiters.{unlist}
+use Rattle.priority_channel_core.specs.Waiters.{unlist}
 use Rattle.priority_channel_laws.specs.Future.{Task, Tasks, Standing, Future, ticket_of, poll_of, future_after}
 use Rattle.priority_channel_laws.specs.Future.Task.{Send, Recv}
 use Rattle.priority_channel_laws.specs.Future.Standing.{Done}

@@ -1,8 +1,8 @@
 -- What holds of each world that events reach from an opening one.
 use Rattle.std.specs.Prelude.{◌≡◌, ◌≢◌, ℕ, ◌<◌, true, List, [], ◌∷◌, ◌==◌, if◌then◌else◌, length, slice_get, Option, Some, None, ◌⊎◌}
-use Rattle.priority_channel_parts.specs.declared.side.Side.{Side}
-use Rattle.priority_channel_parts.specs.declared.side.Side.TheVariants.{Room, Message}
-use Rattle.priority_channel_parts.specs.Waiters.{on_side}
+use Rattle.priority_channel_core.specs.declared.side.Side.{Side}
+use Rattle.priority_channel_core.specs.declared.side.Side.TheVariants.{Room, Message}
+use Rattle.priority_channel_core.specs.Waiters.{on_side}
 use Rattle.priority_channel_core.specs.machine.State.{State, Handed}
 use Rattle.priority_channel_core.specs.machine.Good.{IsGood}
 use Rattle.priority_channel_laws.specs.Future.{Tasks, Futures, ticket_of}

@@ -5,7 +5,7 @@ ghost use Rattle.std.specs.List.Sorted.{IsPermutation};
 ghost use Rattle.priority_channel_laws.specs.Alike.{IsAlike, SameOutcome, SameState};
 ghost use Rattle.priority_channel_core.specs.declared.calls.Call.TheVariants as call;
 ghost use Rattle.priority_channel_core.specs.declared.calls.Answer.TheVariants as answer;
-ghost use Rattle.priority_channel_parts.specs.declared.errors.TryRecvError.TheVariants as recv_error;
+ghost use Rattle.priority_channel_core.specs.declared.errors.TryRecvError.TheVariants as recv_error;
 ghost use Rattle.priority_channel_core.specs.machine.State.{State, Handed};
 ghost use Rattle.priority_channel_core.specs.machine.Run.{Run, Operation};
 ghost use Rattle.priority_channel_laws.specs.Accepted.{accepted_in, received_in, displaced_in, taken_in, NeverRise};

@@ -11,7 +11,7 @@ ghost use Rattle.priority_channel_core.specs.code.Front.{PollsFront};
 ghost use Rattle.priority_channel_core.specs.machine.Step.{Step};
 ghost use Rattle.priority_channel_core.specs.code.Calls.{Performs};
 ghost use Rattle.priority_channel_core.specs.code.Channel.{ComparesAtMost};
-ghost use Rattle.priority_channel_parts.specs.Waiters.{search_bound};
+ghost use Rattle.priority_channel_core.specs.Waiters.{search_bound};
 ghost use Rattle.priority_channel_laws.specs.Future.Task.{Sendv as sendv_of};
 ghost use Rattle.priority_channel_laws.specs.World.{GivesUpTicket};
 ghost use Rattle.priority_channel_laws.specs.Holding.{unpolled, done, told_by, left_by, told_at_once, left_at_once, handed_back, HoldsTail, send_of, recv_of, TriesFront, PollsKept};

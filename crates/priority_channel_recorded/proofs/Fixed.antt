@@ -4,8 +4,8 @@ use Rattle.std.specs.List.{AllZip}
 use Rattle.std.specs.Cmp.{IsTotalOrder}
 use Rattle.std.specs.declared.cmp.Ordering.{Ordering}
 use Rattle.priority_channel_core.specs.declared.calls.Answer.TheVariants as answer
-use Rattle.priority_channel_parts.specs.declared.errors.TrySendError.TheVariants as send_error
-use Rattle.priority_channel_parts.specs.declared.errors.TryRecvError.TheVariants as recv_error
+use Rattle.priority_channel_core.specs.declared.errors.TrySendError.TheVariants as send_error
+use Rattle.priority_channel_core.specs.declared.errors.TryRecvError.TheVariants as recv_error
 use Rattle.priority_channel_bag.proofs.Extremes.{one_greatest, one_least}
 use Rattle.priority_channel_core.specs.machine.State.{Handed, opening}
 use Rattle.priority_channel_core.specs.machine.Sends.{AddsFront, Sends}

@@ -1,8 +1,8 @@
 -- What comes back of an attempt is what the core hands back, and an error of the call holds it.
 use Rattle.std.specs.Prelude.{◌≡◌, IfErr, IfSome, IsErrAnd, Result, Ok, Err}
-use Rattle.priority_channel_parts.specs.declared.errors.TrySendError.{TrySendError}
-use Rattle.priority_channel_parts.specs.declared.errors.TrySendError.TheVariants.{Full, Closed, Memory}
-use Rattle.priority_channel_parts.specs.Errors.{rest_of}
+use Rattle.priority_channel_core.specs.declared.errors.TrySendError.{TrySendError}
+use Rattle.priority_channel_core.specs.declared.errors.TrySendError.TheVariants.{Full, Closed, Memory}
+use Rattle.priority_channel_core.specs.Errors.{rest_of}
 use Rattle.priority_channel_waits.specs.Waits.{left_over, outcome_of_try}
 
 module _ {C : Type 0} (Q : C → Type 0) where

@@ -1,6 +1,6 @@
 -- Lines of threads that wait for one thing. A party is known by its number, which is given once.
 use Rattle.std.specs.Prelude.{◌≡◌, ℕ, List, Option, Some}
-use Rattle.priority_channel_parts.specs.declared.side.Side.{Side}
+use Rattle.priority_channel_core.specs.declared.side.Side.{Side}
 use Rattle.priority_channel_core.specs.machine.State.{State}
 use Rattle.priority_channel_core.specs.machine.Polls.{Ends}
 

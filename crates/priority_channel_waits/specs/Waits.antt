@@ -3,15 +3,15 @@
 use Rattle.std.specs.Prelude.{◌≡◌, ℕ, List, Option, Some, None, ⊤, Result, Ok, Err, codes}
 use Rattle.priority_channel_core.specs.declared.calls.CorePoll.{CorePoll}
 use Rattle.priority_channel_core.specs.declared.calls.CorePoll.TheVariants.{Ready, Pending}
-use Rattle.priority_channel_parts.specs.declared.errors.TrySendError.{TrySendError}
-use Rattle.priority_channel_parts.specs.declared.errors.TrySendError.TheVariants as try_send
-use Rattle.priority_channel_parts.specs.declared.errors.TryRecvError.{TryRecvError}
-use Rattle.priority_channel_parts.specs.declared.errors.TryRecvError.TheVariants as try_recv
-use Rattle.priority_channel_parts.specs.declared.errors.SendFault.{SendFault}
-use Rattle.priority_channel_parts.specs.declared.errors.SendFault.TheVariants as send_fault
-use Rattle.priority_channel_parts.specs.declared.errors.RecvError.{RecvError}
-use Rattle.priority_channel_parts.specs.declared.errors.RecvFault.{RecvFault}
-use Rattle.priority_channel_parts.specs.declared.errors.RecvFault.TheVariants as recv_fault
+use Rattle.priority_channel_core.specs.declared.errors.TrySendError.{TrySendError}
+use Rattle.priority_channel_core.specs.declared.errors.TrySendError.TheVariants as try_send
+use Rattle.priority_channel_core.specs.declared.errors.TryRecvError.{TryRecvError}
+use Rattle.priority_channel_core.specs.declared.errors.TryRecvError.TheVariants as try_recv
+use Rattle.priority_channel_core.specs.declared.errors.SendFault.{SendFault}
+use Rattle.priority_channel_core.specs.declared.errors.SendFault.TheVariants as send_fault
+use Rattle.priority_channel_core.specs.declared.errors.RecvError.{RecvError}
+use Rattle.priority_channel_core.specs.declared.errors.RecvFault.{RecvFault}
+use Rattle.priority_channel_core.specs.declared.errors.RecvFault.TheVariants as recv_fault
 use Rattle.priority_channel_waits.specs.declared.attempts.Outcome.{Outcome}
 use Rattle.priority_channel_waits.specs.declared.attempts.Outcome.TheVariants.{Done, Blocked, Closed, Memory}
 use Rattle.priority_channel_waits.specs.declared.attempts.Receive.{Receive}

@@ -6,15 +6,15 @@
 //! leaves it or leads it, who leads it makes the next one the first, and who spins says when that
 //! is over.
 ghost use Rattle.std.specs.Prelude.{◌≡◌, ◌≢◌, ◌↔◌, ℕ, ◌+◌, ◌-◌, ◌<◌, ◌∷◌, ◌++◌, [], option_to_list, IfOk, IfErr, IfNone, IfSome, IsSome, IsTrue, OnOk, OnErr, Some, None};
-ghost use Rattle.priority_channel_parts.specs.Waiting.{without};
-ghost use Rattle.priority_channel_parts.specs.Waiters.{unlist};
+ghost use Rattle.priority_channel_core.specs.Waiting.{without};
+ghost use Rattle.priority_channel_core.specs.Waiters.{unlist};
 ghost use Rattle.priority_channel_core.specs.code.Channel.{IsBlocked};
 ghost use Rattle.priority_channel_waits.specs.Lines.{IsFirst, Lists};
 
 use crate::waiter::{Core, Waiter};
 use priority_channel_core::comparisons::Comparisons;
 use priority_channel_core::side::Side;
-use priority_channel_parts::waiting_list::WaitingList;
+use priority_channel_core::waiting_list::WaitingList;
 use std::alloc::{AllocError, Allocator};
 use std::marker::Model;
 

@@ -7,10 +7,10 @@ use Rattle.std.specs.Vec.Iter.{into_iter_steps, into_iter_items, into_iter_len}
 use Rattle.std.specs.Iterator.{AlwaysYields}
 use Rattle.std.specs.Iterator.Adapters.{peekable_steps}
 use Rattle.std.specs.VecDeque.Ownership.{in_place}
-use Rattle.priority_channel_parts.specs.declared.errors.TrySendError.{TrySendError}
-use Rattle.priority_channel_parts.specs.declared.errors.TrySendError.TheVariants.{Full, Closed, Memory}
-use Rattle.priority_channel_parts.specs.declared.errors.SendFault.{SendFault}
-use Rattle.priority_channel_parts.specs.declared.errors.SendFault.TheVariants as send
+use Rattle.priority_channel_core.specs.declared.errors.TrySendError.{TrySendError}
+use Rattle.priority_channel_core.specs.declared.errors.TrySendError.TheVariants.{Full, Closed, Memory}
+use Rattle.priority_channel_core.specs.declared.errors.SendFault.{SendFault}
+use Rattle.priority_channel_core.specs.declared.errors.SendFault.TheVariants as send
 use Rattle.priority_channel_core.specs.declared.calls.Call.TheVariants as call
 use Rattle.priority_channel_core.specs.declared.calls.Answer.TheVariants as answer
 use Rattle.priority_channel_core.specs.declared.calls.CorePoll.{CorePoll}

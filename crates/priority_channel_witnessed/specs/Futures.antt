@@ -3,9 +3,9 @@ use Rattle.std.specs.Prelude.{◌≡◌, ℕ, Bool, Option, Some, None, List, Re
 use Rattle.std.specs.declared.cmp.Ordering.{Ordering}
 use Rattle.std.specs.declared.vec.IntoIter.{IntoIter}
 use Rattle.std.specs.declared.iter.Ahead.{Ahead}
-use Rattle.priority_channel_parts.specs.declared.errors.RecvFault.{RecvFault}
-use Rattle.priority_channel_parts.specs.declared.errors.SendFault.{SendFault}
-use Rattle.priority_channel_parts.specs.Errors.{unsent}
+use Rattle.priority_channel_core.specs.declared.errors.RecvFault.{RecvFault}
+use Rattle.priority_channel_core.specs.declared.errors.SendFault.{SendFault}
+use Rattle.priority_channel_core.specs.Errors.{unsent}
 use Rattle.priority_channel_waits.specs.declared.timeouts.SendTimeoutError.{SendTimeoutError}
 use Rattle.priority_channel_core.specs.declared.calls.Call.TheVariants as call
 use Rattle.priority_channel_core.specs.declared.calls.Answer.TheVariants as answer

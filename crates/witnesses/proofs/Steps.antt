@@ -2,9 +2,9 @@
 use Rattle.std.proofs.Common.{◌≡◌, ℕ, Bool, [], ◌∷◌, ap, arith, length, length-append, Result, Ok, Err}
 use Rattle.std.specs.Prelude.{IfOk}
 use Rattle.std.specs.declared.cmp.Ordering.{Ordering}
-use Rattle.priority_channel_parts.specs.declared.errors.TryRecvError.{TryRecvError}
-use Rattle.priority_channel_parts.specs.declared.errors.TrySendError.{TrySendError}
-use Rattle.priority_channel_parts.specs.declared.errors.TrySendError.TheVariants.{Full, Closed, Memory}
+use Rattle.priority_channel_core.specs.declared.errors.TryRecvError.{TryRecvError}
+use Rattle.priority_channel_core.specs.declared.errors.TrySendError.{TrySendError}
+use Rattle.priority_channel_core.specs.declared.errors.TrySendError.TheVariants.{Full, Closed, Memory}
 use Rattle.priority_channel_core.specs.declared.calls.Call.TheVariants as call
 use Rattle.priority_channel_core.specs.declared.calls.Answer.TheVariants as answer
 use Rattle.priority_channel_core.specs.machine.State.{Handed}

@@ -2,7 +2,7 @@
 //! sent comes back whole, through every conversion, which keeps the reason.
 ghost use Rattle.std.specs.Prelude.{◌≡◌};
 
-use priority_channel_parts::errors::{
+use priority_channel_core::errors::{
     RecvError, RecvFault, SendError, SendFault, TryRecvError, TryRecvManyError, TrySendError,
 };
 

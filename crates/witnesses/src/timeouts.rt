@@ -2,7 +2,7 @@
 //! a limit stays what it was, and what was to be sent comes back.
 ghost use Rattle.std.specs.Prelude.{◌≡◌};
 
-use priority_channel_parts::errors::{RecvError, RecvFault, SendError, SendFault};
+use priority_channel_core::errors::{RecvError, RecvFault, SendError, SendFault};
 use priority_channel_waits::timeouts::{RecvTimeoutError, SendTimeoutError};
 
 /// Of a send.

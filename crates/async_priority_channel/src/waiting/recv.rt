@@ -2,7 +2,7 @@
 ghost use Rattle.std.specs.Prelude.{◌≡◌, ⊤, None, Result};
 ghost use Rattle.futures.specs.Task.{Covers, Keeps};
 ghost use Rattle.futures.specs.Poll.{IfReady, OnPending};
-ghost use Rattle.priority_channel_parts.specs.declared.errors.RecvFault.{RecvFault};
+ghost use Rattle.priority_channel_core.specs.declared.errors.RecvFault.{RecvFault};
 ghost use Rattle.priority_channel_laws.specs.Holding.{unpolled, done};
 
 use crate::receiver::Receiver;

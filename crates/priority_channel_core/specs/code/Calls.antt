@@ -9,10 +9,10 @@ use Rattle.priority_channel_core.specs.declared.calls.Answer.{Answer}
 use Rattle.priority_channel_core.specs.declared.calls.Answer.TheVariants as answer
 use Rattle.priority_channel_core.specs.declared.calls.CorePoll.{CorePoll}
 use Rattle.priority_channel_core.specs.declared.calls.CorePoll.TheVariants.{Ready, Pending}
-use Rattle.priority_channel_parts.specs.declared.errors.TrySendError.{TrySendError}
-use Rattle.priority_channel_parts.specs.declared.errors.TrySendError.TheVariants as send_error
-use Rattle.priority_channel_parts.specs.declared.errors.SendFault.{SendFault}
-use Rattle.priority_channel_parts.specs.declared.errors.SendFault.TheVariants as send_fault
+use Rattle.priority_channel_core.specs.declared.errors.TrySendError.{TrySendError}
+use Rattle.priority_channel_core.specs.declared.errors.TrySendError.TheVariants as send_error
+use Rattle.priority_channel_core.specs.declared.errors.SendFault.{SendFault}
+use Rattle.priority_channel_core.specs.declared.errors.SendFault.TheVariants as send_fault
 use Rattle.priority_channel_core.specs.machine.State.{State, Handed}
 use Rattle.priority_channel_core.specs.machine.Step.{Step, Calls, Answers}
 use Rattle.priority_channel_core.specs.machine.Run.{Operation, Run}

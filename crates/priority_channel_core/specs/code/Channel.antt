@@ -1,12 +1,12 @@
 -- What callers see of a channel, and how its parts agree.
 use Rattle.std.specs.Prelude.{◌≡◌, ℕ, ◌+◌, ◌*◌, ◌≤◌, Bool, true, false, if◌then◌else◌, [], length}
 use Rattle.priority_channel_bag.specs.Digits.{digits}
-use Rattle.priority_channel_parts.specs.declared.side.Side.{Side}
-use Rattle.priority_channel_parts.specs.declared.side.Side.TheVariants.{Room, Message}
+use Rattle.priority_channel_core.specs.declared.side.Side.{Side}
+use Rattle.priority_channel_core.specs.declared.side.Side.TheVariants.{Room, Message}
 use Rattle.priority_channel_core.specs.machine.State.{State, room}
 use Rattle.priority_channel_core.specs.machine.Good.{IsGood}
 use Rattle.priority_channel_bag.specs.Bag.{Contents}
-use Rattle.priority_channel_parts.specs.Word.{Word}
+use Rattle.priority_channel_core.specs.Word.{Word}
 
 -- a state, how many comparisons of two priorities and of two tickets were made, and whether the
 -- least urgent pair is known without a search

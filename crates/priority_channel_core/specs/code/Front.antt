@@ -6,7 +6,7 @@ use Rattle.priority_channel_core.specs.declared.channel.bulk.Stop.TheVariants.{E
 use Rattle.priority_channel_core.specs.machine.State.{State, Handed}
 use Rattle.priority_channel_core.specs.machine.Sends.{AddsFront}
 use Rattle.priority_channel_core.specs.machine.Polls.{Ends}
-use Rattle.priority_channel_parts.specs.declared.side.Side.TheVariants.{Room}
+use Rattle.priority_channel_core.specs.declared.side.Side.TheVariants.{Room}
 use Rattle.priority_channel_bag.specs.Bag.{Contents}
 use Rattle.priority_channel_core.specs.code.Lists.{HasList}
 

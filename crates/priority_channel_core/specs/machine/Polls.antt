@@ -3,16 +3,16 @@
 use Rattle.std.specs.Prelude.{◌≡◌, ℕ, Option, Some, None, Result, Ok, Err}
 use Rattle.priority_channel_core.specs.declared.calls.CorePoll.{CorePoll}
 use Rattle.priority_channel_core.specs.declared.calls.CorePoll.TheVariants.{Ready, Pending}
-use Rattle.priority_channel_parts.specs.declared.side.Side.{Side}
-use Rattle.priority_channel_parts.specs.declared.errors.TrySendError.{TrySendError}
-use Rattle.priority_channel_parts.specs.declared.errors.TrySendError.TheVariants as try_send
-use Rattle.priority_channel_parts.specs.declared.errors.TryRecvError.{TryRecvError}
-use Rattle.priority_channel_parts.specs.declared.errors.TryRecvError.TheVariants as try_recv
-use Rattle.priority_channel_parts.specs.declared.errors.SendFault.{SendFault}
-use Rattle.priority_channel_parts.specs.declared.errors.SendFault.TheVariants as send
-use Rattle.priority_channel_parts.specs.declared.errors.RecvFault.{RecvFault}
-use Rattle.priority_channel_parts.specs.declared.errors.RecvFault.TheVariants as recv
-use Rattle.priority_channel_parts.specs.Waiters.{Enlists}
+use Rattle.priority_channel_core.specs.declared.side.Side.{Side}
+use Rattle.priority_channel_core.specs.declared.errors.TrySendError.{TrySendError}
+use Rattle.priority_channel_core.specs.declared.errors.TrySendError.TheVariants as try_send
+use Rattle.priority_channel_core.specs.declared.errors.TryRecvError.{TryRecvError}
+use Rattle.priority_channel_core.specs.declared.errors.TryRecvError.TheVariants as try_recv
+use Rattle.priority_channel_core.specs.declared.errors.SendFault.{SendFault}
+use Rattle.priority_channel_core.specs.declared.errors.SendFault.TheVariants as send
+use Rattle.priority_channel_core.specs.declared.errors.RecvFault.{RecvFault}
+use Rattle.priority_channel_core.specs.declared.errors.RecvFault.TheVariants as recv
+use Rattle.priority_channel_core.specs.Waiters.{Enlists}
 use Rattle.priority_channel_core.specs.machine.State.{State, Handed}
 
 -- What a poll answers by the reply of its try and the ticket under which its party waits. Only who

@@ -10,9 +10,9 @@ use Rattle.priority_channel_core.specs.machine.Good.{IsGood}
 use Rattle.priority_channel_core.specs.machine.Sends.{as_list, Refuses, Sends}
 use Rattle.priority_channel_core.specs.machine.Evicts.{Evicts}
 use Rattle.priority_channel_core.specs.machine.OtherCalls.{Receives, Takes, Closes, Looks, capacity_told, Clones, Drops}
-use Rattle.priority_channel_parts.specs.Waiters.{unlist}
+use Rattle.priority_channel_core.specs.Waiters.{unlist}
 use Rattle.priority_channel_core.specs.machine.Polls.{send_answer, recv_answer, Polls}
-use Rattle.priority_channel_parts.specs.declared.side.Side.TheVariants.{Room, Message}
+use Rattle.priority_channel_core.specs.declared.side.Side.TheVariants.{Room, Message}
 
 -- the machine's calls and answers: a bulk send is given a list, and hands a list back
 abbrev pub Calls : (T P W : Type 0) → Type 0

@@ -90,7 +90,7 @@ fn send_front<T: Drop, P: Ord + Drop, A: Allocator, I: Iterator<Item = (T, P)>>(
 impl<T: Drop, P: Ord + Drop, W: Clone, A: Allocator + Copy> PriorityQueueChannel<T, P, W, A> {
     ghost use Rattle.priority_channel_core.specs.machine.State.{room as room_of};
     ghost use Rattle.priority_channel_core.specs.machine.Good.{IsGood};
-    ghost use Rattle.priority_channel_parts.specs.Errors.{rest_of};
+    ghost use Rattle.priority_channel_core.specs.Errors.{rest_of};
     ghost use Rattle.priority_channel_core.specs.machine.Sends.{AddsFront};
     ghost use Rattle.priority_channel_core.specs.code.Replies.{OnFull, OnMemory};
     ghost use Rattle.priority_channel_core.specs.code.Calls.{Performs};

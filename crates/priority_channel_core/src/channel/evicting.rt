@@ -13,7 +13,7 @@ impl<T, P: Ord, W: Clone, A: Allocator + Copy> PriorityQueueChannel<T, P, W, A> 
     ghost use Rattle.priority_channel_core.specs.machine.State.{nobody};
     ghost use Rattle.priority_channel_core.specs.machine.Step.{Step};
     ghost use Rattle.priority_channel_bag.specs.Least.{NoneBelow};
-    ghost use Rattle.priority_channel_parts.specs.Errors.{rest_of};
+    ghost use Rattle.priority_channel_core.specs.Errors.{rest_of};
     ghost use Rattle.priority_channel_core.specs.code.Channel.{ComparesAtMost, search_for_least};
 
     /// Sends a pair, and into a full channel in place of the least urgent one that is pending, the

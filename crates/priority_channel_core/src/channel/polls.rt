@@ -4,8 +4,8 @@ ghost use Rattle.std.specs.Prelude.{◌≡◌, ◌≢◌, ◌⊎◌, ◌+◌, �
 ghost use Rattle.std.specs.Iterator.Adapters.{peekable_can};
 ghost use Rattle.std.specs.declared.iter.Ahead.{Ahead};
 ghost use Rattle.priority_channel_bag.specs.Digits.{digits};
-ghost use Rattle.priority_channel_parts.specs.Waiting.{is_given_listed};
-ghost use Rattle.priority_channel_parts.specs.Waiters.{on_side, unlist, search_bound};
+ghost use Rattle.priority_channel_core.specs.Waiting.{is_given_listed};
+ghost use Rattle.priority_channel_core.specs.Waiters.{on_side, unlist, search_bound};
 ghost use Rattle.priority_channel_core.specs.machine.Polls.{send_answer, recv_answer, Ends};
 ghost use Rattle.priority_channel_core.specs.code.Channel.{IsBlocked};
 ghost use Rattle.priority_channel_core.specs.code.Replies.{OnFull, OnMemoryFault, kept_by};

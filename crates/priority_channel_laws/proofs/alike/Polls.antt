@@ -8,21 +8,21 @@ use Rattle.priority_channel_core.specs.declared.calls.Call.TheVariants as call
 use Rattle.priority_channel_core.specs.declared.calls.Answer.TheVariants as answer
 use Rattle.priority_channel_core.specs.declared.calls.CorePoll.{CorePoll}
 use Rattle.priority_channel_core.specs.declared.calls.CorePoll.TheVariants.{Ready, Pending}
-use Rattle.priority_channel_parts.specs.declared.errors.TrySendError.{TrySendError}
-use Rattle.priority_channel_parts.specs.declared.errors.TrySendError.TheVariants as send_error
-use Rattle.priority_channel_parts.specs.declared.errors.TryRecvError.{TryRecvError}
-use Rattle.priority_channel_parts.specs.declared.errors.TryRecvError.TheVariants as recv_error
-use Rattle.priority_channel_parts.specs.declared.errors.SendFault.{SendFault}
-use Rattle.priority_channel_parts.specs.declared.errors.SendFault.TheVariants as send_fault
-use Rattle.priority_channel_parts.specs.declared.errors.RecvFault.{RecvFault}
-use Rattle.priority_channel_parts.specs.declared.errors.RecvFault.TheVariants as recv_fault
+use Rattle.priority_channel_core.specs.declared.errors.TrySendError.{TrySendError}
+use Rattle.priority_channel_core.specs.declared.errors.TrySendError.TheVariants as send_error
+use Rattle.priority_channel_core.specs.declared.errors.TryRecvError.{TryRecvError}
+use Rattle.priority_channel_core.specs.declared.errors.TryRecvError.TheVariants as recv_error
+use Rattle.priority_channel_core.specs.declared.errors.SendFault.{SendFault}
+use Rattle.priority_channel_core.specs.declared.errors.SendFault.TheVariants as send_fault
+use Rattle.priority_channel_core.specs.declared.errors.RecvFault.{RecvFault}
+use Rattle.priority_channel_core.specs.declared.errors.RecvFault.TheVariants as recv_fault
 use Rattle.priority_channel_core.specs.machine.State.{State, Handed}
 use Rattle.priority_channel_core.specs.machine.Sends.{as_list}
 use Rattle.priority_channel_core.specs.machine.Polls.{send_answer, recv_answer, Ends, Polls}
 use Rattle.priority_channel_core.specs.machine.Step.{Moves}
 use Rattle.priority_channel_laws.specs.Accepted.{poll_sent, accepted_by}
 use Rattle.priority_channel_laws.specs.Alike.{is_memory, SameState}
-use Rattle.priority_channel_parts.specs.declared.side.Side.{Side}
+use Rattle.priority_channel_core.specs.declared.side.Side.{Side}
 use Rattle.priority_channel_laws.proofs.runs.Effects.{poll_sent-is, accepted_one-is}
 use Rattle.priority_channel_laws.proofs.alike.Lists.{same_waiting, same_enlists}
 use Rattle.priority_channel_laws.proofs.alike.Calls.{Both, sends_same, receives_same}

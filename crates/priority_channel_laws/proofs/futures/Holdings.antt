@@ -10,15 +10,15 @@ use Rattle.priority_channel_core.specs.declared.calls.Answer.{Answer}
 use Rattle.priority_channel_core.specs.declared.calls.Answer.TheVariants as answer
 use Rattle.priority_channel_core.specs.declared.calls.CorePoll.{CorePoll}
 use Rattle.priority_channel_core.specs.declared.calls.CorePoll.TheVariants.{Ready, Pending}
-use Rattle.priority_channel_parts.specs.declared.errors.SendFault.{SendFault}
-use Rattle.priority_channel_parts.specs.declared.errors.SendFault.TheVariants as send_fault
+use Rattle.priority_channel_core.specs.declared.errors.SendFault.{SendFault}
+use Rattle.priority_channel_core.specs.declared.errors.SendFault.TheVariants as send_fault
 use Rattle.priority_channel_core.specs.machine.State.{State, Handed}
-use Rattle.priority_channel_parts.specs.declared.errors.TrySendError.{TrySendError}
-use Rattle.priority_channel_parts.specs.declared.errors.TrySendError.TheVariants as send_error
-use Rattle.priority_channel_parts.specs.Errors.{rest_of}
+use Rattle.priority_channel_core.specs.declared.errors.TrySendError.{TrySendError}
+use Rattle.priority_channel_core.specs.declared.errors.TrySendError.TheVariants as send_error
+use Rattle.priority_channel_core.specs.Errors.{rest_of}
 use Rattle.priority_channel_core.specs.machine.Sends.{Sends}
 use Rattle.priority_channel_core.specs.machine.Polls.{send_answer, Polls}
-use Rattle.priority_channel_parts.specs.declared.side.Side.TheVariants.{Room}
+use Rattle.priority_channel_core.specs.declared.side.Side.TheVariants.{Room}
 use Rattle.priority_channel_core.specs.code.Calls.{Performs, SamePoll, SameReply}
 use Rattle.priority_channel_core.specs.code.Replies.{kept_by}
 use Rattle.priority_channel_core.proofs.Polls.{kept_callable}

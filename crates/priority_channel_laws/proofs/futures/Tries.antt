@@ -5,15 +5,15 @@ use Rattle.futures.specs.declared.task.Poll.{Poll}
 use Rattle.futures.specs.declared.task.Poll.TheVariants as poll
 use Rattle.futures.specs.Poll.{IfReady, OnPending}
 use Rattle.std.specs.declared.cmp.Ordering.{Ordering}
-use Rattle.priority_channel_parts.specs.declared.errors.RecvError.{RecvError}
-use Rattle.priority_channel_parts.specs.declared.errors.RecvFault.TheVariants as recv_fault
-use Rattle.priority_channel_parts.specs.declared.errors.SendFault.{SendFault}
-use Rattle.priority_channel_parts.specs.declared.errors.SendFault.TheVariants as send_fault
-use Rattle.priority_channel_parts.specs.declared.errors.TryRecvError.TheVariants as recv_error
-use Rattle.priority_channel_parts.specs.declared.errors.TrySendError.{TrySendError}
-use Rattle.priority_channel_parts.specs.declared.errors.TrySendError.TheVariants as send_error
+use Rattle.priority_channel_core.specs.declared.errors.RecvError.{RecvError}
+use Rattle.priority_channel_core.specs.declared.errors.RecvFault.TheVariants as recv_fault
+use Rattle.priority_channel_core.specs.declared.errors.SendFault.{SendFault}
+use Rattle.priority_channel_core.specs.declared.errors.SendFault.TheVariants as send_fault
+use Rattle.priority_channel_core.specs.declared.errors.TryRecvError.TheVariants as recv_error
+use Rattle.priority_channel_core.specs.declared.errors.TrySendError.{TrySendError}
+use Rattle.priority_channel_core.specs.declared.errors.TrySendError.TheVariants as send_error
 use Rattle.priority_channel_bag.specs.Digits.{digits}
-use Rattle.priority_channel_parts.specs.Errors.{rest_of}
+use Rattle.priority_channel_core.specs.Errors.{rest_of}
 use Rattle.priority_channel_core.specs.declared.calls.Call.TheVariants as call
 use Rattle.priority_channel_core.specs.declared.calls.Answer.TheVariants as answer
 use Rattle.priority_channel_core.specs.declared.calls.CorePoll.TheVariants.{Ready}
@@ -21,9 +21,9 @@ use Rattle.priority_channel_core.specs.machine.State.{State, Handed}
 use Rattle.priority_channel_core.specs.machine.Good.{IsGood}
 use Rattle.priority_channel_core.specs.machine.Step.{Step}
 use Rattle.priority_channel_core.specs.code.Calls.{Performs}
-use Rattle.priority_channel_parts.specs.Waiters.{unlist, search_bound}
-use Rattle.priority_channel_parts.specs.declared.side.Side.{Side}
-use Rattle.priority_channel_parts.specs.declared.side.Side.TheVariants.{Room, Message}
+use Rattle.priority_channel_core.specs.Waiters.{unlist, search_bound}
+use Rattle.priority_channel_core.specs.declared.side.Side.{Side}
+use Rattle.priority_channel_core.specs.declared.side.Side.TheVariants.{Room, Message}
 use Rattle.priority_channel_core.specs.machine.Sends.{as_list, AddsFront}
 use Rattle.priority_channel_core.specs.machine.Polls.{Polls}
 use Rattle.priority_channel_core.specs.code.Channel.{CountedState, ComparesAtMost}

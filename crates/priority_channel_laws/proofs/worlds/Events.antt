@@ -4,7 +4,7 @@ use Rattle.std.specs.Prelude.{Option, Some, None, slice_get}
 use Rattle.std.proofs.lemmas.Option.{slice_get_within, get_or_from_slice_get}
 use Rattle.std.specs.declared.cmp.Ordering.{Ordering}
 use Rattle.priority_channel_core.specs.machine.State.{State, Handed, nobody}
-use Rattle.priority_channel_parts.specs.Waiting.{without_given}
+use Rattle.priority_channel_core.specs.Waiting.{without_given}
 use Rattle.priority_channel_laws.specs.WaitingLaw.{waker_of}
 use Rattle.priority_channel_core.specs.machine.Good.{IsGood}
 use Rattle.priority_channel_core.specs.machine.Step.{Step, Answers}
@@ -12,10 +12,10 @@ use Rattle.priority_channel_laws.specs.Future.{Tasks, Standing, Futures, ticket_
 use Rattle.priority_channel_laws.specs.World.{World, Event, standing_after, call_out, PollsFuture, GivesUpTicket, Happens, Leads, IsOpening}
 use Rattle.priority_channel_laws.specs.Future.Standing.{New, Waiting, Called, Done}
 use Rattle.priority_channel_laws.specs.World.Event.{Makes, Polls, GivesUp}
-use Rattle.priority_channel_parts.specs.declared.side.Side.{Side}
-use Rattle.priority_channel_parts.specs.Waiters.{Waiters, on_side, unlist}
+use Rattle.priority_channel_core.specs.declared.side.Side.{Side}
+use Rattle.priority_channel_core.specs.Waiters.{Waiters, on_side, unlist}
 use Rattle.priority_channel_laws.specs.WaitingLaw.{side_of, CanGoOn, NobodyIsForgotten, GivenOnce, CalledBy}
-use Rattle.priority_channel_parts.specs.declared.side.Side.TheVariants.{Room, Message}
+use Rattle.priority_channel_core.specs.declared.side.Side.TheVariants.{Room, Message}
 use Rattle.priority_channel_laws.proofs.worlds.Positions.{mapped_at, at_mapped, changed_at}
 use Rattle.priority_channel_laws.proofs.worlds.Hands.{Hands, hands}
 use Rattle.priority_channel_laws.proofs.worlds.Worlds.{Keeps, Changes, keeps-call_out, keeps-change, called_from}

@@ -5,9 +5,9 @@ use Rattle.std.specs.List.{All}
 use Rattle.std.proofs.Common.{eq-eqb}
 use Rattle.std.proofs.lemmas.Bool.{ne_eqb}
 use Rattle.std.proofs.lemmas.Bool.Decides.{eqb_tells}
-use Rattle.priority_channel_parts.specs.Waiting.{is_listed, without, with_waker, listing, fresh, Listing}
+use Rattle.priority_channel_core.specs.Waiting.{is_listed, without, with_waker, listing, fresh, Listing}
 use Rattle.priority_channel_laws.specs.WaitingLaw.{waker_of}
-use Rattle.priority_channel_parts.proofs.Tickets.{unlisted_above}
+use Rattle.priority_channel_core.proofs.Tickets.{unlisted_above}
 
 module _ {W : Type 0} where
   -- what a map is once it has this value at u

@@ -7,12 +7,12 @@ use Rattle.std.specs.declared.cmp.Ordering.{Ordering}
 use Rattle.priority_channel_core.specs.declared.calls.Answer.TheVariants as answer
 use Rattle.priority_channel_core.specs.declared.calls.CorePoll.{CorePoll}
 use Rattle.priority_channel_core.specs.declared.calls.CorePoll.TheVariants.{Ready, Pending}
-use Rattle.priority_channel_parts.specs.declared.errors.SendFault.{SendFault}
-use Rattle.priority_channel_parts.specs.declared.errors.RecvFault.{RecvFault}
-use Rattle.priority_channel_parts.specs.declared.side.Side.{Side}
-use Rattle.priority_channel_parts.specs.declared.side.Side.TheVariants.{Room, Message}
-use Rattle.priority_channel_parts.specs.Waiting.{Listing, listing}
-use Rattle.priority_channel_parts.specs.Waiters.{Waiters, on_side, unlist, enlist}
+use Rattle.priority_channel_core.specs.declared.errors.SendFault.{SendFault}
+use Rattle.priority_channel_core.specs.declared.errors.RecvFault.{RecvFault}
+use Rattle.priority_channel_core.specs.declared.side.Side.{Side}
+use Rattle.priority_channel_core.specs.declared.side.Side.TheVariants.{Room, Message}
+use Rattle.priority_channel_core.specs.Waiting.{Listing, listing}
+use Rattle.priority_channel_core.specs.Waiters.{Waiters, on_side, unlist, enlist}
 use Rattle.priority_channel_core.specs.machine.State.{State, Handed}
 use Rattle.priority_channel_core.specs.machine.Good.{IsGood}
 use Rattle.priority_channel_core.specs.machine.Sends.{as_list}

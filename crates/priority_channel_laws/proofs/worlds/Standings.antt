@@ -4,13 +4,13 @@ use Rattle.std.specs.Prelude.{Option, Some, None, slice_get, ◌==◌}
 use Rattle.std.specs.List.{All}
 use Rattle.std.proofs.lemmas.Bool.{ne_eqb}
 use Rattle.std.proofs.lemmas.Bool.Decides.{eqb_tells}
-use Rattle.priority_channel_parts.specs.Waiting.{without_given, listing}
+use Rattle.priority_channel_core.specs.Waiting.{without_given, listing}
 use Rattle.priority_channel_laws.specs.WaitingLaw.{waker_of}
 use Rattle.priority_channel_laws.specs.Future.{Futures, ticket_of}
 use Rattle.priority_channel_laws.specs.Future.Standing.{Waiting, Done}
-use Rattle.priority_channel_parts.specs.declared.side.Side.{Side}
+use Rattle.priority_channel_core.specs.declared.side.Side.{Side}
 use Rattle.priority_channel_laws.specs.WaitingLaw.{side_of}
-use Rattle.priority_channel_parts.specs.declared.side.Side.TheVariants.{Room, Message}
+use Rattle.priority_channel_core.specs.declared.side.Side.TheVariants.{Room, Message}
 use Rattle.priority_channel_laws.proofs.worlds.Positions.{Some-same}
 use Rattle.priority_channel_laws.proofs.worlds.Lookups.{put, waker_of-without, waker_of-listing, waker_of-listed, ticket_listed}
 use Rattle.priority_channel_laws.proofs.worlds.Worlds.{Keeps, Changes}

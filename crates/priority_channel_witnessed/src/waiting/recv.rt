@@ -2,7 +2,7 @@
 ghost use Rattle.std.specs.Prelude.{◌≡◌, ⊤, Some, None, Result};
 ghost use Rattle.futures.specs.Task.{Covers, Keeps};
 ghost use Rattle.futures.specs.Poll.{IfReady, OnPending};
-ghost use Rattle.priority_channel_parts.specs.declared.errors.RecvFault.{RecvFault};
+ghost use Rattle.priority_channel_core.specs.declared.errors.RecvFault.{RecvFault};
 ghost use Rattle.priority_channel_witnessed.specs.Passes.{Carried};
 ghost use Rattle.priority_channel_witnessed.specs.Futures.{GivesRecv, WaitsRecv, ListsRecv};
 ghost use Rattle.priority_channel_witnessed.specs.Waits.{IsAnswered, AnswersRecv, recv_in_time};

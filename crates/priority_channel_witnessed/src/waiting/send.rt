@@ -2,7 +2,7 @@
 ghost use Rattle.std.specs.Prelude.{◌≡◌, ⊤, Some, None, Err, IfOk, IfErr};
 ghost use Rattle.futures.specs.Task.{Covers, Keeps};
 ghost use Rattle.futures.specs.Poll.{IfReady, OnPending};
-ghost use Rattle.priority_channel_parts.specs.Errors.{unsent};
+ghost use Rattle.priority_channel_core.specs.Errors.{unsent};
 ghost use Rattle.priority_channel_witnessed.specs.Futures.{GivesSend, WaitsSend, ListsSend};
 ghost use Rattle.priority_channel_witnessed.specs.Waits.{IsAnswered, AnswersSend, send_in_time};
 

@@ -1,6 +1,6 @@
 //! Sending a pair on a thread that waits for room.
 ghost use Rattle.std.specs.Prelude.{◌≡◌, IfErr, IfSome};
-ghost use Rattle.priority_channel_parts.specs.Errors.{rest_of, unsent};
+ghost use Rattle.priority_channel_core.specs.Errors.{rest_of, unsent};
 ghost use Rattle.priority_channel_core.specs.code.Replies.{kept_by};
 ghost use Rattle.priority_channel_waits.specs.Waits.{unsent_in_time};
 ghost use Rattle.priority_channel_witnessed.specs.Passes.{Tells};

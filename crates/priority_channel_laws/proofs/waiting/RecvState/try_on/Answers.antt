@@ -1,5 +1,5 @@
 use Rattle.std.proofs.Common.{rules, Err, arith}
-use Rattle.priority_channel_parts.specs.declared.errors.TryRecvError.TheVariants as recv_error
+use Rattle.priority_channel_core.specs.declared.errors.TryRecvError.TheVariants as recv_error
 use Rattle.priority_channel_core.specs.declared.calls.Call.TheVariants as call
 use Rattle.priority_channel_core.specs.declared.calls.Answer.TheVariants as answer
 use Rattle.priority_channel_core.specs.machine.Step.{Step}

@@ -1,5 +1,5 @@
 use Rattle.std.proofs.Common.{rules, Ok, Err, refl, inl, inr}
-use Rattle.priority_channel_parts.specs.declared.errors.TrySendError.TheVariants.{Full, Closed, Memory}
+use Rattle.priority_channel_core.specs.declared.errors.TrySendError.TheVariants.{Full, Closed, Memory}
 use Rattle.priority_channel_witnessed.specs.Items.{list_in}
 use Rattle.priority_channel_witnessed.proofs.Waits.{tried_last, tried_before}
 use Rattle.priority_channel_witnessed.proofs.witnessed.waits.sendv.Witnessed+T+P+Waiter+A+J+A.sendv_until.Goals as goal

@@ -1,0 +1,58 @@
+-- Who waits for a channel, on each of its two sides.
+use Rattle.std.specs.Prelude.{◌≡◌, true, false, ℕ, ◌+◌, ◌<◌, List, [], length, Option, Some, None}
+use Rattle.std.specs.List.{All}
+use Rattle.priority_channel_bag.specs.Digits.{digits}
+use Rattle.priority_channel_core.specs.declared.side.Side.{Side}
+use Rattle.priority_channel_core.specs.declared.side.Side.TheVariants.{Room, Message}
+use Rattle.priority_channel_core.specs.Waiting.{Listing, IsRising, is_listed, without_given, listing}
+
+pub record Waiters (W : Type 0) : Type 0 where
+  -- who waits for room, and who waits for a message, each with the waker kept under its ticket
+  pub room : List (ℕ × W)
+  pub message : List (ℕ × W)
+  pub next_ticket : ℕ
+
+module _ {W : Type 0} where
+  abbrev pub no_waiters : Waiters W
+  no_waiters = record { room = []; message = []; next_ticket = 0 }
+
+  abbrev pub on_side : Side → Waiters W → List (ℕ × W)
+  on_side Room waiters = waiters.room
+  on_side Message waiters = waiters.message
+
+  -- the given ticket, if there is one, in neither list
+  abbrev pub unlist : Option ℕ → Waiters W → Waiters W
+  unlist given waiters = record waiters {
+    room = without_given given waiters.room;
+    message = without_given given waiters.message;
+  }
+
+  -- the waiters once a party is listed on a side
+  abbrev pub enlist : Side → Listing W → Waiters W → Waiters W
+  enlist Room listed waiters =
+      record waiters { room = listed.waiters; next_ticket = listed.next_ticket }
+  enlist Message listed waiters =
+      record waiters { message = listed.waiters; next_ticket = listed.next_ticket }
+
+  -- a party is listed on a side under this ticket, with a clone of its waker; without a ticket it
+  -- is in neither list
+  abbrev pub Enlists : (W → W → Type 0) → Side → Option ℕ → W → Option ℕ
+      → Waiters W → Waiters W → Type 0
+  Enlists is_clone side given waker None old new = new ≡ unlist given old
+  Enlists is_clone side given waker (Some ticket) old new =
+      (kept : W) × is_clone waker kept
+      × (let listed = listing given kept (on_side side old) old.next_ticket in
+      (ticket ≡ listed.ticket) × (new ≡ enlist side listed old))
+
+  -- in each list the tickets rise, each was given before the next one, and none is in both
+  pub record HasOwnTickets (waiters : Waiters W) : Type 0 where
+    pub room_rises : IsRising waiters.room
+    pub message_rises : IsRising waiters.message
+    pub room_given : All (λ a. a.0 < waiters.next_ticket) waiters.room
+    pub message_given : All (λ a. a.0 < waiters.next_ticket) waiters.message
+    pub apart : (ticket : ℕ) → is_listed ticket waiters.room ≡ true
+        → is_listed ticket waiters.message ≡ false
+
+  -- how many tickets a search by halving in both lists compares at most
+  abbrev pub search_bound : Waiters W → ℕ
+  search_bound waiters = digits (length waiters.room) + digits (length waiters.message)

@@ -1,0 +1,28 @@
+-- The word of a channel: how many pairs are pending, whether it is closed, and who waits.
+use Rattle.std.specs.Prelude.{ℕ, ◌%◌, ◌^◌, Bool, List, [], nat_le}
+use Rattle.priority_channel_core.specs.Waiters.{Waiters}
+
+pub record Word (W : Type 0) : Type 0 where
+  pub is_closed : Bool
+  pub count : ℕ
+  pub waiters : Waiters W
+
+-- a word, and how many comparisons of two ticket numbers it has made
+pub record CountedWord (W : Type 0) : Type 0 where
+  pub word : Word W
+  pub comparisons : ℕ
+
+-- whom a step hands out: those who waited for room, and those who waited for a message
+pub record Handed (W : Type 0) : Type 0 where
+  pub room : List (ℕ × W)
+  pub message : List (ℕ × W)
+
+abbrev pub nobody : {W : Type 0} → Handed W
+nobody = record { room = []; message = [] }
+
+-- bit 63 of a packed word, and the number below it
+abbrev pub closed_bit : ℕ → Bool
+closed_bit packed = nat_le (2 ^ 63) packed
+
+abbrev pub count_below : ℕ → ℕ
+count_below packed = packed % 2 ^ 63

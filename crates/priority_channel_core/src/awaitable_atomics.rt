@@ -1,0 +1,272 @@
+//! A count with a closed bit in one word, and the parties that wait for the count to change.
+//!
+//! The small calls of the hot path are inlined by force: their answers would go through memory, and
+//! be read back at once.
+ghost use Rattle.std.specs.Prelude.{◌≡◌, ◌+◌, ◌-◌, ◌<◌, ◌≤◌, ◌^◌, ◌==◌, if◌then◌else◌, [], IsSome, true, false, Some};
+ghost use Rattle.priority_channel_core.specs.Word.{nobody};
+ghost use Rattle.priority_channel_core.specs.Waiting.{is_given_listed};
+ghost use Rattle.priority_channel_core.specs.Waiters.{HasOwnTickets, no_waiters, on_side, unlist, Enlists, search_bound};
+ghost use Rattle.priority_channel_core.specs.Word.{closed_bit, count_below};
+
+use crate::side::Side;
+use crate::waiting_list::WaitingList;
+use priority_channel_bag::comparisons::Comparisons;
+use std::alloc::{Allocator, Global};
+use std::marker::Model;
+
+const CLOSED_BIT: u64 = 1 << 63;
+
+/// Whom a step hands out: those who waited for room, and those who waited for a message. It must be
+/// spent, by `into_lists`.
+pub struct Wakes<W, A: Allocator = Global> {
+    room: Vec<(u64, W), A>,
+    message: Vec<(u64, W), A>,
+}
+
+impl<W, A: Allocator> Model for Wakes<W, A> {
+    ghost use Rattle.priority_channel_core.specs.Word.{Handed};
+
+    ghost Value = { Handed W };
+
+    ghost view = { λ w. record { room = w.room.items; message = w.message.items } };
+}
+
+impl<W, A: Allocator> Wakes<W, A> {
+    /// First those who waited for room, then those who waited for a message, each under its ticket.
+    #[inline(always)]
+    pub fn into_lists(self) -> (Vec<(u64, W), A>, Vec<(u64, W), A>)
+        ensures room { result.0.items ≡ self.room }
+        ensures message { result.1.items ≡ self.message }
+    {
+        let Wakes { room, message } = self;
+        (room, message)
+    }
+}
+
+impl<W, A: Allocator + Copy> Wakes<W, A> {
+    /// Nobody is handed out, which takes no memory.
+    #[inline(always)]
+    pub fn nobody(alloc: A) -> Self
+        ensures { result ≡ nobody }
+    {
+        Wakes {
+            room: Vec::new(alloc),
+            message: Vec::new(alloc),
+        }
+    }
+}
+
+/// A count below 2^63 and a closed bit, in one word, and the parties that wait: for the count to
+/// fall, so that there is room, or to rise, so that there is a message. The name is the Rust
+/// crate's: here nothing is atomic, since a lock guards the channel.
+///
+/// A waiting party is known by its ticket, a number that is given once. Whom a call hands out is
+/// moved out as whole lists, so no call that hands out takes memory.
+///
+/// ```
+/// let mut length: AwaitableAtomicCounterAndBit<Waker> = AwaitableAtomicCounterAndBit::new(alloc, 5);
+/// let (before, wakes) = length.incr(2);
+/// assert_eq!(rt; before, (false, 5));
+/// let (_for_room, _for_message) = wakes.into_lists();
+/// ```
+#[derive(Drop)]
+pub struct AwaitableAtomicCounterAndBit<W, A: Allocator = Global> {
+    alloc: A,
+    packed: u64,
+    room_waiters: WaitingList<W, A>,
+    message_waiters: WaitingList<W, A>,
+    next_ticket: u64,
+    comparisons: Comparisons,
+}
+
+impl<W, A: Allocator> Model for AwaitableAtomicCounterAndBit<W, A> {
+    ghost use Rattle.priority_channel_core.specs.Waiters.{HasOwnTickets};
+    ghost use Rattle.priority_channel_core.specs.Word.{CountedWord, closed_bit, count_below};
+
+    ghost Value = { CountedWord W };
+
+    ghost view = { λ a. record {
+      word = record {
+        is_closed = closed_bit a.packed;
+        count = count_below a.packed;
+        waiters = record {
+          room = a.room_waiters;
+          message = a.message_waiters;
+          next_ticket = a.next_ticket;
+        };
+      };
+      comparisons = a.comparisons.count;
+    } };
+
+    ghost invariant = { λ a. HasOwnTickets (record {
+      room = a.room_waiters;
+      message = a.message_waiters;
+      next_ticket = a.next_ticket;
+    }) };
+}
+
+#[inline(always)]
+fn unpack(packed: u64) -> (bool, u64)
+    ensures bit { result.0 ≡ closed_bit packed }
+    ensures count { result.1 ≡ count_below packed }
+{
+    (packed & CLOSED_BIT > 0, packed & !CLOSED_BIT)
+}
+
+impl<W, A: Allocator + Copy> AwaitableAtomicCounterAndBit<W, A> {
+    /// An open word of this count, for which nobody waits. It takes no memory.
+    pub fn new(alloc: A, value: u64) -> Self
+        requires { value < 2 ^ 63 }
+        ensures word { result.word ≡ record {
+          is_closed = false;
+          count = value;
+          waiters = no_waiters;
+        } }
+        ensures tickets { HasOwnTickets result.word.waiters }
+    {
+        AwaitableAtomicCounterAndBit {
+            alloc,
+            packed: value,
+            room_waiters: WaitingList::new(alloc),
+            message_waiters: WaitingList::new(alloc),
+            next_ticket: 0,
+            comparisons: Comparisons::new(),
+        }
+    }
+
+    /// The bit and the count.
+    #[inline(always)]
+    pub fn load(&self) -> (bool, u64)
+        ensures bit { result.0 ≡ self.now.word.is_closed }
+        ensures count { result.1 ≡ self.now.word.count }
+    {
+        unpack(self.packed)
+    }
+
+    /// Sets the bit, answers the bit before, and hands out everybody.
+    pub fn set_bit(&mut self) -> (bool, Wakes<W, A>)
+        ensures bit { result.0 ≡ self.old.word.is_closed }
+        ensures handed { result.1 ≡ record {
+          room = self.old.word.waiters.room;
+          message = self.old.word.waiters.message;
+        } }
+        ensures word { self.new.word ≡ record self.old.word {
+          is_closed = true;
+          waiters = record self.old.word.waiters { room = []; message = [] };
+        } }
+        ensures tickets { HasOwnTickets self.new.word.waiters }
+        ensures comparisons { self.new.comparisons ≡ self.old.comparisons }
+    {
+        let (was_closed, _) = unpack(self.packed);
+        self.packed |= CLOSED_BIT;
+        let room = self.room_waiters.take(self.alloc);
+        let message = self.message_waiters.take(self.alloc);
+        (was_closed, Wakes { room, message })
+    }
+
+    /// Adds to the count, and answers the bit and the count before. Where the count rises, those
+    /// who wait for a message are handed out.
+    #[inline(always)]
+    pub fn incr(&mut self, n: u64) -> ((bool, u64), Wakes<W, A>)
+        requires { self.old.word.count + n < 2 ^ 63 }
+        ensures bit { result.0.0 ≡ self.old.word.is_closed }
+        ensures count { result.0.1 ≡ self.old.word.count }
+        ensures handed { result.1 ≡ (if n == 0 then nobody
+            else record { room = []; message = self.old.word.waiters.message }) }
+        ensures word { self.new.word ≡ record self.old.word {
+          count = self.old.word.count + n;
+          waiters = record self.old.word.waiters {
+            message = if n == 0 then self.old.word.waiters.message else [];
+          };
+        } }
+        ensures tickets { HasOwnTickets self.new.word.waiters }
+        ensures comparisons { self.new.comparisons ≡ self.old.comparisons }
+    {
+        let before = unpack(self.packed);
+        self.packed += n;
+        let room = Vec::new(self.alloc);
+        let message = if n > 0 {
+            self.message_waiters.take(self.alloc)
+        } else {
+            Vec::new(self.alloc)
+        };
+        (before, Wakes { room, message })
+    }
+
+    /// Takes from the count, and answers the bit and the count before. Where the count falls, those
+    /// who wait for room are handed out.
+    #[inline(always)]
+    pub fn decr(&mut self, n: u64) -> ((bool, u64), Wakes<W, A>)
+        requires { n ≤ self.old.word.count }
+        ensures bit { result.0.0 ≡ self.old.word.is_closed }
+        ensures count { result.0.1 ≡ self.old.word.count }
+        ensures handed { result.1 ≡ (if n == 0 then nobody
+            else record { room = self.old.word.waiters.room; message = [] }) }
+        ensures word { self.new.word ≡ record self.old.word {
+          count = self.old.word.count - n;
+          waiters = record self.old.word.waiters {
+            room = if n == 0 then self.old.word.waiters.room else [];
+          };
+        } }
+        ensures tickets { HasOwnTickets self.new.word.waiters }
+        ensures comparisons { self.new.comparisons ≡ self.old.comparisons }
+    {
+        let before = unpack(self.packed);
+        self.packed -= n;
+        let room = if n > 0 {
+            self.room_waiters.take(self.alloc)
+        } else {
+            Vec::new(self.alloc)
+        };
+        let message = Vec::new(self.alloc);
+        (before, Wakes { room, message })
+    }
+
+    /// The party of this ticket waits no more. An unknown ticket changes nothing.
+    pub fn unlisten(&mut self, ticket: u64)
+    where
+        W: Drop,
+        ensures word { self.new.word
+            ≡ record self.old.word { waiters = unlist (Some ticket) self.old.word.waiters } }
+        ensures tickets { HasOwnTickets self.new.word.waiters }
+        ensures cost { self.new.comparisons
+            ≤ self.old.comparisons + search_bound self.old.word.waiters }
+    {
+        self.room_waiters.remove(ticket, &mut self.comparisons);
+        self.message_waiters.remove(ticket, &mut self.comparisons);
+    }
+}
+
+impl<W: Clone, A: Allocator + Copy> AwaitableAtomicCounterAndBit<W, A> {
+    /// Lists a party on a side, under its own ticket where that stands there, and else under the
+    /// next one. None where the clone of the waker or memory for its entry was refused, or where
+    /// the numbers ran out; it is then listed nowhere.
+    pub fn listen(&mut self, side: Side, ticket: Option<u64>, waker: &W) -> Option<u64>
+        ensures enlists { Enlists W.is_clone side ticket waker.now result self.old.word.waiters
+            self.new.word.waiters }
+        ensures word { self.new.word ≡ record self.old.word { waiters = self.new.word.waiters } }
+        ensures renewed { is_given_listed ticket (on_side side self.old.word.waiters) ≡ true
+            → W.is_infallible waker.now → IsSome result }
+        ensures tickets { HasOwnTickets self.new.word.waiters }
+        ensures fits { self.new.word.waiters.next_ticket < 2 ^ 64 }
+        ensures cost { self.new.comparisons
+            ≤ self.old.comparisons + search_bound self.old.word.waiters }
+    {
+        match side {
+            Side::Room => self.room_waiters.listen_beside(
+                &mut self.message_waiters,
+                ticket,
+                waker,
+                &mut self.next_ticket,
+                &mut self.comparisons,
+            ),
+            Side::Message => self.message_waiters.listen_beside(
+                &mut self.room_waiters,
+                ticket,
+                waker,
+                &mut self.next_ticket,
+                &mut self.comparisons,
+            ),
+        }
+    }
+}

@@ -1,4 +1,0 @@
-pub mod Waiting
-pub mod Waiters
-pub mod Word
-pub mod Errors
