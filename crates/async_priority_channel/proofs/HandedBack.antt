@@ -7,9 +7,9 @@ use Rattle.futures.specs.declared.task.Poll.TheVariants as poll
 use Rattle.futures.specs.Poll.{IfReady, OnPending}
 use Rattle.priority_channel_core.specs.declared.errors.SendFault.{SendFault}
 use Rattle.priority_channel_core.specs.declared.errors.SendFault.TheVariants as send_fault
-use Rattle.priority_channel_laws.specs.Holding.{handed_back, HoldsTail}
+use Rattle.priority_channel_waiting.specs.Holding.{handed_back, HoldsTail}
 use Rattle.async_priority_channel.specs.Handles.{Underway, HandsBackTail}
-use Rattle.priority_channel_waits.specs.Tails.{tail_of_itself, tail_of_tail}
+use Rattle.priority_channel_waiting.specs.Tails.{tail_of_itself, tail_of_tail}
 
 module _ {X M : Type 0} (holds : M → List X → Type 0) (can : M → Type 0) where
   -- given up at once

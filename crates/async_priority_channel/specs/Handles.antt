@@ -2,7 +2,7 @@
 use Rattle.std.specs.Prelude.{◌≡◌, ℕ, Bool, true, List, [], IfErr, IfSome, Option, Some, None, Result}
 use Rattle.priority_channel_core.specs.declared.errors.SendFault.{SendFault}
 use Rattle.priority_channel_core.specs.Errors.{unsent}
-use Rattle.priority_channel_laws.specs.Holding.{Holding, HoldsTail}
+use Rattle.priority_channel_waiting.specs.Holding.{Holding, HoldsTail}
 use Rattle.priority_channel_core.specs.declared.side.Side.{Side}
 use Rattle.priority_channel_core.specs.declared.side.Side.TheVariants.{Room, Message}
 

@@ -5,7 +5,7 @@ ghost use Rattle.priority_channel_core.specs.machine.State.{opening};
 use crate::receiver::Receiver;
 use crate::sender::Sender;
 use crate::shared::Handle;
-use priority_channel_waits::waiter::Core;
+use priority_channel_waiting::waiter::Core;
 use std::alloc::{AllocError, Allocator, Global};
 use std::sync::Wait;
 

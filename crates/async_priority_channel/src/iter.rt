@@ -4,10 +4,10 @@ ghost use Rattle.std.specs.Iterator.{at_most};
 
 use crate::receiver::Receiver;
 use crate::shared::Handle;
-use priority_channel_waits::attempts::Receive;
-use priority_channel_waits::timeouts::Ended;
-use priority_channel_waits::until::Endless;
-use priority_channel_waits::waiter::Waiter;
+use priority_channel_waiting::attempts::Receive;
+use priority_channel_waiting::timeouts::Ended;
+use priority_channel_waiting::until::Endless;
+use priority_channel_waiting::waiter::Waiter;
 use std::alloc::{Allocator, Global};
 use std::iter::FusedIterator;
 use std::sync::Wait;

@@ -249,7 +249,7 @@ pub use priority_channel_core::errors::{
 };
 pub use priority_channel_laws::laws;
 pub use priority_channel_recorded as recorded;
-pub use priority_channel_waits::timeouts::{RecvTimeoutError, SendTimeoutError};
+pub use priority_channel_waiting::timeouts::{RecvTimeoutError, SendTimeoutError};
 pub use receiver::Receiver;
 pub use sender::Sender;
 pub use stream::{IntoStream, RecvStream};

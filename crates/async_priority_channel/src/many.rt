@@ -10,7 +10,7 @@ use crate::stream::Receives;
 use futures::Future;
 use futures::task::{Context, Poll};
 use priority_channel_core::errors::{RecvError, RecvFault, TryRecvManyError};
-use priority_channel_waits::attempts::{Outcome, Receive};
+use priority_channel_waiting::attempts::{Outcome, Receive};
 use std::alloc::{Allocator, Global};
 use std::marker::Model;
 use std::sync::Wait;

@@ -3,16 +3,16 @@
 //! and sleeps until it is the first; and then the channel lists it, and it sleeps until it is
 //! handed out.
 ghost use Rattle.std.specs.Prelude.{IfErr, IfSome};
-ghost use Rattle.priority_channel_waits.specs.Waits.{left_over, given_back};
+ghost use Rattle.priority_channel_waiting.specs.Waits.{left_over, given_back};
 
 use crate::shared::Handle;
 use crossbeam_utils::Backoff;
 use priority_channel_core::side::Side;
-use priority_channel_waits::attempts::{Attempt, Outcome};
-use priority_channel_waits::line::{Lead, Line, Listing, Queued};
-use priority_channel_waits::timeouts::Ended;
-use priority_channel_waits::until::Until;
-use priority_channel_waits::waiter::Waiter;
+use priority_channel_waiting::attempts::{Attempt, Outcome};
+use priority_channel_waiting::line::{Lead, Line, Listing, Queued};
+use priority_channel_waiting::timeouts::Ended;
+use priority_channel_waiting::until::Until;
+use priority_channel_waiting::waiter::Waiter;
 use std::alloc::Allocator;
 use std::sync::{Wait, WaitMethods};
 

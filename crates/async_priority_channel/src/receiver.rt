@@ -1,7 +1,7 @@
 //! The handle that receives.
 ghost use Rattle.std.specs.Prelude.{◌≡◌};
 ghost use Rattle.priority_channel_core.specs.machine.OtherCalls.{capacity_told};
-ghost use Rattle.priority_channel_laws.specs.Holding.{unpolled};
+ghost use Rattle.priority_channel_waiting.specs.Holding.{unpolled};
 
 use crate::shared::Handle;
 use crate::waiting::Recv;

@@ -5,7 +5,7 @@ ghost use Rattle.std.specs.Iterator.Adapters.{peekable_can};
 ghost use Rattle.priority_channel_core.specs.code.Lists.{HasList};
 ghost use Rattle.priority_channel_core.specs.Errors.{rest_of};
 ghost use Rattle.priority_channel_core.specs.machine.OtherCalls.{capacity_told};
-ghost use Rattle.priority_channel_laws.specs.Holding.{HoldsTail, unpolled};
+ghost use Rattle.priority_channel_waiting.specs.Holding.{HoldsTail, unpolled};
 
 use crate::shared::Handle;
 use crate::waiting::{Send, Sendv};

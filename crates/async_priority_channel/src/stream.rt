@@ -4,14 +4,14 @@ ghost use Rattle.futures.specs.Task.{Covers, Keeps};
 ghost use Rattle.futures.specs.Poll.{IfReady, OnPending};
 ghost use Rattle.futures.specs.Runs.{After, Within};
 ghost use Rattle.async_priority_channel.specs.Handles.{MayYield};
-ghost use Rattle.priority_channel_waits.specs.Waits.{OnBlocked};
+ghost use Rattle.priority_channel_waiting.specs.Waits.{OnBlocked};
 
 use crate::receiver::Receiver;
 use crate::shared::Handle;
 use futures::Stream;
 use futures::task::{Context, Poll};
-use priority_channel_waits::attempts::{Attempt, Outcome, Receive};
-use priority_channel_waits::waiter::{Core, Waiter};
+use priority_channel_waiting::attempts::{Attempt, Outcome, Receive};
+use priority_channel_waiting::waiter::{Core, Waiter};
 use std::alloc::{Allocator, Global};
 use std::marker::Model;
 use std::sync::Wait;

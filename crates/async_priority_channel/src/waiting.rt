@@ -4,7 +4,7 @@ mod recv;
 mod send;
 mod sendv;
 
-pub use priority_channel_laws::waiting::{RecvState, SendState, SendvState};
+pub use priority_channel_waiting::states::{RecvState, SendState, SendvState};
 pub use recv::Recv;
 pub use send::Send;
 pub use sendv::Sendv;

@@ -1,4 +1,3 @@
 pub mod alike
-pub mod futures
 pub mod runs
 pub mod worlds

@@ -3,13 +3,12 @@ use Rattle.std.specs.Prelude.{◌≡◌, ℕ, ◌||◌, Bool, if◌then◌else�
 use Rattle.std.specs.List.{All}
 use Rattle.std.specs.declared.cmp.Ordering.{Ordering}
 use Rattle.priority_channel_core.specs.declared.calls.Call.TheVariants as call
-use Rattle.priority_channel_core.specs.declared.calls.Answer.TheVariants as answer
 use Rattle.priority_channel_core.specs.machine.State.{State, Handed, nobody, opening}
 use Rattle.priority_channel_core.specs.Waiting.{is_listed}
 use Rattle.priority_channel_core.specs.machine.Good.{IsGood}
 use Rattle.priority_channel_core.specs.machine.Step.{Step, Calls, Answers}
-use Rattle.priority_channel_laws.specs.Future.{Tasks, Standing, Futures, ticket_of, poll_of, future_after}
-use Rattle.priority_channel_laws.specs.Future.Standing.{New, Waiting, Called, Done}
+use Rattle.priority_channel_waiting.specs.Future.{Tasks, Standing, Futures, ticket_of, poll_of, future_after, GivesUpTicket}
+use Rattle.priority_channel_waiting.specs.Future.Standing.{New, Waiting, Called, Done}
 
 -- a channel, and the futures that use it
 pub record World (T P W : Type 0) : Type 0 where
@@ -58,12 +57,6 @@ module _ {T P W : Type 0} (cmp : P → P → Ordering) (is_clone : W → W → T
       × (new.futures
       ≡ slice_set (call_out handed old.futures) which (future_after task waker reply))
 
-  -- giving a future up gives up its ticket, if it has one
-  abbrev pub GivesUpTicket : State T P W → Option ℕ → State T P W → Type 0
-  GivesUpTicket old None new = new ≡ old
-  GivesUpTicket old (Some ticket) new =
-      Step cmp is_clone old (call.GiveUp ticket) answer.GiveUp nobody new
-
   -- an event, those whom it hands out, and the world after it
   abbrev pub Happens : World T P W → Event T P W → Handed W → World T P W → Type 0
   Happens old (Makes made) handed new =
@@ -75,7 +68,7 @@ module _ {T P W : Type 0} (cmp : P → P → Ordering) (is_clone : W → W → T
       × PollsFuture old which waker future.task future.standing handed new
   Happens old (GivesUp which) handed new =
       (future : Futures T P W) × (slice_get old.futures which ≡ Some future) × (handed ≡ nobody)
-      × GivesUpTicket old.state (ticket_of future.standing) new.state
+      × GivesUpTicket cmp is_clone old.state (ticket_of future.standing) new.state
       × (new.futures ≡ slice_set old.futures which (record { task = future.task; standing = Done }))
 
   -- events in turn, whomever they hand out

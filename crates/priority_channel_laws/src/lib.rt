@@ -1,8 +1,5 @@
-//! What follows from the definitions of the core, and what a future keeps between its polls.
-//!
-//! `laws` speaks of every run of the core and of all futures over it together, `waiting` has what
-//! one of them keeps. A caller has both in `async_priority_channel`.
+//! What follows from the definitions of the core, of every run of it, and of all futures over it
+//! together. A caller has it in `async_priority_channel`.
 #![tactic(auto)]
 
 pub mod laws;
-pub mod waiting;

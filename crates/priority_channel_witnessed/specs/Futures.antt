@@ -6,7 +6,7 @@ use Rattle.std.specs.declared.iter.Ahead.{Ahead}
 use Rattle.priority_channel_core.specs.declared.errors.RecvFault.{RecvFault}
 use Rattle.priority_channel_core.specs.declared.errors.SendFault.{SendFault}
 use Rattle.priority_channel_core.specs.Errors.{unsent}
-use Rattle.priority_channel_waits.specs.declared.timeouts.SendTimeoutError.{SendTimeoutError}
+use Rattle.priority_channel_waiting.specs.declared.timeouts.SendTimeoutError.{SendTimeoutError}
 use Rattle.priority_channel_core.specs.declared.calls.Call.TheVariants as call
 use Rattle.priority_channel_core.specs.declared.calls.Answer.TheVariants as answer
 use Rattle.priority_channel_core.specs.declared.calls.CorePoll.TheVariants.{Pending}

@@ -10,11 +10,11 @@ use Rattle.priority_channel_core.specs.declared.errors.TrySendError.{TrySendErro
 use Rattle.priority_channel_core.specs.declared.errors.TrySendError.TheVariants as send_error
 use Rattle.priority_channel_core.specs.declared.errors.RecvFault.{RecvFault}
 use Rattle.priority_channel_core.specs.declared.errors.SendFault.{SendFault}
-use Rattle.priority_channel_waits.specs.declared.timeouts.RecvTimeoutError.{RecvTimeoutError}
-use Rattle.priority_channel_waits.specs.declared.timeouts.RecvTimeoutError.TheVariants as recv_late
-use Rattle.priority_channel_waits.specs.declared.timeouts.SendTimeoutError.{SendTimeoutError}
-use Rattle.priority_channel_waits.specs.declared.timeouts.SendTimeoutError.TheVariants.{Timeout, Closed, Memory}
-use Rattle.priority_channel_waits.specs.Waits.{recv_fault_in_time, send_fault_in_time}
+use Rattle.priority_channel_waiting.specs.declared.timeouts.RecvTimeoutError.{RecvTimeoutError}
+use Rattle.priority_channel_waiting.specs.declared.timeouts.RecvTimeoutError.TheVariants as recv_late
+use Rattle.priority_channel_waiting.specs.declared.timeouts.SendTimeoutError.{SendTimeoutError}
+use Rattle.priority_channel_waiting.specs.declared.timeouts.SendTimeoutError.TheVariants.{Timeout, Closed, Memory}
+use Rattle.priority_channel_waiting.specs.Waits.{recv_fault_in_time, send_fault_in_time}
 use Rattle.priority_channel_core.specs.declared.calls.Call.TheVariants as call
 use Rattle.priority_channel_core.specs.declared.calls.Answer.TheVariants as answer
 use Rattle.priority_channel_core.specs.declared.calls.CorePoll.TheVariants.{Ready, Pending}

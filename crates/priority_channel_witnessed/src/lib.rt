@@ -19,6 +19,6 @@ pub use entry::{Entry, Pairs};
 pub use log::{Fresh, Recording, Seen};
 pub use pass::Pass;
 pub use priority_channel_core::channel::PriorityQueueChannel;
-pub use priority_channel_waits::waiter::{Waiter, wake_all};
+pub use priority_channel_waiting::waiter::{Waiter, wake_all};
 pub use waiting::{Recv, Send, Sendv};
 pub use witnessed::Witnessed;

@@ -3,7 +3,7 @@
 ghost use Rattle.std.specs.Prelude.{◌≡◌};
 
 use priority_channel_core::errors::{RecvError, RecvFault, SendError, SendFault};
-use priority_channel_waits::timeouts::{RecvTimeoutError, SendTimeoutError};
+use priority_channel_waiting::timeouts::{RecvTimeoutError, SendTimeoutError};
 
 /// Of a send.
 pub fn tell_late_sends<T: Copy>(error: SendError<T>) {

@@ -3,14 +3,14 @@ ghost use Rattle.std.specs.Prelude.{◌≡◌, ⊤, None, Result};
 ghost use Rattle.futures.specs.Task.{Covers, Keeps};
 ghost use Rattle.futures.specs.Poll.{IfReady, OnPending};
 ghost use Rattle.priority_channel_core.specs.declared.errors.RecvFault.{RecvFault};
-ghost use Rattle.priority_channel_laws.specs.Holding.{unpolled, done};
+ghost use Rattle.priority_channel_waiting.specs.Holding.{unpolled, done};
 
 use crate::receiver::Receiver;
 use crate::waiting::RecvState;
 use futures::Future;
 use futures::task::{Context, Poll};
 use priority_channel_core::errors::RecvFault;
-use priority_channel_waits::waiter::Waiter;
+use priority_channel_waiting::waiter::Waiter;
 use std::alloc::{Allocator, Global};
 use std::marker::Model;
 use std::sync::Wait;

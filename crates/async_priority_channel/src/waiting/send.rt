@@ -2,7 +2,7 @@
 ghost use Rattle.std.specs.Prelude.{◌≡◌, ⊤, None};
 ghost use Rattle.futures.specs.Task.{Covers, Keeps};
 ghost use Rattle.futures.specs.Poll.{IfReady, OnPending};
-ghost use Rattle.priority_channel_laws.specs.Holding.{unpolled, done};
+ghost use Rattle.priority_channel_waiting.specs.Holding.{unpolled, done};
 ghost use Rattle.async_priority_channel.specs.Handles.{HandsBack};
 
 use crate::sender::Sender;
@@ -10,7 +10,7 @@ use crate::waiting::SendState;
 use futures::Future;
 use futures::task::{Context, Poll};
 use priority_channel_core::errors::SendFault;
-use priority_channel_waits::waiter::Waiter;
+use priority_channel_waiting::waiter::Waiter;
 use std::alloc::{Allocator, Global};
 use std::marker::Model;
 use std::sync::Wait;

@@ -5,7 +5,7 @@ ghost use Rattle.std.specs.Iterator.Adapters.{peekable_can};
 ghost use Rattle.futures.specs.Task.{Covers, Keeps};
 ghost use Rattle.futures.specs.Poll.{IfReady, OnPending};
 ghost use Rattle.priority_channel_core.specs.code.Lists.{HasList};
-ghost use Rattle.priority_channel_laws.specs.Holding.{unpolled, done};
+ghost use Rattle.priority_channel_waiting.specs.Holding.{unpolled, done};
 ghost use Rattle.async_priority_channel.specs.Handles.{HandsBackTail};
 
 use crate::sender::Sender;
@@ -13,7 +13,7 @@ use crate::waiting::SendvState;
 use futures::Future;
 use futures::task::{Context, Poll};
 use priority_channel_core::errors::SendFault;
-use priority_channel_waits::waiter::Waiter;
+use priority_channel_waiting::waiter::Waiter;
 use std::alloc::{Allocator, Global};
 use std::iter::Peekable;
 use std::marker::Model;

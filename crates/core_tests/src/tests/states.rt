@@ -4,7 +4,7 @@ use super::calls::{
 };
 use futures::task::Poll;
 use priority_channel_core::errors::SendFault;
-use priority_channel_laws::waiting::{RecvState, SendState, SendvState};
+use priority_channel_waiting::states::{RecvState, SendState, SendvState};
 use refusing::Refusing;
 use std::alloc::{AllocGlobal, Global};
 use std::process::Abort;

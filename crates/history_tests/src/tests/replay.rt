@@ -8,7 +8,7 @@ use model::CAPACITY;
 use notes::{Call, Noted, Pair, Refusal, Reply, Way};
 use order::is_explained;
 use priority_channel_core::channel::PriorityQueueChannel;
-use priority_channel_waits::waiter::Waiter;
+use priority_channel_waiting::waiter::Waiter;
 use priority_channel_witnessed::{Fresh, Pass, Recording, Witnessed};
 use std::alloc::{AllocGlobal, Global};
 use std::marker::Brand;

@@ -18,7 +18,7 @@ ghost use Rattle.std.specs.Prelude.{◌≡◌};
 ghost use Rattle.priority_channel_witnessed.specs.Waits.{sent_or_over};
 
 use priority_channel_core::errors::{SendError, SendFault};
-use priority_channel_waits::timeouts::SendTimeoutError;
+use priority_channel_waiting::timeouts::SendTimeoutError;
 
 mod recv;
 mod send;

@@ -1,8 +1,8 @@
 //! A thread's calls, drawn and made.
 use super::notes::{Call, Pair, Refusal, Refused, Reply, Way};
 use priority_channel_core::errors::{RecvFault, SendError, SendFault, TryRecvError, TrySendError};
-use priority_channel_waits::timeouts::{RecvTimeoutError, SendTimeoutError};
-use priority_channel_waits::waiter::{Waiter, wake_all};
+use priority_channel_waiting::timeouts::{RecvTimeoutError, SendTimeoutError};
+use priority_channel_waiting::waiter::{Waiter, wake_all};
 use priority_channel_witnessed::{Pass, Recording, Witnessed};
 use rand_core::{Rng, SeedableRng};
 use rand_xoshiro::Xoshiro256PlusPlus;

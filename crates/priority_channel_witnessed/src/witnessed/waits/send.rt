@@ -2,7 +2,7 @@
 ghost use Rattle.std.specs.Prelude.{◌≡◌, IfErr, IfSome};
 ghost use Rattle.priority_channel_core.specs.Errors.{rest_of, unsent};
 ghost use Rattle.priority_channel_core.specs.code.Replies.{kept_by};
-ghost use Rattle.priority_channel_waits.specs.Waits.{unsent_in_time};
+ghost use Rattle.priority_channel_waiting.specs.Waits.{unsent_in_time};
 ghost use Rattle.priority_channel_witnessed.specs.Passes.{Tells};
 ghost use Rattle.priority_channel_witnessed.specs.Waits.{IsAnswered, AnswersSend, send_in_time, sent_or_over};
 
@@ -12,9 +12,9 @@ use crate::witnessed::Witnessed;
 use crate::witnessed::waits::{Sent, in_time};
 use priority_channel_core::calls::{Answer, Call, CorePoll};
 use priority_channel_core::errors::{SendError, SendFault, TrySendError};
-use priority_channel_waits::timeouts::SendTimeoutError;
-use priority_channel_waits::until::{Deadline, Endless, Until};
-use priority_channel_waits::waiter::{Waiter, wake_all};
+use priority_channel_waiting::timeouts::SendTimeoutError;
+use priority_channel_waiting::until::{Deadline, Endless, Until};
+use priority_channel_waiting::waiter::{Waiter, wake_all};
 use std::alloc::Allocator;
 use std::sync::{Wait, WaitMethods};
 use std::time::{Clock, Duration, Instant};

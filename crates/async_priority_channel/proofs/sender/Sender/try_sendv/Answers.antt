@@ -1,5 +1,5 @@
 use Rattle.priority_channel_core.specs.code.Lists.{HasList}
-use Rattle.priority_channel_laws.proofs.futures.Holdings.{refused_tail}
+use Rattle.priority_channel_waiting.proofs.Holdings.{refused_tail}
 use Rattle.async_priority_channel.proofs.sender.Sender.try_sendv.Goals as goal
 
 pub returns-clause-tail : goal.returns-clause-tail

@@ -1,0 +1,133 @@
+-- What is kept of a future that was polled.
+use Rattle.std.proofs.Common.{◌≡◌, ℕ, List, length, drop, refl, sym, subst}
+use Rattle.std.proofs.Math.Seq.{drop-append_seam}
+use Rattle.std.specs.Prelude.{Option, None, Some, IfSome, IfErr, Result, Ok, Err}
+use Rattle.futures.specs.declared.task.Poll.{Poll}
+use Rattle.std.specs.declared.cmp.Ordering.{Ordering}
+use Rattle.priority_channel_core.specs.declared.calls.Call.{Call}
+use Rattle.priority_channel_core.specs.declared.calls.Call.TheVariants as call
+use Rattle.priority_channel_core.specs.declared.calls.Answer.{Answer}
+use Rattle.priority_channel_core.specs.declared.calls.Answer.TheVariants as answer
+use Rattle.priority_channel_core.specs.declared.calls.CorePoll.{CorePoll}
+use Rattle.priority_channel_core.specs.declared.calls.CorePoll.TheVariants.{Ready, Pending}
+use Rattle.priority_channel_core.specs.declared.errors.SendFault.{SendFault}
+use Rattle.priority_channel_core.specs.declared.errors.SendFault.TheVariants as send_fault
+use Rattle.priority_channel_core.specs.machine.State.{State, Handed}
+use Rattle.priority_channel_core.specs.declared.errors.TrySendError.{TrySendError}
+use Rattle.priority_channel_core.specs.declared.errors.TrySendError.TheVariants as send_error
+use Rattle.priority_channel_core.specs.Errors.{rest_of}
+use Rattle.priority_channel_core.specs.machine.Sends.{Sends}
+use Rattle.priority_channel_core.specs.machine.Polls.{send_answer, Polls}
+use Rattle.priority_channel_core.specs.declared.side.Side.TheVariants.{Room}
+use Rattle.priority_channel_core.specs.code.Calls.{Performs, SamePoll, SameReply}
+use Rattle.priority_channel_core.specs.code.Replies.{kept_by}
+use Rattle.priority_channel_core.proofs.Polls.{kept_callable}
+use Rattle.priority_channel_waiting.specs.Future.{Task, poll_of, future_after}
+use Rattle.priority_channel_waiting.specs.Future.Task.{Sendv}
+use Rattle.priority_channel_waiting.specs.Holding.{Holding, told_by, left_by, handed_back, HoldsTail, send_of, IsKeptOf, PollsKept}
+
+pub send_left : {T P W : Type 0} (pair : T × P) (waker : W) (reply : CorePoll (Result (Unit {0}) (SendFault (T × P))) (T × P))
+    → IsKeptOf send_of (left_by reply) (future_after (send_of pair) waker (answer.PollSend reply))
+send_left pair waker (Ready outcome) = record { task = refl; ticket = refl }
+send_left pair waker (Pending kept ticket) = record { task = refl; ticket = refl }
+
+pub sendv_left : {T P W M : Type 0} (msgs : M) (waker : W) (reply : CorePoll (Result (Unit {0}) (SendFault M)) M)
+    → IsKeptOf {T = T} {P = P} Sendv (left_by reply) (future_after (Sendv msgs) waker (answer.PollSendv reply))
+sendv_left msgs waker (Ready outcome) = record { task = refl; ticket = refl }
+sendv_left msgs waker (Pending kept ticket) = record { task = refl; ticket = refl }
+
+-- what is handed back with a fault was kept by the core's poll
+pub unsent_kept : {M : Type 0} (Q : M → Type 0) (reply : CorePoll (Result (Unit {0}) (SendFault M)) M)
+    → IfSome (kept_by reply) Q → IfSome (handed_back (told_by reply)) Q
+unsent_kept Q (Ready (Ok sent)) h = h
+unsent_kept Q (Ready (Err (send_fault.Closed e))) h = h
+unsent_kept Q (Ready (Err (send_fault.Memory held))) h = h
+unsent_kept Q (Pending held ticket) h = tt
+
+module _ {T P W M K R : Type 0} (Performs : State T P W → Call T P W M → Answer T P M → Handed W → State T P W → Type 0)
+    (task_of : K → Task T P M) (as_answer : CorePoll R K → Answer T P M) where
+  pub polls_kept : (holding left : Holding K) (kept : K) (given : Option ℕ) (waker : W) (old new : State T P W) (handed : Handed W)
+      (reply : CorePoll R K) (told : Poll R) → holding ≡ record { kept = Some kept; ticket = given }
+      → told ≡ told_by reply → left ≡ left_by reply → Performs old (poll_of (task_of kept) given waker) (as_answer reply) handed new
+      → IsKeptOf task_of (left_by reply) (future_after (task_of kept) waker (as_answer reply))
+      → IfSome holding.kept (λ k. PollsKept Performs task_of as_answer k holding.ticket waker old told handed new left)
+  polls_kept holding left kept given waker old new handed reply told is tells leaves step k =
+      rw is (record { reply = reply; tells = tells; step = step; leaves = rw leaves k })
+
+-- a fact of whatever there is
+pub if_some : {M : Type 0} (Q : M → Type 0) (held : Option M) → ((m : M) → held ≡ Some m → Q m) → IfSome held Q
+if_some Q None h = tt
+if_some Q (Some m) h = h m refl
+
+-- what waits was kept by the core's poll
+pub left_kept : {M : Type 0} (Q : M → Type 0) (reply : CorePoll (Result (Unit {0}) (SendFault M)) M)
+    → IfSome (kept_by reply) Q → IfSome (left_by reply).kept Q
+left_kept Q (Ready outcome) h = tt
+left_kept Q (Pending held ticket) h = h
+
+-- what comes back from a send is a tail
+rest_at : {T P W : Type 0} (old new : State T P W) (handed : Handed W) (back : TrySendError (List (T × P))) (list : List (T × P))
+    → Sends old list (Err back) handed new → (n : ℕ) × (rest_of back ≡ drop n list)
+rest_at old new handed (send_error.Closed rest) list h = (0, h.1)
+rest_at old new handed (send_error.Full rest) list h = (length h.0, rw h.1 (sym (drop-append_seam h.0 rest)))
+rest_at old new handed (send_error.Memory rest) list h = (length h.0, rw h.1 (sym (drop-append_seam h.0 rest)))
+
+tails : {T P W : Type 0} (old new : State T P W) (handed : Handed W) (reply : Result (Unit {0}) (TrySendError (List (T × P)))) (list : List (T × P))
+    → Sends old list reply handed new → IfErr reply (λ back. (n : ℕ) × (rest_of back ≡ drop n list))
+tails old new handed (Ok sent) list h = tt
+tails old new handed (Err back) list h = rest_at old new handed back list h
+
+module _ {T P W M : Type 0} (holds : M → List (T × P) → Type 0) (cmp : P → P → Ordering) (is_clone : W → W → Type 0)
+    (old new : State T P W) (handed : Handed W) (msgs : M) where
+  -- what comes back from a bulk send holds what comes back in the machine
+  same_refused : (error : TrySendError M) (told : Result (Unit {0}) (TrySendError (List (T × P)))) → SameReply holds (Err error) told
+      → (back : TrySendError (List (T × P))) × (told ≡ Err back) × holds (rest_of error) (rest_of back)
+  same_refused (send_error.Closed m) told h = (send_error.Closed h.0, h.1, h.2)
+  same_refused (send_error.Full m) told h = (send_error.Full h.0, h.1, h.2)
+  same_refused (send_error.Memory m) told h = (send_error.Memory h.0, h.1, h.2)
+
+  refused_is_tail : (error : TrySendError M)
+      → Performs holds cmp is_clone old (call.TrySendv msgs) (answer.TrySendv (Err error)) handed new
+      → HoldsTail holds msgs (rest_of error)
+  refused_is_tail error h = record {
+    at = λ list has.
+        let k = h.at (call.TrySendv list) (list, refl, has) in
+        let same = same_refused error k.1.0 k.1.2 in
+        let tail = rest_at old new handed same.0 list (rw same.1 at (rw k.1.1 at k.2.moves)) in
+        (tail.0, rw (← tail.1) same.2);
+  }
+
+  pub refused_tail : (reply : Result (Unit {0}) (TrySendError M))
+      → Performs holds cmp is_clone old (call.TrySendv msgs) (answer.TrySendv reply) handed new
+      → IfErr reply (λ error. HoldsTail holds msgs (rest_of error))
+  refused_tail (Ok sent) h = tt
+  refused_tail (Err error) h = refused_is_tail error h
+
+  module _ (given : Option ℕ) (waker : W) where
+    kept_is : (m held : M) → Some m ≡ Some held → (list : List (T × P)) → holds m list → holds held list
+    kept_is m held is list h = let same : m ≡ held = cc in subst (λ x. holds x list) same h
+
+    -- the same of a poll
+    same_kept : (poll : CorePoll (Result (Unit {0}) (SendFault M)) M) (told : CorePoll (Result (Unit {0}) (SendFault (List (T × P)))) (List (T × P)))
+        → SamePoll holds poll told → (held : M) → kept_by poll ≡ Some held
+        → (rest : List (T × P)) × (kept_by told ≡ Some rest) × holds held rest
+    same_kept (Ready (Ok sent)) told h held is = absurd (cc)
+    same_kept (Ready (Err (send_fault.Closed e))) told h held is = (h.0, cc, kept_is _ held is h.0 h.2)
+    same_kept (Ready (Err (send_fault.Memory m))) told h held is = (h.0, cc, kept_is _ held is h.0 h.2)
+    same_kept (Pending m ticket) told h held is = (h.0, cc, kept_is _ held is h.0 h.2)
+
+    tail_at : (told : CorePoll (Result (Unit {0}) (SendFault (List (T × P)))) (List (T × P))) (list rest : List (T × P))
+        → kept_by told ≡ Some rest → Polls is_clone (Sends old list) send_answer Room given waker told handed new → (n : ℕ) × (rest ≡ drop n list)
+    tail_at told list rest back h =
+        rw back at (kept_callable (λ r. (n : ℕ) × (r ≡ drop n list)) h.reply h.ticket told (tails old h.mid handed h.reply list h.tried) h.answered)
+
+    pub polled_tail : (reply : CorePoll (Result (Unit {0}) (SendFault M)) M)
+        → Performs holds cmp is_clone old (call.PollSendv msgs given waker) (answer.PollSendv reply) handed new
+        → IfSome (kept_by reply) (HoldsTail holds msgs)
+    polled_tail reply h = if_some (HoldsTail holds msgs) (kept_by reply) (λ held is. record {
+      at = λ list has.
+          let k = h.at (call.PollSendv list given waker) (list, refl, has) in
+          let same = same_kept reply k.1.0 k.1.2 held is in
+          let tail = tail_at k.1.0 list same.0 same.1 (rw k.1.1 at k.2.moves) in
+          (tail.0, rw (← tail.1) same.2);
+    })

@@ -1,0 +1,4 @@
+pub mod LeftOver
+pub mod Lines
+pub mod Holdings
+pub mod Tries

@@ -1,0 +1,5 @@
+pub mod Lines
+pub mod Waits
+pub mod Tails
+pub mod Future
+pub mod Holding

@@ -1,0 +1,213 @@
+//! What a party is to do on the core: at once, or once it has waited.
+ghost use Rattle.std.specs.Prelude.{◌≡◌, ⊤, IfSome, IfOk, IfErr, Some, refl};
+ghost use Rattle.std.proofs.Common.{◌∙◌};
+ghost use Rattle.std.specs.Iterator.Adapters.{peekable_can};
+ghost use Rattle.priority_channel_core.specs.code.Lists.{HasList};
+ghost use Rattle.priority_channel_core.specs.machine.Step.{Step};
+ghost use Rattle.priority_channel_core.specs.code.Calls.{Performs};
+ghost use Rattle.priority_channel_waiting.specs.Holding.{HoldsTail};
+ghost use Rattle.priority_channel_core.specs.code.Replies.{waits_under};
+ghost use Rattle.priority_channel_waiting.specs.Waits.{left_over, given_back, outcome_of_try, recv_tried, recv_polled};
+ghost use Rattle.priority_channel_waiting.specs.Tails.{tail_of_itself, tail_of_tail};
+
+use crate::timeouts::Ended;
+use crate::waiter::{Core, Waiter};
+use priority_channel_core::awaitable_atomics::Wakes;
+use priority_channel_core::calls::{Answer, Call, CorePoll};
+use priority_channel_core::errors::{RecvFault, TryRecvError, TrySendError};
+use priority_channel_core::side::Side;
+use std::alloc::Allocator;
+use std::iter::Peekable;
+
+/// What came of an attempt. What was not done comes back.
+pub enum Outcome<D, C> {
+    Done(D),
+    /// There was no room, or no message.
+    Blocked(C),
+    Closed(C),
+    Memory(C),
+}
+
+impl<D, C> Outcome<D, C> {
+    /// The answer, where it is one; the call, where that is blocked.
+    pub fn answer<O>(self) -> Result<Result<D, Ended<C, O>>, C>
+        ensures answered { IfOk result (λ answer. IfErr answer (λ ended.
+            left_over self ≡ Some (given_back ended))) }
+        ensures blocked { IfErr result (λ call. left_over self ≡ Some call) }
+    {
+        match self {
+            Outcome::Done(done) => Ok(Ok(done)),
+            Outcome::Blocked(call) => Err(call),
+            Outcome::Closed(call) => Ok(Err(Ended::Closed(call))),
+            Outcome::Memory(call) => Ok(Err(Ended::Memory(call))),
+        }
+    }
+}
+
+/// A call that can be attempted until it is done. It need not be `Drop`: whoever attempts it can
+/// lose nothing of it.
+pub trait Attempt<T, P: Ord, A: Allocator + Copy>: Sized {
+    type Done;
+
+    // Holds of what may be attempted.
+    ghost can_attempt: { Self → Type 0 } = { λ _. ⊤ };
+
+    // Holds of a call and of what may come back of it.
+    ghost leaves: { Self → Self → Type 0 };
+
+    /// What it waits for where it is blocked.
+    fn side() -> Side;
+
+    /// The call, in one step.
+    fn try_on(self, core: &mut Core<T, P, A>) -> (Outcome<Self::Done, Self>, Wakes<Waiter<A>, A>)
+        requires { can_attempt self }
+        ensures { IfSome (left_over result.0) (λ rest. can_attempt rest × leaves self rest) };
+
+    ghost whole: { (call : Self) → leaves call call };
+
+    ghost still: { (first next last : Self) → leaves first next → leaves next last
+        → leaves first last };
+}
+
+/// A receive of one pair.
+#[derive(Clone, Copy)]
+pub struct Receive;
+
+impl<T, P: Ord, A: Allocator + Copy> Attempt<T, P, A> for Receive {
+    type Done = (T, P);
+
+    ghost leaves = { λ _ _. ⊤ };
+
+    ghost whole = { λ _. tt };
+
+    ghost still = { λ _ _ _ _ _. tt };
+
+    fn side() -> Side
+        ensures { result ≡ Side.Message }
+    {
+        Side::Message
+    }
+
+    fn try_on(self, core: &mut Core<T, P, A>) -> (Outcome<(T, P), Self>, Wakes<Waiter<A>, A>)
+        ensures step { (reply : _) × (result.0 ≡ recv_tried self reply)
+            × Step P.cmp ⟦<Waiter<A> as Clone>⟧.is_clone core.old.state
+            Call.TryRecv (Answer.TryRecv reply) result.1 core.new.state }
+    {
+        let (received, wakes) = core.try_recv();
+        let outcome = match received {
+            Ok(pair) => Outcome::Done(pair),
+            Err(TryRecvError::Empty) => Outcome::Blocked(Receive),
+            Err(TryRecvError::Closed) => Outcome::Closed(Receive),
+        };
+        (outcome, wakes)
+    }
+}
+
+impl Receive {
+    /// Receives in one step, or waits under the ticket.
+    pub fn poll_on<T, P: Ord, A: Allocator + Copy>(
+        self,
+        core: &mut Core<T, P, A>,
+        ticket: &mut Option<u64>,
+        waiter: &Waiter<A>,
+    ) -> (Outcome<(T, P), Self>, Wakes<Waiter<A>, A>)
+        ensures step { (reply : _) × (result.0 ≡ recv_polled self reply)
+            × (ticket.new ≡ waits_under reply)
+            × Step P.cmp ⟦<Waiter<A> as Clone>⟧.is_clone core.old.state
+            (Call.PollRecv ticket.old waiter.now) (Answer.PollRecv reply) result.1 core.new.state }
+    {
+        let (received, wakes) = core.poll_recv(*ticket, waiter);
+        (receive_polled(self, received, ticket), wakes)
+    }
+}
+
+fn receive_polled<D>(
+    receive: Receive,
+    received: CorePoll<Result<D, RecvFault>, ()>,
+    ticket: &mut Option<u64>,
+) -> Outcome<D, Receive>
+    ensures outcome { result ≡ recv_polled receive received }
+    ensures ticket { ticket.new ≡ waits_under received }
+{
+    *ticket = None;
+    match received {
+        CorePoll::Ready(Ok(done)) => Outcome::Done(done),
+        CorePoll::Ready(Err(RecvFault::Closed(_))) => Outcome::Closed(receive),
+        CorePoll::Ready(Err(RecvFault::Memory)) => Outcome::Memory(receive),
+        CorePoll::Pending((), given) => {
+            *ticket = Some(given);
+            Outcome::Blocked(receive)
+        }
+    }
+}
+
+fn send_tried<C>(sent: Result<(), TrySendError<C>>) -> Outcome<(), C>
+    ensures { result ≡ outcome_of_try sent }
+{
+    match sent {
+        Ok(()) => Outcome::Done(()),
+        Err(TrySendError::Full(rest)) => Outcome::Blocked(rest),
+        Err(TrySendError::Closed(rest)) => Outcome::Closed(rest),
+        Err(TrySendError::Memory(rest)) => Outcome::Memory(rest),
+    }
+}
+
+/// A send of one pair.
+impl<T, P: Ord, A: Allocator + Copy> Attempt<T, P, A> for (T, P) {
+    type Done = ();
+
+    ghost leaves = { λ pair rest. rest ≡ pair };
+
+    ghost whole = { λ _. refl };
+
+    ghost still = { λ _ _ _ one other. other ∙ one };
+
+    fn side() -> Side
+        ensures { result ≡ Side.Room }
+    {
+        Side::Room
+    }
+
+    fn try_on(self, core: &mut Core<T, P, A>) -> (Outcome<(), Self>, Wakes<Waiter<A>, A>)
+        ensures whole { IfSome (left_over result.0) (λ rest. rest ≡ self) }
+        ensures step { (reply : _) × (result.0 ≡ outcome_of_try reply)
+            × Step P.cmp ⟦<Waiter<A> as Clone>⟧.is_clone core.old.state
+            (Call.TrySend self.0 self.1) (Answer.TrySend reply) result.1 core.new.state }
+    {
+        let (msg, priority) = self;
+        let (sent, wakes) = core.try_send(msg, priority);
+        (send_tried(sent), wakes)
+    }
+}
+
+/// A send of many pairs, of which a front may have been sent and the rest comes back.
+impl<T: Drop, P: Ord + Drop, A: Allocator + Copy, I: Iterator<Item = (T, P)>> Attempt<T, P, A>
+    for Peekable<I> {
+    type Done = ();
+
+    ghost can_attempt = { peekable_can I.can_next };
+
+    ghost leaves = { HoldsTail (HasList I.next_gives) };
+
+    ghost whole = { λ msgs. tail_of_itself (HasList I.next_gives) msgs };
+
+    ghost still = { λ first mid last. tail_of_tail (HasList I.next_gives) first mid last };
+
+    fn side() -> Side
+        ensures { result ≡ Side.Room }
+    {
+        Side::Room
+    }
+
+    fn try_on(self, core: &mut Core<T, P, A>) -> (Outcome<(), Self>, Wakes<Waiter<A>, A>)
+        requires { peekable_can I.can_next self }
+        ensures tail { IfSome (left_over result.0) (HoldsTail (HasList I.next_gives) self) }
+        ensures callable { IfSome (left_over result.0) (peekable_can I.can_next) }
+        ensures step { (reply : _) × (result.0 ≡ outcome_of_try reply)
+            × Performs (HasList I.next_gives) P.cmp ⟦<Waiter<A> as Clone>⟧.is_clone core.old.state
+            (Call.TrySendv self) (Answer.TrySendv reply) result.1 core.new.state }
+    {
+        let (sent, wakes) = core.try_sendv(self);
+        (send_tried(sent), wakes)
+    }
+}

@@ -1,0 +1,530 @@
+//! What a future keeps between its polls: a send its pair, a bulk send the pairs that were not sent
+//! yet, and each its ticket. A poll is made on the core, in one hold of what guards it.
+ghost use Rattle.std.specs.Prelude.{◌≡◌, ◌↔◌, ◌*◌, List, [], length, false, IsTrue, IfSome, MatchOption, Some, None, is_some};
+ghost use Rattle.std.specs.Option.{ForSome};
+ghost use Rattle.std.specs.Iterator.Adapters.{peekable_can};
+ghost use Rattle.priority_channel_bag.specs.Digits.{digits};
+ghost use Rattle.priority_channel_core.specs.machine.State.{nobody, room};
+ghost use Rattle.priority_channel_core.specs.machine.Good.{IsGood};
+ghost use Rattle.priority_channel_core.specs.code.Lists.{HasList};
+ghost use Rattle.priority_channel_core.specs.code.Front.{PollsFront};
+ghost use Rattle.priority_channel_core.specs.machine.Step.{Step};
+ghost use Rattle.priority_channel_core.specs.code.Calls.{Performs};
+ghost use Rattle.priority_channel_core.specs.code.Channel.{ComparesAtMost};
+ghost use Rattle.priority_channel_core.specs.Waiters.{search_bound};
+ghost use Rattle.priority_channel_waiting.specs.Future.Task.{Sendv as sendv_of};
+ghost use Rattle.priority_channel_waiting.specs.Future.{GivesUpTicket};
+ghost use Rattle.priority_channel_waiting.specs.Holding.{unpolled, done, told_by, left_by, told_at_once, left_at_once, handed_back, HoldsTail, send_of, recv_of, TriesFront, PollsKept};
+ghost use Rattle.futures.specs.Poll.{IfReady, OnPending};
+
+use futures::task::Poll;
+use priority_channel_core::awaitable_atomics::Wakes;
+use priority_channel_core::calls::{Answer, Call, CorePoll};
+use priority_channel_core::channel::PriorityQueueChannel;
+use priority_channel_core::errors::{
+    RecvError, RecvFault, SendError, SendFault, TryRecvError, TrySendError,
+};
+use std::alloc::Allocator;
+use std::iter::Peekable;
+use std::marker::Model;
+
+// What is still to be done, until it is done, and the ticket of the last poll.
+#[derive(Drop)]
+struct Kept<K> {
+    kept: Option<K>,
+    ticket: Option<u64>,
+}
+
+impl<K> Model for Kept<K> {
+    ghost use Rattle.std.specs.Prelude.{◌≡◌, None};
+    ghost use Rattle.priority_channel_waiting.specs.Holding.{Holding};
+
+    ghost Value = { Holding K };
+
+    ghost view = { λ k. record { kept = k.kept; ticket = k.ticket } };
+
+    ghost invariant = { λ k. k.kept ≡ None → k.ticket ≡ None };
+}
+
+impl<K> Kept<K> {
+    fn new(kept: K) -> Self
+        ensures { result ≡ unpolled kept }
+    {
+        Kept {
+            kept: Some(kept),
+            ticket: None,
+        }
+    }
+
+    fn ticket(&self) -> Option<u64>
+        ensures { result ≡ self.now.ticket }
+    {
+        self.ticket
+    }
+
+    fn is_done(&self) -> bool
+        ensures { IsTrue result ↔ (self.now.kept ≡ None) }
+    {
+        self.kept.is_none()
+    }
+}
+
+impl<K: Drop> Kept<K> {
+    // Takes out what was kept, with the ticket; None where it was done.
+    fn take(&mut self) -> Option<(K, Option<u64>)>
+        ensures taken { MatchOption result (self.old ≡ done) (λ taken.
+            self.old ≡ record { kept = Some taken.0; ticket = taken.1 }) }
+        ensures done { self.new ≡ done }
+    {
+        let ticket = self.ticket.take();
+        let kept = self.kept.take()?;
+        Some((kept, ticket))
+    }
+
+    // Keeps what a poll handed back, and gives the outcome.
+    fn keep<R>(&mut self, answer: CorePoll<R, K>) -> Poll<R>
+        ensures told { result ≡ told_by answer }
+        ensures left { self.new ≡ left_by answer }
+    {
+        match answer {
+            CorePoll::Ready(outcome) => {
+                *self = Kept {
+                    kept: None,
+                    ticket: None,
+                };
+                Poll::Ready(outcome)
+            }
+            CorePoll::Pending(kept, ticket) => {
+                *self = Kept {
+                    kept: Some(kept),
+                    ticket: Some(ticket),
+                };
+                Poll::Pending
+            }
+        }
+    }
+
+    // Of a try to send, which took out what was kept: who was answered waits no more, and else what
+    // was not sent is kept on, under the ticket of before.
+    fn keep_tried<T, P: Ord, W: Clone, A: Allocator + Copy>(
+        &mut self,
+        tried: Result<(), TrySendError<K>>,
+        ticket: Option<u64>,
+        core: &mut PriorityQueueChannel<T, P, W, A>,
+    ) -> Poll<Result<(), SendFault<K>>>
+        ensures told { result ≡ told_at_once tried }
+        ensures left { self.new ≡ left_at_once ticket tried }
+        ensures answered { IfReady result (λ _. GivesUpTicket P.cmp W.is_clone core.old.state ticket
+            core.new.state) }
+        ensures waits { OnPending result (core.new ≡ core.old) }
+        ensures cost { ComparesAtMost 0 (search_bound core.old.state.waiters) core.old core.new }
+    {
+        *self = Kept {
+            kept: None,
+            ticket: None,
+        };
+        let answer = match tried {
+            Ok(()) => Ok(()),
+            Err(TrySendError::Closed(unsent)) => Err(SendFault::Closed(SendError(unsent))),
+            Err(TrySendError::Memory(unsent)) => Err(SendFault::Memory(unsent)),
+            Err(TrySendError::Full(unsent)) => {
+                *self = Kept {
+                    kept: Some(unsent),
+                    ticket,
+                };
+                return Poll::Pending;
+            }
+        };
+        give_up_given(ticket, core);
+        Poll::Ready(answer)
+    }
+
+    fn give_up_on<T, P: Ord, W: Clone, A: Allocator + Copy>(
+        &mut self,
+        core: &mut PriorityQueueChannel<T, P, W, A>,
+    ) -> Option<K>
+        ensures kept { result ≡ self.old.kept }
+        ensures done { self.new ≡ done }
+        ensures left { GivesUpTicket P.cmp W.is_clone core.old.state self.old.ticket
+            core.new.state }
+        ensures cost { ComparesAtMost 0 (search_bound core.old.state.waiters) core.old core.new }
+    {
+        let (kept, ticket) = self.take()?;
+        give_up_given(ticket, core);
+        Some(kept)
+    }
+}
+
+// Who has this ticket, if there is one, waits no more.
+fn give_up_given<T, P: Ord, W: Clone, A: Allocator + Copy>(
+    ticket: Option<u64>,
+    core: &mut PriorityQueueChannel<T, P, W, A>,
+)
+    ensures left { GivesUpTicket P.cmp W.is_clone core.old.state ticket core.new.state }
+    ensures cost { ComparesAtMost 0 (search_bound core.old.state.waiters) core.old core.new }
+{
+    if let Some(ticket) = ticket {
+        core.give_up(ticket);
+    }
+}
+
+/// What a send keeps: its pair, until it has answered or was given up, and its ticket.
+#[derive(Drop)]
+pub struct SendState<T, P> {
+    pair: Kept<(T, P)>,
+}
+
+impl<T, P> Model for SendState<T, P> {
+    ghost use Rattle.priority_channel_waiting.specs.Holding.{Holding};
+
+    ghost Value = { Holding (T × P) };
+
+    ghost view = { λ s. s.pair };
+}
+
+impl<T, P> SendState<T, P> {
+    /// A send that was not polled yet.
+    pub fn new(msg: T, priority: P) -> Self
+        ensures { result ≡ unpolled (msg, priority) }
+    {
+        SendState {
+            pair: Kept::new((msg, priority)),
+        }
+    }
+
+    /// The ticket under which it waits, or waited until it was handed out.
+    pub fn ticket(&self) -> Option<u64>
+        ensures { result ≡ self.now.ticket }
+    {
+        self.pair.ticket()
+    }
+
+    /// Whether it has answered or was given up.
+    pub fn is_done(&self) -> bool
+        ensures { IsTrue result ↔ (self.now.kept ≡ None) }
+    {
+        self.pair.is_done()
+    }
+}
+
+impl<T: Drop, P: Ord + Drop> SendState<T, P> {
+    /// Sends the pair where it need not wait, as a poll does with whatever waker. Where the channel
+    /// is open and full it answers `Pending`, and changes nothing; so does a state that is done.
+    pub fn try_on<W: Clone, A: Allocator + Copy>(
+        &mut self,
+        core: &mut PriorityQueueChannel<T, P, W, A>,
+    ) -> (Poll<Result<(), SendFault<(T, P)>>>, Wakes<W, A>)
+        ensures step { IfSome self.old.kept (λ pair. IfReady result.0 (λ _. (waker : W)
+            → PollsKept (Step P.cmp W.is_clone) send_of (λ reply. Answer.PollSend reply)
+            pair self.old.ticket waker core.old.state result.0 result.1 core.new.state self.new)) }
+        ensures blocked { IfSome self.old.kept (λ _. OnPending result.0
+            ((core.old.state.is_closed ≡ false) × (room core.old.state ≡ 0))) }
+        ensures waits { OnPending result.0 ((result.1 ≡ nobody) × (self.new ≡ self.old)
+            × (core.new.state ≡ core.old.state)) }
+        ensures unsent { IfSome (handed_back result.0) (λ pair. self.old.kept ≡ Some pair) }
+        ensures answered { IfReady result.0 (λ _. self.new ≡ done) }
+        ensures cost { ComparesAtMost (digits (length core.new.state.pending))
+            (search_bound core.old.state.waiters) core.old core.new }
+    {
+        let Some((pair, ticket)) = self.pair.take() else {
+            return (Poll::Pending, core.nobody());
+        };
+        let (msg, priority) = pair;
+        let (tried, wakes) = core.try_send(msg, priority);
+        (self.pair.keep_tried(tried, ticket, core), wakes)
+    }
+
+    /// Sends the pair, or waits for room with the waker. A state that is done answers `Pending`,
+    /// and changes nothing.
+    pub fn poll_on<W: Clone, A: Allocator + Copy>(
+        &mut self,
+        core: &mut PriorityQueueChannel<T, P, W, A>,
+        waker: &W,
+    ) -> (Poll<Result<(), SendFault<(T, P)>>>, Wakes<W, A>)
+        ensures step { IfSome self.old.kept (λ pair. PollsKept (Step P.cmp W.is_clone) send_of
+            (λ reply. Answer.PollSend reply)
+            pair self.old.ticket waker.now core.old.state result.0 result.1 core.new.state
+            self.new) }
+        ensures done { self.old.kept ≡ None → (result.0 ≡ Poll.Pending) × (result.1 ≡ nobody)
+            × (self.new ≡ self.old) × (core.new ≡ core.old) }
+        ensures unsent { IfSome (handed_back result.0) (λ pair. self.old.kept ≡ Some pair) }
+        ensures kept { IfSome self.new.kept (λ pair. self.old.kept ≡ Some pair) }
+        ensures answered { IfReady result.0 (λ _. self.new ≡ done) }
+        ensures waits { OnPending result.0 (self.new.kept ≡ self.old.kept) }
+        ensures cost { ComparesAtMost (digits (length core.new.state.pending))
+            (search_bound core.old.state.waiters) core.old core.new }
+    {
+        let Some(((msg, priority), ticket)) = self.pair.take() else {
+            return (Poll::Pending, core.nobody());
+        };
+        let (answer, wakes) = core.poll_send(msg, priority, ticket, waker);
+        (self.pair.keep(answer), wakes)
+    }
+
+    /// Ends the send, which waits no more, and answers the pair that was not sent; None where it
+    /// was done.
+    pub fn give_up_on<W: Clone, A: Allocator + Copy>(
+        &mut self,
+        core: &mut PriorityQueueChannel<T, P, W, A>,
+    ) -> Option<(T, P)>
+        ensures kept { result ≡ self.old.kept }
+        ensures done { self.new ≡ done }
+        ensures left { GivesUpTicket P.cmp W.is_clone core.old.state self.old.ticket
+            core.new.state }
+        ensures cost { ComparesAtMost 0 (search_bound core.old.state.waiters) core.old core.new }
+    {
+        self.pair.give_up_on(core)
+    }
+}
+
+/// What a bulk send keeps: the pairs that were not sent yet, until it has answered or was given up,
+/// and its ticket.
+#[derive(Drop)]
+pub struct SendvState<M> {
+    rest: Kept<M>,
+}
+
+impl<M> Model for SendvState<M> {
+    ghost use Rattle.priority_channel_waiting.specs.Holding.{Holding};
+
+    ghost Value = { Holding M };
+
+    ghost view = { λ s. s.rest };
+}
+
+impl<M> SendvState<M> {
+    /// A bulk send that was not polled yet.
+    pub fn new(msgs: M) -> Self
+        ensures { result ≡ unpolled msgs }
+    {
+        SendvState {
+            rest: Kept::new(msgs),
+        }
+    }
+
+    /// The ticket under which it waits, or waited until it was handed out.
+    pub fn ticket(&self) -> Option<u64>
+        ensures { result ≡ self.now.ticket }
+    {
+        self.rest.ticket()
+    }
+
+    /// Whether it has answered or was given up.
+    pub fn is_done(&self) -> bool
+        ensures { IsTrue result ↔ (self.now.kept ≡ None) }
+    {
+        self.rest.is_done()
+    }
+}
+
+impl<M: Drop> SendvState<M> {
+    /// Ends the bulk send, which waits no more, and answers the pairs that were not sent; None
+    /// where it was done. What was sent stays sent.
+    pub fn give_up_on<T, P: Ord, W: Clone, A: Allocator + Copy>(
+        &mut self,
+        core: &mut PriorityQueueChannel<T, P, W, A>,
+    ) -> Option<M>
+        ensures kept { result ≡ self.old.kept }
+        ensures done { self.new ≡ done }
+        ensures left { GivesUpTicket P.cmp W.is_clone core.old.state self.old.ticket
+            core.new.state }
+        ensures cost { ComparesAtMost 0 (search_bound core.old.state.waiters) core.old core.new }
+    {
+        self.rest.give_up_on(core)
+    }
+}
+
+impl<T: Drop, P: Ord + Drop, I: Iterator<Item = (T, P)>> SendvState<Peekable<I>> {
+    /// Sends what there is room for, and nothing more where that was not all: it then answers
+    /// `Pending`, as a state that is done does, and waits on under the ticket that it had. Else it
+    /// is a poll with whatever waker.
+    pub fn try_on<W: Clone, A: Allocator + Copy>(
+        &mut self,
+        core: &mut PriorityQueueChannel<T, P, W, A>,
+    ) -> (Poll<Result<(), SendFault<Peekable<I>>>>, Wakes<W, A>)
+        requires { ForSome self.old.kept (peekable_can I.can_next) }
+        ensures step { IfSome self.old.kept (λ msgs. IfReady result.0 (λ _. (waker : W)
+            → PollsKept (Performs (HasList I.next_gives) P.cmp W.is_clone) sendv_of
+            (λ reply. Answer.PollSendv reply)
+            msgs self.old.ticket waker core.old.state result.0 result.1 core.new.state self.new)) }
+        ensures tried { IfSome self.old.kept (λ msgs. (reply : _) × (result.0 ≡ told_at_once reply)
+            × (self.new ≡ left_at_once self.old.ticket reply)
+            × (OnPending result.0 (Performs (HasList I.next_gives) P.cmp W.is_clone core.old.state
+            (Call.TrySendv msgs) (Answer.TrySendv reply) result.1 core.new.state))) }
+        ensures done { self.old.kept ≡ None → (result.0 ≡ Poll.Pending) × (result.1 ≡ nobody)
+            × (self.new ≡ self.old) × (core.new ≡ core.old) }
+        ensures unsent { IfSome self.old.kept (λ msgs. IfSome (handed_back result.0)
+            (HoldsTail (HasList I.next_gives) msgs)) }
+        ensures kept { IfSome self.old.kept (λ msgs. IfSome self.new.kept
+            (HoldsTail (HasList I.next_gives) msgs)) }
+        ensures answered { IfReady result.0 (λ _. self.new ≡ done) }
+        ensures waits { OnPending result.0 (is_some self.new.kept ≡ is_some self.old.kept) }
+
+        // Whether or not the iterator has one list.
+        ensures unsent_callable { IfSome (handed_back result.0) (peekable_can I.can_next) }
+        ensures kept_callable { ForSome self.new.kept (peekable_can I.can_next) }
+        ensures front { IfSome self.old.kept (λ _. (front : List (T × P))
+            × TriesFront core.old.state self.old.ticket front result.0 result.1 core.new.state
+            × ComparesAtMost (length front * digits (length core.new.state.pending))
+            (search_bound core.old.state.waiters) core.old core.new) }
+        ensures good { IfSome self.old.kept (λ _. IsGood core.new.state) }
+    {
+        let Some((rest, ticket)) = self.rest.take() else {
+            return (Poll::Pending, core.nobody());
+        };
+        let (tried, wakes) = core.try_sendv(rest);
+        (self.rest.keep_tried(tried, ticket, core), wakes)
+    }
+
+    /// Sends what there is room for, and waits for room with the rest and the waker. A state that
+    /// is done answers `Pending`, and changes nothing.
+    pub fn poll_on<W: Clone, A: Allocator + Copy>(
+        &mut self,
+        core: &mut PriorityQueueChannel<T, P, W, A>,
+        waker: &W,
+    ) -> (Poll<Result<(), SendFault<Peekable<I>>>>, Wakes<W, A>)
+        requires { ForSome self.old.kept (peekable_can I.can_next) }
+        ensures step { IfSome self.old.kept (λ msgs.
+            PollsKept (Performs (HasList I.next_gives) P.cmp W.is_clone) sendv_of
+            (λ reply. Answer.PollSendv reply)
+            msgs self.old.ticket waker.now core.old.state result.0 result.1 core.new.state
+            self.new) }
+        ensures done { self.old.kept ≡ None → (result.0 ≡ Poll.Pending) × (result.1 ≡ nobody)
+            × (self.new ≡ self.old) × (core.new ≡ core.old) }
+        ensures unsent { IfSome self.old.kept (λ msgs. IfSome (handed_back result.0)
+            (HoldsTail (HasList I.next_gives) msgs)) }
+        ensures kept { IfSome self.old.kept (λ msgs. IfSome self.new.kept
+            (HoldsTail (HasList I.next_gives) msgs)) }
+        ensures answered { IfReady result.0 (λ _. self.new ≡ done) }
+        ensures waits { OnPending result.0 (is_some self.new.kept ≡ is_some self.old.kept) }
+
+        // Whether or not the iterator has one list.
+        ensures unsent_callable { IfSome (handed_back result.0) (peekable_can I.can_next) }
+        ensures kept_callable { ForSome self.new.kept (peekable_can I.can_next) }
+        ensures front { IfSome self.old.kept (λ _. (front : List (T × P))
+            × PollsFront W.is_clone core.old.state self.old.ticket waker.now front result.1
+            core.new.state
+            × ComparesAtMost (length front * digits (length core.new.state.pending))
+            (search_bound core.old.state.waiters) core.old core.new) }
+        ensures good { IfSome self.old.kept (λ _. IsGood core.new.state) }
+    {
+        let Some((msgs, ticket)) = self.rest.take() else {
+            return (Poll::Pending, core.nobody());
+        };
+        let (answer, wakes) = core.poll_sendv(msgs, ticket, waker);
+        (self.rest.keep(answer), wakes)
+    }
+}
+
+/// What a receive keeps: its ticket, and that it is not done.
+#[derive(Drop)]
+pub struct RecvState {
+    receive: Kept<()>,
+}
+
+impl Model for RecvState {
+    ghost use Rattle.priority_channel_waiting.specs.Holding.{Holding};
+
+    ghost Value = { Holding (Unit {0}) };
+
+    ghost view = { λ s. s.receive };
+}
+
+impl RecvState {
+    /// A receive that was not polled yet.
+    pub fn new() -> Self
+        ensures { result ≡ unpolled tt }
+    {
+        RecvState {
+            receive: Kept::new(()),
+        }
+    }
+
+    /// The ticket under which it waits, or waited until it was handed out.
+    pub fn ticket(&self) -> Option<u64>
+        ensures { result ≡ self.now.ticket }
+    {
+        self.receive.ticket()
+    }
+
+    /// Whether it has answered or was given up.
+    pub fn is_done(&self) -> bool
+        ensures { IsTrue result ↔ (self.now.kept ≡ None) }
+    {
+        self.receive.is_done()
+    }
+
+    /// Receives a pair where it need not wait, as a poll does with whatever waker. Where the
+    /// channel is open and empty it answers `Pending`, and changes nothing; so does a state that is
+    /// done.
+    pub fn try_on<T, P: Ord, W: Clone, A: Allocator + Copy>(
+        &mut self,
+        core: &mut PriorityQueueChannel<T, P, W, A>,
+    ) -> (Poll<Result<(T, P), RecvFault>>, Wakes<W, A>)
+        ensures step { IfSome self.old.kept (λ kept. IfReady result.0 (λ _. (waker : W)
+            → PollsKept (Step P.cmp W.is_clone) recv_of (λ reply. Answer.PollRecv reply)
+            kept self.old.ticket waker core.old.state result.0 result.1 core.new.state self.new)) }
+        ensures blocked { IfSome self.old.kept (λ _. OnPending result.0
+            ((core.old.state.is_closed ≡ false) × (core.old.state.pending ≡ []))) }
+        ensures waits { OnPending result.0 ((result.1 ≡ nobody) × (self.new ≡ self.old)
+            × (core.new.state ≡ core.old.state)) }
+        ensures answered { IfReady result.0 (λ _. self.new ≡ done) }
+        ensures cost { ComparesAtMost (2 * digits (length core.old.state.pending))
+            (search_bound core.old.state.waiters) core.old core.new }
+    {
+        if self.is_done() {
+            return (Poll::Pending, core.nobody());
+        }
+        let (received, wakes) = core.try_recv();
+        match received {
+            Ok(pair) => {
+                self.give_up_on(core);
+                (Poll::Ready(Ok(pair)), wakes)
+            }
+            Err(TryRecvError::Closed) => {
+                self.give_up_on(core);
+                (Poll::Ready(Err(RecvFault::Closed(RecvError))), wakes)
+            }
+            Err(TryRecvError::Empty) => (Poll::Pending, wakes),
+        }
+    }
+
+    /// Receives a pair, or waits for a message with the waker. A state that is done answers
+    /// `Pending`, and changes nothing.
+    pub fn poll_on<T, P: Ord, W: Clone, A: Allocator + Copy>(
+        &mut self,
+        core: &mut PriorityQueueChannel<T, P, W, A>,
+        waker: &W,
+    ) -> (Poll<Result<(T, P), RecvFault>>, Wakes<W, A>)
+        ensures step { IfSome self.old.kept (λ kept. PollsKept (Step P.cmp W.is_clone) recv_of
+            (λ reply. Answer.PollRecv reply)
+            kept self.old.ticket waker.now core.old.state result.0 result.1 core.new.state
+            self.new) }
+        ensures answered { IfReady result.0 (λ _. self.new ≡ done) }
+        ensures waits { OnPending result.0 (self.new.kept ≡ self.old.kept) }
+        ensures done { self.old.kept ≡ None → (result.0 ≡ Poll.Pending) × (result.1 ≡ nobody)
+            × (self.new ≡ self.old) × (core.new ≡ core.old) }
+        ensures cost { ComparesAtMost (2 * digits (length core.old.state.pending))
+            (search_bound core.old.state.waiters) core.old core.new }
+    {
+        let Some(((), ticket)) = self.receive.take() else {
+            return (Poll::Pending, core.nobody());
+        };
+        let (answer, wakes) = core.poll_recv(ticket, waker);
+        (self.receive.keep(answer), wakes)
+    }
+
+    /// Ends the receive, which waits no more; None where it was done.
+    pub fn give_up_on<T, P: Ord, W: Clone, A: Allocator + Copy>(
+        &mut self,
+        core: &mut PriorityQueueChannel<T, P, W, A>,
+    ) -> Option<()>
+        ensures kept { result ≡ self.old.kept }
+        ensures done { self.new ≡ done }
+        ensures left { GivesUpTicket P.cmp W.is_clone core.old.state self.old.ticket
+            core.new.state }
+        ensures cost { ComparesAtMost 0 (search_bound core.old.state.waiters) core.old core.new }
+    {
+        self.receive.give_up_on(core)
+    }
+}

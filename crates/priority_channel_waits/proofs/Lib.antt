@@ -1,2 +1,0 @@
-pub mod LeftOver
-pub mod Lines
