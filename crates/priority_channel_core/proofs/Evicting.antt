@@ -14,6 +14,7 @@ use Rattle.priority_channel_core.specs.machine.Evicts.{Evicts}
 use Rattle.priority_channel_core.specs.machine.OtherCalls.{Frees}
 use Rattle.priority_channel_core.specs.Waiters.{HasOwnTickets}
 use Rattle.priority_channel_core.specs.code.Channel.{state_of, IsSound}
+use Rattle.priority_channel_core.specs.code.Room.{SomeBelow}
 use Rattle.priority_channel_core.proofs.Sends.{refuses_full}
 
 length_least : {T P : Type 0} (cmp : P → P → Ordering) (pending : List (T × P)) (pair : T × P) (rest : List (T × P)) → TakesLeast cmp pending pair rest
@@ -21,13 +22,21 @@ length_least : {T P : Type 0} (cmp : P → P → Ordering) (pending : List (T ×
 length_least cmp pending pair rest t =
     omega (arith, ap length t.split, ap length t.closed_up, length-append t.before (pair ∷ t.after), length-append t.before t.after)
 
+pub none_or_some : {T P : Type 0} (cmp : P → P → Ordering) (pending : List (T × P)) (priority : P) → SomeBelow cmp pending priority → NoneBelow cmp pending priority → ⊥
+none_or_some {T} {P} cmp pending priority some none =
+    let all = recursion_from_All (λ (other : T × P). is_lt (cmp other.1 priority) ≡ false) _ (rw some.stands at none) in
+    let not_less = (every_part (λ (other : T × P). is_lt (cmp other.1 priority) ≡ false) some.before (some.pair ∷ some.after) all).1.0 in
+    let less : is_lt (cmp some.pair.1 priority) ≡ true = ap is_lt some.less in cc
+
 -- what is displaced is less urgent
-pub one_below : {T P : Type 0} (cmp : P → P → Ordering) (pending new : List (T × P)) (pair out : T × P) → Displaces cmp pending pair out new → NoneBelow cmp pending pair.1 → ⊥
-one_below {T} {P} cmp pending new pair out displaced none =
-    let least = displaced.least in
-    let all = recursion_from_All (λ (other : T × P). is_lt (cmp other.1 pair.1) ≡ false) _ (rw least.split at none) in
-    let not_less = (every_part (λ (other : T × P). is_lt (cmp other.1 pair.1) ≡ false) least.before (out ∷ least.after) all).1.0 in
-    let less : is_lt (cmp out.1 pair.1) ≡ true = ap is_lt displaced.less in cc
+pub one_below : {T P : Type 0} (cmp : P → P → Ordering) (pending new : List (T × P)) (pair out : T × P) → Displaces cmp pending pair out new → SomeBelow cmp pending pair.1
+one_below cmp pending new pair out displaced = record {
+  pair = out;
+  before = displaced.least.before;
+  after = displaced.least.after;
+  stands = displaced.least.split;
+  less = displaced.less;
+}
 
 module _ {T P W : Type 0} (cmp : P → P → Ordering) (bag after : Contents T P) (word : Word W) (capacity : ℕ) (is_reserved : Bool) (senders receivers : ℕ)
     (sound : IsSound bag word (state_of bag word capacity is_reserved senders receivers)) (opened : word.is_closed ≡ false) (full : capacity ≤ word.count)

@@ -1,5 +1,6 @@
 -- What the contracts of the code's calls cite beside the machine.
 pub mod Channel
+pub mod Room
 pub mod Replies
 pub mod Lists
 pub mod Front

@@ -15,6 +15,7 @@ impl<T, P: Ord, W: Clone, A: Allocator + Copy> PriorityQueueChannel<T, P, W, A> 
     ghost use Rattle.priority_channel_bag.specs.Least.{NoneBelow};
     ghost use Rattle.priority_channel_core.specs.Errors.{rest_of};
     ghost use Rattle.priority_channel_core.specs.code.Channel.{ComparesAtMost, search_for_least};
+    ghost use Rattle.priority_channel_core.specs.code.Room.{HasRoom, HasNumber, HasMemory, IsFull, SomeBelow};
 
     /// Sends a pair, and into a full channel in place of the least urgent one that is pending, the
     /// last accepted among those of the least priority, if the new pair is more urgent. What is
@@ -36,23 +37,14 @@ impl<T, P: Ord, W: Clone, A: Allocator + Copy> PriorityQueueChannel<T, P, W, A> 
             (Answer.TrySendEvicting result.0) result.1 self.new.state }
         ensures closed { self.old.state.is_closed ≡ true
             → result.0 ≡ Err (TrySendError.Closed (msg, priority)) }
-        ensures full { self.old.state.is_closed ≡ false
-            → length self.old.state.pending ≡ self.old.state.capacity
-            → self.old.state.accepted + 1 < 2 ^ 64
+        ensures full { IsFull self.old.state → HasNumber self.old.state
             → NoneBelow P.cmp self.old.state.pending priority
             → result.0 ≡ Err (TrySendError.Full (msg, priority)) }
-        ensures displaces { self.old.state.is_closed ≡ false
-            → length self.old.state.pending ≡ self.old.state.capacity
-            → self.old.state.accepted + 1 < 2 ^ 64
-            → (NoneBelow P.cmp self.old.state.pending priority → ⊥)
+        ensures displaces { IsFull self.old.state → HasNumber self.old.state
+            → SomeBelow P.cmp self.old.state.pending priority
             → (out : T × P) × (result.0 ≡ Ok (Some out)) }
-        ensures room { self.old.state.is_closed ≡ false
-            → length self.old.state.pending < self.old.state.capacity
-            → OnOk result.0 (result.0 ≡ Ok None) }
-        ensures reserved { self.old.state.is_closed ≡ false
-            → length self.old.state.pending < self.old.state.capacity
-            → self.old.state.is_reserved ≡ true → self.old.state.accepted + 1 < 2 ^ 64
-            → IsOk result.0 }
+        ensures room { HasRoom self.old.state → OnOk result.0 (result.0 ≡ Ok None) }
+        ensures reserved { HasRoom self.old.state → HasMemory self.old.state → IsOk result.0 }
         ensures displaced { IfOk result.0 (λ displaced. IfSome displaced (λ out.
             (P.cmp out.1 priority ≡ Less) × (result.1 ≡ nobody)
             × (self.new.state.waiters ≡ self.old.state.waiters)

@@ -1,5 +1,5 @@
 use Rattle.std.proofs.Common.{◌≡◌, ◌≤◌, false, refl, rules}
-use Rattle.priority_channel_core.proofs.Evicting.{evicts_displaced, evicts_refused, good_displaced, one_below}
+use Rattle.priority_channel_core.proofs.Evicting.{evicts_displaced, evicts_refused, good_displaced, none_or_some, one_below}
 use Rattle.priority_channel_core.proofs.channel.PriorityQueueChannel.try_send_evicting.Goals as goal
 use Rattle.priority_channel_core.proofs.channel.PriorityQueueChannel.try_send_evicting.Goals.{in-Ok, in-Err}
 
@@ -25,16 +25,17 @@ returns-clause-step g c =
     ]
 
 pub returns-clause-full : goal.returns-clause-full
-returns-clause-full g c = λ opened full fits none.
+returns-clause-full g c = λ full fits none.
     elim c.match-displace.branch [
-      | in-Ok w ↦ absurd (one_below g.P.Ord.cmp c.self.inside.bag.pending c.displace.new.self.pending (c.args.msg, c.args.priority) w.in-Ok.out
-          w.in-Ok.ensures.displaced (rw (← c.self.view_is) at none))
+      | in-Ok w ↦ absurd (none_or_some g.P.Ord.cmp c.self.inside.bag.pending c.args.priority
+          (one_below g.P.Ord.cmp c.self.inside.bag.pending c.displace.new.self.pending (c.args.msg, c.args.priority) w.in-Ok.out w.in-Ok.ensures.displaced)
+          (rw (← c.self.view_is) at none))
       | in-Err w ↦ rw (w.reply-is, w.in-Err.ensures.refused.0) refl
     ]
 
 pub returns-clause-displaces : goal.returns-clause-displaces
-returns-clause-displaces g c = λ opened full fits some.
+returns-clause-displaces g c = λ full fits some.
     elim c.match-displace.branch [
       | in-Ok w ↦ (w.in-Ok.out, w.reply-is)
-      | in-Err w ↦ absurd (some (rw (← c.self.view_is) w.in-Err.ensures.refused.1))
+      | in-Err w ↦ absurd (none_or_some g.P.Ord.cmp c.self.inside.bag.pending c.args.priority (rw (← c.self.view_is) at some) w.in-Err.ensures.refused.1)
     ]
