@@ -85,10 +85,18 @@ fn call_without_memory<J: Recording, R: Wait + Abort + AllocGlobal>(rt: &R, fres
     alloc.refuse_none();
     let sent = recorder.call(rt, &mut pass, Call::TrySend(1, 1));
     expect_equal(rt, (sent, pass.count()), (Ok(Reply::Sent(Ok(()))), 1));
-    let length = recorder.call(rt, &mut pass, Call::Len);
-    expect_equal(rt, (length, pass.count()), (Ok(Reply::Len(1)), 2));
+    // And as many more as there is memory for.
+    for count in 2..=6_000u64 {
+        let length = recorder.call(rt, &mut pass, Call::Len);
+        expect_equal_at(
+            rt,
+            count,
+            (length, pass.count()),
+            (Ok(Reply::Len(1)), count),
+        );
+    }
     passes.push(pass).expect(rt, "its own place");
-    expect_equal(rt, recorder.end(rt, passes).entries().len(), 2);
+    expect_equal(rt, recorder.end(rt, passes).entries().len(), 6_000);
 }
 
 #[test]
