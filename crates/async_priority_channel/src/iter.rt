@@ -68,7 +68,7 @@ fn wait_without_fail<T, P: Ord, R: Wait + Clone, A: Allocator + Copy>(
     unreachable!()
 }
 
-// Takes no memory, and reads no clock.
+// Sleeps without memory, and without a clock.
 fn pause<R: Wait>(rt: &R) {
     Parker::new().park_timeout(rt, Duration::from_millis(PAUSE));
 }

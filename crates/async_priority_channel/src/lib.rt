@@ -212,8 +212,8 @@
 //! `priority_channel_core`, and the state after it, is one step of a state machine. From this
 //! follows that no message is lost, made up or received twice, in which order messages come, and
 //! that no waiter in the core's lists is forgotten. The handles add a lock and wakes, which are
-//! tested where contracts do not reach. The contract of a refused send proves that it gives back
-//! the caller's own message:
+//! tested where contracts do not reach. It is proved that a refused send gives back the caller's
+//! own message:
 //!
 //! ```
 //! fn offer<R: Wait + Clone>(tx: &Sender<u64, u64, R>, number: u64) -> Option<u64>

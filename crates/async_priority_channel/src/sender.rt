@@ -23,7 +23,7 @@ use std::sync::Wait;
 /// |---|---|---|---|---|
 /// | a message | `try_send` | `send_blocking` | `send_timeout`, `send_deadline` | `send` |
 /// | many messages | `try_sendv` | `sendv_blocking` | `sendv_timeout`, `sendv_deadline` | `sendv` |
-/// | one that makes room | `try_send_evicting` | | | |
+/// | one that may displace another | `try_send_evicting` | | | |
 ///
 /// The other calls are `close`, `close_on_drop`, `downgrade`, `same_channel`, `clone`, and the
 /// queries `is_closed`, `is_empty`, `is_full`, `len`, `capacity`, `sender_count` and
@@ -177,9 +177,9 @@ impl<T, P: Ord, R: Wait + Clone, A: Allocator + Copy> Sender<T, P, R, A> {
     /// greater priority. If the channel is full, it takes no memory and wakes nobody.
     ///
     /// The first such send into a full channel reorders the pending messages, so that both the
-    /// greatest and the least are known. The channel keeps this order. A displacement compares
-    /// priorities at most twice as often as the number of pending messages has binary digits, plus
-    /// once. From then on sends of equal priorities cost as much as others.
+    /// greatest and the least are known. The channel keeps this order. A displacement makes at most
+    /// 2 d + 1 comparisons of priorities, where d is the number of binary digits of the number of
+    /// pending messages. From then on sends of equal priorities cost as much as others.
     ///
     /// ```
     /// let (tx, rx) = bounded(&rt, rt.alloc(), 2)?;

@@ -78,8 +78,8 @@ GivenOnce {T} {P} {W} past now =
     → (earlier : Futures T P W) × (slice_get past.futures which ≡ Some earlier)
     × (ticket_of earlier.standing ≡ Some ticket)
 
--- an event that wakes a future (`Called`) takes its ticket off the list, with a clone of the waker
--- of its last poll
+-- a future that an event wakes (`Called`) has its ticket among the tickets that the event wakes,
+-- with a clone of the waker of its last poll
 abbrev pub CalledBy : {T P W : Type 0} → (W → W → Type 0) → World T P W → Handed W → World T P W
     → Type 0
 CalledBy {T} {P} {W} is_clone old handed new =

@@ -1,5 +1,5 @@
--- The calls on the core of a call that waits on its thread, and what it returns if it waited
--- without success.
+-- What a call that waits on its thread does on the core, and what it returns if it waited without
+-- success.
 use Rattle.std.specs.Prelude.{◌≡◌, ℕ, List, Option, Some, None, ⊤, Result, Ok, Err, codes}
 use Rattle.priority_channel_core.specs.declared.calls.CorePoll.{CorePoll}
 use Rattle.priority_channel_core.specs.declared.calls.CorePoll.TheVariants.{Ready, Pending}

@@ -180,8 +180,8 @@ impl<A: Allocator> Line<A> {
         self.first = self.others.take_first();
     }
 
-    /// Takes the ticket under which the head may be listed. The caller must take that ticket off
-    /// the channel's list.
+    /// Takes the ticket under which the head may be listed, for a caller that takes it off the
+    /// channel's list.
     pub fn take_ticket(&mut self) -> Option<u64>
         ensures ticket { result ≡ self.old.ticket }
         ensures line { self.new ≡ record self.old { ticket = None } }

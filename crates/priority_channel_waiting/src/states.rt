@@ -209,7 +209,7 @@ impl<T, P> SendState<T, P> {
 }
 
 impl<T: Drop, P: Ord + Drop> SendState<T, P> {
-    /// Sends the pair if it need not wait. This is a poll with any waker. If the channel is open
+    /// Sends the pair if it need not wait, as a poll with any waker would. If the channel is open
     /// and full, it returns `Pending` and changes nothing. A state that is done does the same.
     pub fn try_on<W: Clone, A: Allocator + Copy>(
         &mut self,
@@ -338,7 +338,7 @@ impl<M: Drop> SendvState<M> {
 impl<T: Drop, P: Ord + Drop, I: Iterator<Item = (T, P)>> SendvState<Peekable<I>> {
     /// Sends as many pairs as there is room for. If that was not all, it does nothing more: it
     /// returns `Pending`, as a state that is done does, and waits on under the ticket that it had.
-    /// Otherwise this is a poll with any waker.
+    /// Otherwise it does what a poll with any waker would.
     pub fn try_on<W: Clone, A: Allocator + Copy>(
         &mut self,
         core: &mut PriorityQueueChannel<T, P, W, A>,
@@ -455,7 +455,7 @@ impl RecvState {
         self.receive.is_done()
     }
 
-    /// Receives a pair if it need not wait. This is a poll with any waker. If the channel is open
+    /// Receives a pair if it need not wait, as a poll with any waker would. If the channel is open
     /// and empty, it returns `Pending` and changes nothing. A state that is done does the same.
     pub fn try_on<T, P: Ord, W: Clone, A: Allocator + Copy>(
         &mut self,

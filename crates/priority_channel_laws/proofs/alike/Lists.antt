@@ -135,7 +135,7 @@ module _ {W : Type 0} (is_clone : W → W → Type 0) where
         → SameState is_clone (record s { waiters = unlist given s.waiters }) (record r { waiters = unlist given r.waiters })
     same_unlisted given s r h = same_waiting _ _ s r refl refl h (same_unlist given s.waiters r.waiters h.waiters)
 
-    -- what two states that are the same agree in
+    -- what two states that are the same have in common
     pub same_pending : {s r : State T P W} → SameState is_clone s r → r.pending ≡ s.pending
     same_pending h = ap (λ (x : State T P W). x.pending) h.others
 
