@@ -12,7 +12,8 @@ pub record CountedWord (W : Type 0) : Type 0 where
   pub word : Word W
   pub comparisons : ℕ
 
--- the waiters that a step wakes: the waiting senders (`room`) and the waiting receivers (`message`)
+-- the waiters that a step wakes, that is, takes off the lists for the caller to wake: the waiting
+-- senders (`room`) and the waiting receivers (`message`)
 pub record Handed (W : Type 0) : Type 0 where
   pub room : List (ℕ × W)
   pub message : List (ℕ × W)

@@ -132,8 +132,8 @@ impl<W: Clone, A: Allocator> WaitingList<W, A> {
         }
     }
 
-    /// Lists a waiter as `listen` does. If that is refused, the waiter leaves the list of the
-    /// others too.
+    /// Lists a waiter as `listen` does. If that is refused, the waiter leaves the list of the other
+    /// side (`others`) too.
     pub fn listen_beside(
         &mut self,
         others: &mut WaitingList<W, A>,
