@@ -12,7 +12,7 @@ use Rattle.async_priority_channel.specs.Handles.{Underway, HandsBackTail}
 use Rattle.priority_channel_waiting.specs.Tails.{tail_of_itself, tail_of_tail}
 
 module _ {X M : Type 0} (holds : M → List X → Type 0) (can : M → Type 0) where
-  -- given up at once
+  -- if the future is given up at once
   pub hands_back_all : (future : Underway M) (rest : M) → future.state.kept ≡ Some rest → ForSome future.state.kept can
       → HandsBackTail holds can future (Err (send_fault.Memory rest))
   hands_back_all future rest is h = (h rest is, rw is (tail_of_itself holds rest))
@@ -26,7 +26,7 @@ module _ {X M : Type 0} (holds : M → List X → Type 0) (can : M → Type 0) w
   hands_back_unsent future (poll.Ready (Err (send_fault.Closed e))) h k = (h, k)
   hands_back_unsent future (poll.Ready (Err (send_fault.Memory held))) h k = (h, k)
 
-  -- after one that was pending, for all later ones
+  -- after a poll that was pending, for all later polls
   still : (first mid : Option M) (last : M) → is_some mid ≡ is_some first → IfSome first (λ msgs. IfSome mid (HoldsTail holds msgs))
       → IfSome mid (λ msgs. HoldsTail holds msgs last) → IfSome first (λ msgs. HoldsTail holds msgs last)
   still None mid last some h k = tt

@@ -1,4 +1,4 @@
--- What handles and futures show of their channel. What is behind its lock, no value shows.
+-- What handles and futures show of their channel. No value shows what is behind its lock.
 use Rattle.std.specs.Prelude.{◌≡◌, ℕ, Bool, true, List, [], IfErr, IfSome, Option, Some, None, Result}
 use Rattle.priority_channel_core.specs.declared.errors.SendFault.{SendFault}
 use Rattle.priority_channel_core.specs.Errors.{unsent}
@@ -6,23 +6,23 @@ use Rattle.priority_channel_waiting.specs.Holding.{Holding, HoldsTail}
 use Rattle.priority_channel_core.specs.declared.side.Side.{Side}
 use Rattle.priority_channel_core.specs.declared.side.Side.TheVariants.{Room, Message}
 
--- what never changes of a channel: its capacity, and the sources at which tasks wait for room and
--- for a message
+-- the parts of a channel that never change: its capacity, and the sources at which tasks wait on
+-- the send side (`room`) and on the receive side (`message`)
 pub record Channel : Type 0 where
   pub capacity : ℕ
   pub room : ℕ
   pub message : ℕ
 
--- the source at which tasks wait for this
+-- the source at which tasks wait on this side
 abbrev pub source_of : Side → Channel → ℕ
 source_of Room channel = channel.room
 source_of Message channel = channel.message
 
--- handles of one channel
+-- handles of the same channel
 abbrev pub SameChannel : Channel → Channel → Type 0
 SameChannel one other = other ≡ one
 
--- a future over a channel, and what it keeps between its polls
+-- a future over a channel, and its state between polls
 pub record Underway (K : Type 0) : Type 0 where
   pub channel : Channel
   pub state : Holding K
@@ -36,17 +36,17 @@ pub record Streaming : Type 0 where
 abbrev pub MayYield : {X : Type 0} → Streaming → List X → Option X → Type 0
 MayYield stream pairs next = stream.has_ended ≡ true → (pairs ≡ []) × (next ≡ None)
 
--- a future that receives up to so many messages, and whether it has answered
+-- a future that receives up to `limit` messages, and whether it has answered
 pub record Batching : Type 0 where
   pub channel : Channel
   pub limit : ℕ
   pub is_done : Bool
 
--- a fault of a send gives back what it kept
+-- the error of a send gives back what the future kept
 abbrev pub HandsBack : {K : Type 0} → Underway K → Result (Unit {0}) (SendFault K) → Type 0
 HandsBack future answer = IfErr answer (λ fault. future.state.kept ≡ Some (unsent fault))
 
--- a fault of a bulk send gives back a tail of what it kept, which can be sent again
+-- the error of a bulk send gives back a tail of what the future kept, which can be sent again
 abbrev pub HandsBackTail : {X M : Type 0} → (M → List X → Type 0) → (M → Type 0) → Underway M
     → Result (Unit {0}) (SendFault M) → Type 0
 HandsBackTail holds can future answer =

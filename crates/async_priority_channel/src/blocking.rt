@@ -1,4 +1,4 @@
-//! The calls that wait on their thread, without a limit or for a limited time.
+//! The calls that wait on their thread, with or without a time limit.
 ghost use Rattle.std.specs.Prelude.{◌≡◌, IfErr};
 ghost use Rattle.std.specs.Iterator.Adapters.{peekable_can};
 ghost use Rattle.priority_channel_core.specs.code.Lists.{HasList};
@@ -18,12 +18,12 @@ use std::sync::Wait;
 use std::time::{Clock, Duration, Instant};
 
 impl<T, P: Ord, R: Wait + Clone, A: Allocator + Copy> Receiver<T, P, R, A> {
-    /// Receives a message, and waits for one on this thread, which sleeps meanwhile. Its fault is
-    /// `Closed`, where none can come any more, or `Memory`, where it has to wait and memory for
-    /// that is refused.
+    /// Receives a message. If none is pending, it waits for one on this thread, which sleeps
+    /// meanwhile. The error is `Closed` if no message can come any more, or `Memory` if the call
+    /// has to wait and memory for waiting is refused.
     ///
-    /// It holds up an executor: a task uses `recv`. A loop over it has no end that a proof sees;
-    /// `for pair in &rx` has.
+    /// It blocks an executor, so a task uses `recv`. A proof does not see that a loop over this
+    /// call ends. It sees that `for pair in &rx` does.
     ///
     /// ```
     /// let (tx, rx) = bounded(&rt, rt.alloc(), 1)?;
@@ -37,12 +37,11 @@ impl<T, P: Ord, R: Wait + Clone, A: Allocator + Copy> Receiver<T, P, R, A> {
         Ok(self.handle.wait(Receive, &Endless, &mut None)?)
     }
 
-    /// As `recv_blocking`, but waits no longer than that: with a limit of zero as `try_recv`, and
-    /// without a limit where that is past the end of the clock's range. A message that comes at the
-    /// last moment is received.
+    /// As `recv_blocking`, but waits no longer than `timeout`. With a timeout of zero it is like
+    /// `try_recv`. There is no limit if the timeout ends past the range of the clock. A message
+    /// that comes at the last moment is received.
     ///
-    /// `Timeout` comes from a reading of the clock that is not before the deadline, or where the
-    /// clock cannot be read.
+    /// `Timeout` is returned only if the clock was read at or past the deadline, or cannot be read.
     ///
     /// ```
     /// let (tx, rx) = bounded(&rt, rt.alloc(), 1)?;
@@ -61,7 +60,7 @@ impl<T, P: Ord, R: Wait + Clone, A: Allocator + Copy> Receiver<T, P, R, A> {
         Ok(self.handle.wait(Receive, &deadline, &mut None)?)
     }
 
-    /// As `recv_timeout`, but waits no longer than until then.
+    /// As `recv_timeout`, but waits no longer than until `deadline`.
     ///
     /// ```
     /// let (tx, rx) = bounded(&rt, rt.alloc(), 1)?;
@@ -82,11 +81,11 @@ impl<T, P: Ord, R: Wait + Clone, A: Allocator + Copy> Receiver<T, P, R, A> {
 }
 
 impl<T, P: Ord, R: Wait + Clone, A: Allocator + Copy> Sender<T, P, R, A> {
-    /// Sends a message, and waits for room on this thread, which sleeps meanwhile. Its fault is
-    /// `Closed`, or `Memory` where memory is refused for the message or for waiting, and gives the
-    /// message back.
+    /// Sends a message. If there is no room, it waits for room on this thread, which sleeps
+    /// meanwhile. The error is `Closed`, or `Memory` if memory is refused for the message or for
+    /// waiting. It gives the message back.
     ///
-    /// It holds up an executor: a task uses `send`.
+    /// It blocks an executor, so a task uses `send`.
     ///
     /// ```
     /// let (tx, rx) = bounded(&rt, rt.alloc(), 1)?;
@@ -102,12 +101,11 @@ impl<T, P: Ord, R: Wait + Clone, A: Allocator + Copy> Sender<T, P, R, A> {
         Ok(self.handle.wait((msg, priority), &Endless, &mut None)?)
     }
 
-    /// As `send_blocking`, but waits no longer than that: with a limit of zero as `try_send`, and
-    /// without a limit where that is past the end of the clock's range. Either the message was
-    /// sent, or the error gives it back.
+    /// As `send_blocking`, but waits no longer than `timeout`. With a timeout of zero it is like
+    /// `try_send`. There is no limit if the timeout ends past the range of the clock. Either the
+    /// message was sent, or the error gives it back.
     ///
-    /// `Timeout` comes from a reading of the clock that is not before the deadline, or where the
-    /// clock cannot be read.
+    /// `Timeout` is returned only if the clock was read at or past the deadline, or cannot be read.
     ///
     /// ```
     /// let (tx, rx) = bounded(&rt, rt.alloc(), 1)?;
@@ -133,7 +131,7 @@ impl<T, P: Ord, R: Wait + Clone, A: Allocator + Copy> Sender<T, P, R, A> {
         Ok(self.handle.wait((msg, priority), &deadline, &mut None)?)
     }
 
-    /// As `send_timeout`, but waits no longer than until then.
+    /// As `send_timeout`, but waits no longer than until `deadline`.
     ///
     /// ```
     /// let limit = Duration::from_millis(5);
@@ -158,9 +156,9 @@ impl<T, P: Ord, R: Wait + Clone, A: Allocator + Copy> Sender<T, P, R, A> {
 }
 
 impl<T: Drop, P: Ord + Drop, R: Wait + Clone, A: Allocator + Copy> Sender<T, P, R, A> {
-    /// Sends all messages, and waits for room on this thread, which sleeps meanwhile. Its fault is
-    /// one of those of `send_blocking` and gives the rest back; what was sent stays sent. The
-    /// iterator is called and dropped as by `try_sendv`.
+    /// Sends all messages, and waits for room on this thread, which sleeps meanwhile. The errors
+    /// are those of `send_blocking`, and give back the rest. What was sent stays sent. The iterator
+    /// is called and dropped as by `try_sendv`.
     ///
     /// ```
     /// let (tx, rx) = bounded(&rt, rt.alloc(), 1)?;
@@ -183,8 +181,8 @@ impl<T: Drop, P: Ord + Drop, R: Wait + Clone, A: Allocator + Copy> Sender<T, P, 
         Ok(self.handle.wait(msgs, &Endless, &mut None)?)
     }
 
-    /// As `sendv_blocking`, but waits no longer than that, with the limits of `send_timeout`. The
-    /// rest that comes back can be sent again.
+    /// As `sendv_blocking`, but waits no longer than `timeout`, with the limits of `send_timeout`.
+    /// The rest that comes back can be sent again.
     ///
     /// ```
     /// let (tx, rx) = bounded(&rt, rt.alloc(), 1)?;
@@ -212,7 +210,7 @@ impl<T: Drop, P: Ord + Drop, R: Wait + Clone, A: Allocator + Copy> Sender<T, P, 
         Ok(self.handle.wait(msgs, &deadline, &mut None)?)
     }
 
-    /// As `sendv_timeout`, but waits no longer than until then.
+    /// As `sendv_timeout`, but waits no longer than until `deadline`.
     ///
     /// ```
     /// let now = Instant::now(&rt)?;

@@ -1,4 +1,4 @@
-//! The constructors of a channel, which give its first sender and its first receiver.
+//! The constructors of a channel. Each returns its first sender and its first receiver.
 ghost use Rattle.std.specs.Prelude.{◌≡◌, ◌-◌, ◌<◌, ◌^◌, IfOk};
 ghost use Rattle.priority_channel_core.specs.machine.State.{opening};
 
@@ -21,8 +21,8 @@ pub type Ends<T, P, R, A = Global> = (Sender<T, P, R, A>, Receiver<T, P, R, A>);
 /// A channel for at most `cap` pending messages. While it is full, `send` waits and `try_send` is
 /// refused.
 ///
-/// Memory for messages is taken as they are sent; `bounded_reserved` takes it once and for all. The
-/// error is that memory was refused for what the handles share.
+/// Memory for messages is allocated as they are sent; `bounded_reserved` allocates all of it at
+/// once. The error is that memory was refused for what the handles share.
 ///
 /// ```
 /// let (tx, rx) = bounded(&rt, rt.alloc(), 10)?;
@@ -42,10 +42,10 @@ pub fn bounded<T: Drop, P: Ord + Drop, R: Wait + Clone, A: Allocator + Copy>(
     ends(rt, alloc, cap, Core::bounded(alloc, cap))
 }
 
-/// A channel for at most `cap` pending messages, whose memory is taken here: no later `try_send` or
-/// `try_sendv` is refused for want of memory before 2^64 - 1 messages were accepted. Who has to
-/// wait still asks for memory to wait in, and for one in the list of those who wait. The error is
-/// that memory was refused.
+/// A channel for at most `cap` pending messages, whose memory is reserved here. Until 2^64 - 1
+/// messages were accepted, no later `try_send` or `try_sendv` fails for lack of memory. A sender or
+/// a receiver that has to wait still asks for memory for its waiter and for its entry in the
+/// waiting list. The error is that memory was refused.
 ///
 /// ```
 /// let (tx, rx) = bounded_reserved(&rt, rt.alloc(), 1)?;
@@ -66,8 +66,8 @@ pub fn bounded_reserved<T: Drop, P: Ord + Drop, R: Wait + Clone, A: Allocator + 
     ends(rt, alloc, cap, Core::bounded_reserved(alloc, cap)?)
 }
 
-/// A channel without a limit but memory: `send` waits for nobody. The error is that memory was
-/// refused for what the handles share.
+/// A channel whose only limit is memory: `send` never waits. The error is that memory was refused
+/// for what the handles share.
 ///
 /// ```
 /// let (tx, rx) = unbounded(&rt, rt.alloc())?;

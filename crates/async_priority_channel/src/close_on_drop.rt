@@ -5,8 +5,8 @@ use crate::shared::Handle;
 use std::alloc::{Allocator, Global};
 use std::sync::Wait;
 
-/// Closes the channel where it is dropped, so that nobody waits for a party that has failed.
-/// `Sender::close_on_drop` and `Receiver::close_on_drop` make it.
+/// Closes the channel when it is dropped, so that no sender or receiver waits for one that has
+/// failed. `Sender::close_on_drop` and `Receiver::close_on_drop` make it.
 ///
 /// ```
 /// fn first<R: Wait + Clone>(rx: &Receiver<u64, u64, R>) -> Result<u64, TryRecvError> {
@@ -18,7 +18,7 @@ use std::sync::Wait;
 #[must_use = "it closes the channel as soon as it is dropped"]
 pub struct CloseOnDrop<'a, T, P: Ord, R: Wait + Clone, A: Allocator + Copy = Global> {
     handle: &'a Handle<T, P, R, A>,
-    // Whether the last receiver lets go what is pending.
+    // Whether pending messages are dropped with the last receiver.
     lets_go: bool,
 }
 
@@ -33,7 +33,7 @@ impl<T, P: Ord, R: Wait + Clone, A: Allocator + Copy> Drop for CloseOnDrop<'_, T
 }
 
 impl<T, P: Ord, R: Wait + Clone, A: Allocator + Copy> Sender<T, P, R, A> {
-    /// A guard whose drop closes the channel, however its scope is left. What is pending can still
+    /// A guard whose drop closes the channel, however its scope is left. Pending messages can still
     /// be received.
     ///
     /// ```
@@ -54,9 +54,10 @@ impl<T, P: Ord, R: Wait + Clone, A: Allocator + Copy> Sender<T, P, R, A> {
 }
 
 impl<T, P: Ord, R: Wait + Clone, A: Allocator + Copy> Receiver<T, P, R, A> {
-    /// A guard whose drop closes the channel, however its scope is left. What is pending then can
-    /// be received as long as there is a receiver, and is dropped with the last one: a message may
-    /// hold the means of an answer, and who waits for that answer then learns that none comes.
+    /// A guard whose drop closes the channel, however its scope is left. Messages that are pending
+    /// then can be received as long as there is a receiver, and are dropped with the last one. A
+    /// message may hold the means of an answer: then the client that waits for that answer learns
+    /// that none comes.
     ///
     /// ```
     /// let (answer, answers) = unbounded::<&str, u64, _, _>(&rt, rt.alloc())?;

@@ -1,4 +1,4 @@
-//! The messages of a channel one after another, for the loop of a worker.
+//! Iterators over the messages of a channel, for the loop of a worker.
 ghost use Rattle.std.specs.Prelude.{◌≡◌, ◌<◌, IfSome, IfNone, None};
 ghost use Rattle.std.specs.Iterator.{at_most};
 
@@ -14,15 +14,16 @@ use std::sync::Wait;
 use std::thread::Parker;
 use std::time::Duration;
 
-// How many milliseconds a loop sleeps where memory for waiting is refused, until it looks for a
-// message again.
+// How many milliseconds a loop sleeps after memory for waiting was refused, before it tries to
+// receive again.
 const PAUSE: u64 = 1;
 
-// The waits of a loop, with one waiter for all of them.
+// The waits of a loop. They share one waiter.
 #[derive(Drop)]
 struct Waits<A: Allocator> {
     waiter: Option<Waiter<A>>,
-    // An end that a loop's proof sees, and no run reaches; none is left once the channel has ended.
+    // A bound by which the proof of a loop sees that it ends. No run reaches it. It is 0 once the
+    // channel has ended.
     left: u64,
 }
 
@@ -51,7 +52,7 @@ impl<A: Allocator + Copy> Waits<A> {
     }
 }
 
-// Waits until a message is there or none can come. To wait takes memory, and to look does not.
+// Waits until a message is there or none can come. A wait takes memory, and a try does not.
 fn wait_without_fail<T, P: Ord, R: Wait + Clone, A: Allocator + Copy>(
     handle: &Handle<T, P, R, A>,
     waiter: &mut Option<Waiter<A>>,
@@ -67,16 +68,16 @@ fn wait_without_fail<T, P: Ord, R: Wait + Clone, A: Allocator + Copy>(
     unreachable!()
 }
 
-// Without memory, and without a clock.
+// Sleeps without memory, and without a clock.
 fn pause<R: Wait>(rt: &R) {
     Parker::new().park_timeout(rt, Duration::from_millis(PAUSE));
 }
 
-/// The messages of a channel, for each of which the thread waits, until the channel is closed and
-/// empty. `Receiver::iter` and `for pair in &rx` make it.
+/// The messages of a channel, until the channel is closed and empty. The thread waits for each of
+/// them. `Receiver::iter` and `for pair in &rx` make it.
 ///
-/// It never fails: where memory for waiting is refused, it sleeps for a millisecond and looks
-/// again. Its waits share what keeps them in the waiting list.
+/// It never fails: if memory for waiting is refused, it sleeps for a millisecond and tries again.
+/// All its waits share one waiter.
 ///
 /// ```
 /// let (tx, rx) = bounded(&rt, rt.alloc(), 1)?;
@@ -114,7 +115,7 @@ impl<'a, T, P: Ord, R: Wait + Clone, A: Allocator + Copy> Iterator for Iter<'a, 
 
 impl<'a, T, P: Ord, R: Wait + Clone, A: Allocator + Copy> FusedIterator for Iter<'a, T, P, R, A> {}
 
-/// As `Iter`, with a receiver of its own, which goes with it. `for pair in rx` makes it.
+/// As `Iter`, with its own receiver, which is dropped with it. `for pair in rx` makes it.
 ///
 /// ```
 /// let (tx, rx) = unbounded(&rt, rt.alloc())?;
@@ -147,8 +148,8 @@ impl<T: Drop, P: Ord + Drop, R: Wait + Clone, A: Allocator + Copy> Iterator
 impl<T: Drop, P: Ord + Drop, R: Wait + Clone, A: Allocator + Copy> FusedIterator
     for IntoIter<T, P, R, A> {}
 
-/// The messages that are there, until none is. `Receiver::try_iter` makes it. Once it has found
-/// none, it stays ended.
+/// The messages that are pending, until there is none. `Receiver::try_iter` makes it. Once it has
+/// found none, it stays ended.
 ///
 /// ```
 /// let (tx, rx) = unbounded(&rt, rt.alloc())?;
@@ -161,7 +162,7 @@ impl<T: Drop, P: Ord + Drop, R: Wait + Clone, A: Allocator + Copy> FusedIterator
 #[must_use = "it receives nothing until it is asked for the next message"]
 pub struct TryIter<'a, T, P: Ord, R: Wait + Clone, A: Allocator + Copy = Global> {
     receiver: &'a Receiver<T, P, R, A>,
-    // As of `Waits`.
+    // As in `Waits`.
     left: u64,
 }
 
@@ -221,8 +222,8 @@ impl<T: Drop, P: Ord + Drop, R: Wait + Clone, A: Allocator + Copy> IntoIterator
 }
 
 impl<T, P: Ord, R: Wait + Clone, A: Allocator + Copy> Receiver<T, P, R, A> {
-    /// The messages one after another, each waited for on this thread, until the channel is closed
-    /// and empty. It is what a worker's loop goes over, and its proof sees that the loop ends.
+    /// The messages one after another, until the channel is closed and empty. This thread waits for
+    /// each of them. A worker loops over it, and the proof sees that the loop ends.
     ///
     /// ```
     /// let (tx, rx) = unbounded(&rt, rt.alloc())?;
@@ -241,7 +242,7 @@ impl<T, P: Ord, R: Wait + Clone, A: Allocator + Copy> Receiver<T, P, R, A> {
         }
     }
 
-    /// The messages that are there, until none is. It never waits.
+    /// The messages that are pending, until there is none. It never waits.
     ///
     /// ```
     /// let (tx, rx) = unbounded(&rt, rt.alloc())?;

@@ -1,17 +1,19 @@
-//! A priority channel for many parties, on threads and in tasks: the pending message of greatest
-//! priority goes out first, and among equal priorities the one that was accepted first.
+//! A priority channel for many senders and receivers, on threads and in tasks. The pending message
+//! of greatest priority (the most urgent one) is received first, and among equal priorities the one
+//! that was accepted first.
 //!
-//! `bounded`, `bounded_reserved` and `unbounded` make one. `Sender` and `Receiver` are its handles,
-//! whose pages list their calls; `WeakSender` and `WeakReceiver` know a channel and do not keep it
-//! open. `recorded` has channels that keep a history of all calls, and whose contracts tell it. The
-//! library `priority_channel_witnessed` has channels whose contracts alone tell it.
+//! `bounded`, `bounded_reserved` and `unbounded` make a channel. `Sender` and `Receiver` are its
+//! handles, whose pages list their calls; `WeakSender` and `WeakReceiver` are handles that do not
+//! keep it open. `recorded` has channels that keep a history of all calls, and whose contracts tell
+//! it. The library `priority_channel_witnessed` has channels whose history is told by contracts
+//! alone.
 //!
 //! # Kinds of channels
 //!
-//! `bounded` makes a channel for so many pending messages, at least one: while as many are pending,
-//! a send waits or is refused. `unbounded` has no limit but memory. `bounded_reserved` takes the
-//! memory for all of its messages as it is made. Each is given the permission to wait, which `main`
-//! has in `rt`, and an allocator.
+//! `bounded` makes a channel with a limit on the number of pending messages, which is at least one.
+//! While the channel is full, a send waits or is refused. `unbounded` has no limit but memory.
+//! `bounded_reserved` reserves the memory for all of its messages when it is made. Each constructor
+//! is given the permission to wait, which `main` has in `rt`, and an allocator.
 //!
 //! ```
 //! let (tx, _rx) = bounded(&rt, rt.alloc(), 1)?;
@@ -21,9 +23,9 @@
 //!
 //! # Order
 //!
-//! A receive gives the greatest priority, by the order of its type, which is any that is `Ord`, and
-//! among equals the one that was accepted first. Nothing ages: lesser priorities wait as long as
-//! greater ones are pending.
+//! A receive returns the message of greatest priority, and among equals the one that was accepted
+//! first. The order is that of the priority's type, which may be any type that is `Ord`. Nothing
+//! ages: a message waits as long as others of greater priority are pending.
 //!
 //! ```
 //! let (tx, rx) = unbounded(&rt, rt.alloc())?;
@@ -35,7 +37,7 @@
 //! assert_eq!(rt; rx.try_recv(), Ok(("tidy up", 1)));
 //! ```
 //!
-//! `Reverse` turns an order round: what is due first goes first.
+//! `Reverse` reverses an order: the message that is due first is received first.
 //!
 //! ```
 //! let (tx, rx) = unbounded(&rt, rt.alloc())?;
@@ -47,7 +49,7 @@
 //! # Sharing
 //!
 //! A handle can be cloned, lent, and moved to other threads. Each message goes to one receiver. A
-//! clone can be refused for want of memory, so it is a `Result`.
+//! clone can be refused for lack of memory, so it is a `Result`.
 //!
 //! ```
 //! let (tx, rx) = bounded(&rt, rt.alloc(), 10)?;
@@ -60,8 +62,8 @@
 //! assert_eq!(rt; working.join(&rt), 2);
 //! ```
 //!
-//! A function over a handle is generic in the permission to wait, and needs no more of it than
-//! `Wait` and `Clone` for the calls that have no limit and make no task.
+//! A function over a handle is generic in the permission to wait. For the calls that have no time
+//! limit and make no task it needs only `Wait` and `Clone`.
 //!
 //! ```
 //! fn send_all<R: Wait + Clone>(tx: &Sender<u64, u64, R>, numbers: &[u64]) -> bool {
@@ -73,9 +75,9 @@
 //!
 //! # Closing
 //!
-//! A channel closes by `close`, or as its last sender or its last receiver is dropped, and stays
-//! closed. It accepts nothing more. What is pending can still be received: `Closed` is told where
-//! nothing is left.
+//! A channel is closed by `close`, or when its last sender or its last receiver is dropped, and
+//! stays closed. It accepts nothing more. Pending messages can still be received; `Closed` is
+//! returned once none is left.
 //!
 //! ```
 //! let (tx, rx) = unbounded(&rt, rt.alloc())?;
@@ -86,9 +88,9 @@
 //! assert_eq!(rt; rx.try_recv(), Err(TryRecvError::Closed));
 //! ```
 //!
-//! A weak handle, which `downgrade` makes, keeps no channel open. The guard that `close_on_drop`
-//! makes closes its channel however a scope is left, so that nobody waits for a party that has
-//! failed.
+//! A weak handle, which `downgrade` makes, does not keep the channel open. The guard that
+//! `close_on_drop` makes closes its channel however a scope is left, so that no sender or receiver
+//! waits for one that has failed.
 //!
 //! ```
 //! let (tx, rx) = unbounded::<&str, u64, _, _>(&rt, rt.alloc())?;
@@ -101,9 +103,9 @@
 //!
 //! # Blocking and not
 //!
-//! A call that begins with `try_` answers at once. One that ends in `_blocking` waits on its
-//! thread, which sleeps meanwhile, so that an executor that runs there is held up. The error of a
-//! send holds what was not sent.
+//! A call that begins with `try_` returns at once. One that ends in `_blocking` waits on its
+//! thread, which sleeps meanwhile; an executor that runs there is blocked. The error of a send
+//! holds what was not sent.
 //!
 //! ```
 //! let (tx, rx) = bounded(&rt, rt.alloc(), 1)?;
@@ -117,9 +119,9 @@
 //!
 //! # Time limits
 //!
-//! A call that ends in `_timeout` waits no longer than so long, and one that ends in `_deadline` no
-//! longer than until then. `Timeout` comes only once the time is over or where the clock cannot be
-//! read; either the message was sent, or it comes back.
+//! A call that ends in `_timeout` waits no longer than a given time, and one that ends in
+//! `_deadline` no longer than until a given instant. `Timeout` is returned only once the time is
+//! over, or if the clock cannot be read. Either the message was sent, or it comes back.
 //!
 //! ```
 //! let (tx, rx) = bounded(&rt, rt.alloc(), 1)?;
@@ -133,9 +135,9 @@
 //!
 //! # Iterating
 //!
-//! A loop over `&rx` waits for each message, and ends where the channel is closed and empty. One
-//! over `rx.try_iter()` ends where nothing is pending. A proof sees that such a loop ends, which it
-//! does not of `while let Ok(pair) = rx.recv_blocking()`.
+//! A loop over `&rx` waits for each message, and ends when the channel is closed and empty. One
+//! over `rx.try_iter()` ends when nothing is pending. A proof sees that such a loop ends. It does
+//! not see this of `while let Ok(pair) = rx.recv_blocking()`.
 //!
 //! ```
 //! let (tx, rx) = bounded(&rt, rt.alloc(), 1)?;
@@ -145,8 +147,8 @@
 //! }
 //! ```
 //!
-//! `sendv` and its kin send many messages, as many in one step as there is room for. `recv_many`
-//! and its kin receive up to a limit.
+//! `sendv` and its variants send many messages, in each step as many as there is room for.
+//! `recv_many` and its variants receive up to a limit.
 //!
 //! ```
 //! let (tx, rx) = unbounded(&rt, rt.alloc())?;
@@ -160,7 +162,7 @@
 //! # Futures
 //!
 //! In a task, `send`, `sendv`, `recv` and `recv_many` are futures, and `stream` and `into_stream`
-//! streams, of the kit's `futures`. They do nothing until they are polled. One that is dropped
+//! are streams, of the kit's `futures`. They do nothing until they are polled. One that is dropped
 //! before it has answered receives nothing, and sends no more. Threads and tasks may wait in one
 //! channel.
 //!
@@ -172,7 +174,7 @@
 //! assert_eq!(rt; block_on(&rt, rx.stream().next())?, None);
 //! ```
 //!
-//! A task that waits for two channels goes on with the first that has something.
+//! A task that waits for two channels goes on with the first that has a message.
 //!
 //! ```
 //! let (tx, jobs) = unbounded(&rt, rt.alloc())?;
@@ -186,11 +188,11 @@
 //!
 //! # Memory
 //!
-//! A channel asks its allocator for memory as messages come and as parties wait. Where that is
-//! refused, nothing is lost: the call answers `Memory`, and what was to be sent comes back. A loop
-//! over `&rx` does not fail, but looks again, and a stream asks to be polled again. To `try_send`
-//! and `try_sendv` a channel of `bounded_reserved` does not answer `Memory` before it has accepted
-//! 2^64 - 1 messages.
+//! A channel asks its allocator for memory as messages come and as tasks and threads wait. If
+//! memory is refused, nothing is lost: the call returns `Memory`, and gives back what was to be
+//! sent. A loop over `&rx` does not fail but tries again, and a stream asks to be polled again. A
+//! channel of `bounded_reserved` does not return `Memory` to `try_send` and `try_sendv` before it
+//! has accepted 2^64 - 1 messages.
 //!
 //! ```
 //! let (tx, rx) = bounded_reserved(&rt, rt.alloc(), 100)?;
@@ -201,17 +203,17 @@
 //! }
 //! ```
 //!
-//! What is pending stays in memory as long as there is a handle of the channel, a weak one too.
-//! Once a receiver's guard was dropped, it goes with the last receiver.
+//! Pending messages stay in memory as long as there is a handle of the channel, also a weak one.
+//! Once a guard of a receiver was dropped, they are dropped with the last receiver.
 //!
 //! # What is proved
 //!
 //! Every function is safe, and no number overflows. Each reply of the channel's core,
-//! `priority_channel_core`, and the state after it, is one step of a machine, from which it follows
-//! that no message is lost, made up or received twice, in which order they come, and that of those
-//! whom the core lists nobody is forgotten. The handles add a lock and wakes, which are tested
-//! beyond what a contract sees there. What comes back of a refused send is proved to be the
-//! caller's own:
+//! `priority_channel_core`, and the state after it, is one step of a state machine. From this
+//! follows that no message is lost, made up or received twice, in which order messages come, and
+//! that no waiter in the core's lists is forgotten. The handles add a lock and wakes, which are
+//! tested where contracts do not reach. It is proved that a refused send gives back the caller's
+//! own message:
 //!
 //! ```
 //! fn offer<R: Wait + Clone>(tx: &Sender<u64, u64, R>, number: u64) -> Option<u64>

@@ -1,4 +1,4 @@
-//! Receives of many messages.
+//! Calls that receive many messages.
 ghost use Rattle.std.specs.Prelude.{◌≡◌, ◌<◌, ⊤, ℕ, true, false, IfOk, IfSome, IfNone, OnErr, Result, vec_len, vec_capacity};
 ghost use Rattle.futures.specs.Task.{Covers, Keeps};
 ghost use Rattle.futures.specs.Poll.{IfReady, OnPending};
@@ -17,12 +17,12 @@ use std::sync::Wait;
 
 impl<T, P: Ord, R: Wait + Clone, A: Allocator + Copy> Receiver<T, P, R, A> {
     /// Receives up to `limit` messages at once, appends them to `batch`, the greatest priority
-    /// first, and tells how many came: as so many calls of `try_recv` that no other call comes
-    /// between.
+    /// first, and returns how many came. It is like that many calls of `try_recv` with no other
+    /// call between them.
     ///
-    /// The error is that of one receive, also with a `limit` of 0, or `Memory`, where there is none
-    /// for a first message. Memory for those that are pending is reserved before the lock is taken;
-    /// where it is refused, as many come as there is capacity for.
+    /// The error is that of one receive, also with a `limit` of 0, or `Memory` if there is no
+    /// memory for a first message. Memory for the pending messages is reserved before the lock is
+    /// taken. If it is refused, as many messages come as there is capacity for.
     ///
     /// ```
     /// let (tx, rx) = unbounded(&rt, rt.alloc())?;
@@ -55,11 +55,11 @@ impl<T, P: Ord, R: Wait + Clone, A: Allocator + Copy> Receiver<T, P, R, A> {
     }
 
     /// As `try_recv_many`, but waits for the first message on this thread, which sleeps meanwhile.
-    /// With a `limit` of 0 it does not wait. Its fault is one of those of `recv_blocking`, or
-    /// `Memory` for `batch`.
+    /// With a `limit` of 0 it does not wait. The errors are those of `recv_blocking`, and `Memory`
+    /// for `batch`.
     ///
-    /// Where it has to wait, it receives the first message as it comes, and right after it what is
-    /// there by then.
+    /// If it has to wait, it receives the first message when it comes, and right after it the
+    /// messages that are pending by then.
     ///
     /// ```
     /// let (tx, rx) = bounded(&rt, rt.alloc(), 10)?;
@@ -87,7 +87,7 @@ impl<T, P: Ord, R: Wait + Clone, A: Allocator + Copy> Receiver<T, P, R, A> {
         Ok(self.receive_with(first, batch, limit))
     }
 
-    // None where it has to wait for a first message, for which there is capacity then.
+    // None if the caller has to wait for a first message, for which there is then capacity.
     fn answer_at_once<B: Allocator>(
         &self,
         batch: &mut Vec<(T, P), B>,
@@ -117,7 +117,8 @@ impl<T, P: Ord, R: Wait + Clone, A: Allocator + Copy> Receiver<T, P, R, A> {
         }
     }
 
-    // The first message, for which there is capacity, and what is there behind it.
+    // Appends the first message, for which there is capacity, and the messages that are pending
+    // behind it.
     fn receive_with<B: Allocator>(
         &self,
         first: (T, P),
@@ -136,8 +137,8 @@ impl<T, P: Ord, R: Wait + Clone, A: Allocator + Copy> Receiver<T, P, R, A> {
         }
     }
 
-    /// As `recv_many_blocking`, as a future, which does nothing until it is polled. Dropped before
-    /// it has answered, it takes nothing.
+    /// As `recv_many_blocking`, but as a future, which does nothing until it is polled. If it is
+    /// dropped before it has answered, it takes nothing.
     ///
     /// ```
     /// let (tx, rx) = unbounded(&rt, rt.alloc())?;
@@ -164,8 +165,8 @@ impl<T, P: Ord, R: Wait + Clone, A: Allocator + Copy> Receiver<T, P, R, A> {
     }
 }
 
-// Reserves for what is pending, as far as it is wanted, and for one at least, since it may come
-// before the receive. Where memory is refused, the capacity that is there has to do.
+// Reserves memory for the pending messages, up to `limit`, and for at least one, since a message
+// may come before the receive. If memory is refused, the capacity that is there must do.
 fn reserve<X, B: Allocator>(batch: &mut Vec<X, B>, limit: usize, pending: u64)
     ensures { batch.new.items ≡ batch.old.items }
 {
@@ -175,8 +176,8 @@ fn reserve<X, B: Allocator>(batch: &mut Vec<X, B>, limit: usize, pending: u64)
 
 /// Receives many messages once there is one. `Receiver::recv_many` makes it.
 ///
-/// Polled again after its answer it is pending, changes nothing, and asks to be polled once more,
-/// so it should not be polled on.
+/// If it is polled again after its answer, it is pending, changes nothing, and asks to be polled
+/// once more. So it should not be polled any more.
 ///
 /// ```
 /// let (tx, rx) = unbounded(&rt, rt.alloc())?;
@@ -243,7 +244,7 @@ impl<T, P: Ord, B: Allocator, R: Wait + Clone, A: Allocator + Copy> Future
     }
 }
 
-// Over the fields of a future that is not done.
+// Polls over the fields of a future that is not done.
 fn poll_batch<T, P: Ord, B: Allocator, R: Wait + Clone, A: Allocator + Copy>(
     receiver: &Receiver<T, P, R, A>,
     batch: &mut Vec<(T, P), B>,
@@ -274,7 +275,7 @@ fn poll_batch<T, P: Ord, B: Allocator, R: Wait + Clone, A: Allocator + Copy>(
     Poll::Ready(answer)
 }
 
-// A waker wakes as it is dropped, so the waiter goes after the lock.
+// A waker wakes its task when it is dropped, so the waiter is dropped after the lock is released.
 impl<T, P: Ord, B: Allocator, R: Wait + Clone, A: Allocator + Copy> Drop
     for RecvMany<'_, T, P, B, R, A> {
     fn drop(self) {

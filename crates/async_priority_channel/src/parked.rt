@@ -1,7 +1,41 @@
-//! The wait of a thread: it tries its call, each time in one hold of the channel's lock. Where that
-//! is blocked, it tries again for a while; then it joins the line of those who wait for the same,
-//! and sleeps until it is the first; and then the channel lists it, and it sleeps until it is
-//! handed out.
+//! How a thread waits for room (a send) or for a message (a receive).
+//!
+//! The thread first tries its call. If the call is blocked, the thread spins: it tries again for a
+//! short while. Then it joins the queue (`Line`) of the threads that wait on the same side, and
+//! sleeps until it is the head of the queue (`Lead`). Of these threads only the head is in the
+//! channel's waiting list, so a message, or the room for one, wakes one thread. A head that leaves
+//! promotes the next thread.
+//!
+//! While a thread spins, the head is not in the channel's list, and a message or free room wakes no
+//! thread of that side. The last thread that stops spinning has the head listed again, or wakes it.
+//!
+//! There is the core's lock, and a lock for the queue of each side. In the table, "both" means that
+//! the queue's lock is taken first, and the core's lock within it. "Late" means that the time is
+//! over, "free" that the call is not blocked, and "refused" that memory for waiting was refused:
+//! then the thread returns `Memory`.
+//!
+//! | State   | What the thread does (function)        | Lock held | Next state                   |
+//! |---------|----------------------------------------|-----------|------------------------------|
+//! | try     | tries its call (`wait`)                | core      | return; blocked: unlist      |
+//! |         |                                        |           | blocked and late: last       |
+//! | unlist  | takes the head off the list (`spin`)   | both      | spin                         |
+//! | spin    | tries up to 20 times, with pauses      | core, in  | relist                       |
+//! |         | (`look_for_a_while`)                   | each try  |                              |
+//! | relist  | lists or wakes the head (`rouse`)      | both      | return; blocked: join        |
+//! | join    | joins the queue (`wait_in_line`)       | queue     | alone: head; else: queued    |
+//! |         |                                        |           | refused: return              |
+//! | queued  | sleeps (`sleep_in_line`)               | none      | woken as head: head          |
+//! |         |                                        |           | late: leave; else: queued    |
+//! | leave   | leaves the queue                       | queue     | last; head by now: head      |
+//! | head    | has itself listed (`wait_as_first`)    | both      | listed: asleep; free: retry  |
+//! |         |                                        |           | refused: promote; late: last |
+//! | asleep  | sleeps until it is woken or late       | none      | retry                        |
+//! | retry   | tries (`look_again`); if blocked, goes | as in try | promote; blocked: head       |
+//! |         | through unlist, spin and relist        | to relist |                              |
+//! | last    | tries a last time (`end_wait`)         | core      | return; a head: promote      |
+//! | promote | makes the next the head (`hand_on`)    | both      | return                       |
+//!
+//! If spinning was recently of no use, unlist, spin and relist are skipped.
 ghost use Rattle.std.specs.Prelude.{IfErr, IfSome};
 ghost use Rattle.priority_channel_waiting.specs.Waits.{left_over, given_back};
 
@@ -16,14 +50,15 @@ use priority_channel_waiting::waiter::Waiter;
 use std::alloc::Allocator;
 use std::sync::{Wait, WaitMethods};
 
-// How often a call looks again before its thread sleeps: over 959 pauses of the processor, some ten
-// microseconds, which is about what a sleep and a wake take. It lets no other thread run between:
-// where others keep the processors busy, it would not run again for milliseconds.
+// How many times a call is tried again before its thread sleeps. The pauses of the processor
+// between these tries are 959 in all, some ten microseconds, which is about what a sleep and a wake
+// take. The thread does not yield in between: if other threads keep the processors busy, it would
+// not run again for milliseconds.
 const LOOKS: u32 = 20;
 
 impl<T, P: Ord, R: Wait + Clone, A: Allocator + Copy> Handle<T, P, R, A> {
-    /// Makes a call at once, in one hold of the lock and without memory for waiting; and where it
-    /// is blocked, waits until it is done or the time is over. The waiter is made where the thread
+    /// Tries a call at once, in one step under the lock and without memory for waiting. If the call
+    /// is blocked, waits until it is done or the time is over. The waiter is made when the thread
     /// has to wait, and is left for the next wait.
     pub fn wait<C: Attempt<T, P, A>, U: Until>(
         &self,
@@ -70,8 +105,8 @@ impl<T, P: Ord, R: Wait + Clone, A: Allocator + Copy> Handle<T, P, R, A> {
         }
     }
 
-    // Makes the call again for a while, where that was of use of late. Meanwhile the first in line
-    // is not listed.
+    // Tries the call again for a while, if spinning was recently of use. Meanwhile the head of the
+    // queue is not in the channel's list.
     fn spin<C: Attempt<T, P, A>>(&self, call: C) -> Outcome<C::Done, C>
         requires { C.can_attempt call }
         ensures { IfSome (left_over result) (λ rest. C.can_attempt rest × C.leaves call rest) }
@@ -112,15 +147,16 @@ impl<T, P: Ord, R: Wait + Clone, A: Allocator + Copy> Handle<T, P, R, A> {
         Outcome::Blocked(rest)
     }
 
-    // Takes the first in line off the channel's list.
+    // Takes the head of the queue off the channel's list.
     fn unlist(&self, line: &mut Line<A>) {
         if let Some(ticket) = line.take_ticket() {
             self.lock().give_up(ticket);
         }
     }
 
-    // Where nothing would wake the first in line, the channel lists it, and it sleeps on, or it is
-    // woken.
+    // If the head of the queue is not listed and no thread spins, nothing would wake the head. Then
+    // the channel lists it, and it sleeps on. If it need not wait, or its listing was refused, it
+    // is woken.
     fn rouse(&self, side: Side, line: &mut Line<A>) {
         if !line.is_unattended() {
             return;
@@ -160,7 +196,7 @@ impl<T, P: Ord, R: Wait + Clone, A: Allocator + Copy> Handle<T, P, R, A> {
         }
     }
 
-    // Sleeps in line until the party is the first, or the time is over.
+    // Sleeps in the queue until this thread is the head, or the time is over.
     fn sleep_in_line<U: Until>(
         &self,
         side: Side,
@@ -181,7 +217,7 @@ impl<T, P: Ord, R: Wait + Clone, A: Allocator + Copy> Handle<T, P, R, A> {
                     let left = self.line(side).leave(party);
                     match left {
                         Ok(()) => return Err(over),
-                        // It has become the first meanwhile.
+                        // This thread has become the head in the meantime.
                         Err(waiting) => party = waiting,
                     }
                 }
@@ -209,7 +245,8 @@ impl<T, P: Ord, R: Wait + Clone, A: Allocator + Copy> Handle<T, P, R, A> {
             };
             let listing = self.line(side).list_first(side, &mut self.lock());
             match listing {
-                // It may wake early, or for what another one has taken by now.
+                // The thread may wake early. Or another thread may have taken by now what it was
+                // woken for.
                 Listing::Listed => waiter.park(self.rt(), left),
                 Listing::Free => {}
                 Listing::Refused => return Err(Ended::Memory(rest)),
@@ -222,7 +259,7 @@ impl<T, P: Ord, R: Wait + Clone, A: Allocator + Copy> Handle<T, P, R, A> {
         unreachable!()
     }
 
-    // What a woken thread was woken for is no find of its spinning.
+    // A success right after a wake-up does not count as a success of spinning.
     fn look_again<C: Attempt<T, P, A>>(&self, call: C) -> Outcome<C::Done, C>
         requires { C.can_attempt call }
         ensures { IfSome (left_over result) (λ rest. C.can_attempt rest × C.leaves call rest) }
@@ -233,7 +270,7 @@ impl<T, P: Ord, R: Wait + Clone, A: Allocator + Copy> Handle<T, P, R, A> {
         }
     }
 
-    // Makes the next one in line the first.
+    // Promotes the next thread in the queue to the head.
     fn hand_on(&self, side: Side, lead: Lead) {
         let mut line = self.line(side);
         self.unlist(&mut line);
@@ -253,7 +290,8 @@ impl<T, P: Ord, R: Wait + Clone, A: Allocator + Copy> Handle<T, P, R, A> {
     {
         match self.attempt(call) {
             Outcome::Done(done) => Ok(done),
-            // Memory that was refused only now is no reason: there was none in time.
+            // If memory is refused only in this attempt, the error is still that the time is over:
+            // there was no room in time.
             Outcome::Blocked(call) | Outcome::Memory(call) => Err(Ended::Over(call, over)),
             Outcome::Closed(call) => Err(Ended::Closed(call)),
         }

@@ -1,4 +1,4 @@
-//! Looks at what a receive would give.
+//! Queries of the message that a receive would give.
 ghost use Rattle.std.specs.Prelude.{IfSome};
 
 use crate::receiver::Receiver;
@@ -6,12 +6,13 @@ use std::alloc::{AllocError, Allocator};
 use std::sync::Wait;
 
 impl<T, P: Ord, R: Wait + Clone, A: Allocator + Copy> Receiver<T, P, R, A> {
-    /// What `look` makes of the message and the priority that a receive would give, which stay
-    /// pending; None where nothing is pending. Another receiver may have taken them by the time of
-    /// the answer.
+    /// Calls `look` on the message and the priority that a receive would give, and returns its
+    /// result. Both stay pending. None if nothing is pending. By the time of the answer another
+    /// receiver may have taken them.
     ///
     /// `look` is called under the channel's lock: a call that it makes on the channel, or a handle
-    /// of it that it drops, waits for ever. Let it be short, since all others wait for it.
+    /// of the channel that it drops, waits for ever. It should be short, since all other calls wait
+    /// for it.
     ///
     /// ```
     /// let (tx, rx) = unbounded(&rt, rt.alloc())?;
@@ -35,8 +36,8 @@ impl<T, P: Ord, R: Wait + Clone, A: Allocator + Copy> Receiver<T, P, R, A> {
         }
     }
 
-    /// A clone of the priority that a receive would give, which stays pending; None where nothing
-    /// is pending. The error is that the clone was refused. It is cloned under the channel's lock.
+    /// A clone of the priority that a receive would give, which stays pending. None if nothing is
+    /// pending. The error is that the clone was refused. It is cloned under the channel's lock.
     ///
     /// ```
     /// let (tx, rx) = unbounded(&rt, rt.alloc())?;

@@ -12,8 +12,8 @@ use std::marker::Model;
 use std::random::RandomSource;
 use std::sync::Wait;
 
-/// Receives the messages of a channel, the greatest priority first, and the one accepted first
-/// among equals.
+/// Receives the messages of a channel: the greatest priority first, and among equal priorities the
+/// one accepted first.
 ///
 /// | | at once | waits on its thread | for a limited time | for a task |
 /// |---|---|---|---|---|
@@ -21,27 +21,28 @@ use std::sync::Wait;
 /// | many messages | `try_recv_many` | `recv_many_blocking` | | `recv_many` |
 /// | one after another | `try_iter` | `iter`, `for pair in &rx`, `for pair in rx` | | `stream`, `into_stream` |
 /// | what a test chooses | `take_where`, `retain` | | | |
-/// | a look | `peek_priority`, `peek_with` | | | |
+/// | a query | `peek_priority`, `peek_with` | | | |
 ///
-/// Beside them: `close`, `close_on_drop`, `downgrade`, `same_channel`, `clone`, and the looks
-/// `is_closed`, `is_empty`, `is_full`, `len`, `capacity`, `sender_count` and `receiver_count`.
+/// The other calls are `close`, `close_on_drop`, `downgrade`, `same_channel`, `clone`, and the
+/// queries `is_closed`, `is_empty`, `is_full`, `len`, `capacity`, `sender_count` and
+/// `receiver_count`.
 ///
-/// A call that answers at once takes the channel's lock for one step, and then wakes whom it lets
-/// go on: a receive wakes all tasks that wait for room, of which those that find none wait again,
-/// and the first of the threads that do. A call that waits makes such a step each time that it
-/// looks; on a thread it looks again for some microseconds before it sleeps, where that was of use
-/// of late. A receive of many looks at the length before. `capacity`, `same_channel`, `downgrade`
-/// and what makes a future, a stream, an iterator or a guard take no lock. A handle can be moved to
-/// other threads, lent to them, and cloned: each message goes to one receiver. The channel closes
-/// when its last receiver is dropped.
+/// A call that returns at once takes the channel's lock for one step, and then wakes the waiters
+/// that can go on. A receive wakes all tasks that wait for room, and the first of the threads that
+/// wait for room. A task that then finds no room waits again. A call that waits makes such a step
+/// for each try. On a thread it tries again for some microseconds before the thread sleeps, if such
+/// tries were recently of use. A receive of many messages first reads the length. `capacity`,
+/// `same_channel`, `downgrade`, and the calls that make a future, a stream, an iterator or a guard
+/// take no lock. A handle can be moved to other threads, lent to them, and cloned: each message
+/// goes to one receiver. The channel closes when its last receiver is dropped.
 ///
-/// Of its user's code the channel calls under the lock the order of priorities, what `peek_with`,
-/// `take_where` and `retain` are given, and the clone of a priority that `peek_priority` makes.
-/// These must neither use the channel nor own a handle of it.
+/// The channel calls some of the user's code under its lock: the order of priorities, the functions
+/// that `peek_with`, `take_where` and `retain` are given, and the clone of a priority that
+/// `peek_priority` makes. This code must neither use the channel nor own a handle of it.
 ///
-/// What is pending then stays in memory as long as there is a handle of the channel, and with it
-/// what the messages own: a client that waits for the answer to a request that nobody will receive
-/// waits for ever. `close_on_drop` lets it go.
+/// Messages that are then pending stay in memory as long as there is a handle of the channel, and
+/// so does what they own. A client that waits for the answer to a request that nobody will receive
+/// waits for ever. With `close_on_drop` such messages are dropped.
 ///
 /// ```
 /// let (tx, rx) = unbounded(&rt, rt.alloc())?;
@@ -65,12 +66,12 @@ impl<T, P: Ord, R: Wait + Clone, A: Allocator + Copy> Model for Receiver<T, P, R
 }
 
 impl<T: Drop, P: Ord + Drop, R: Wait + Clone, A: Allocator + Copy> Receiver<T, P, R, A> {
-    /// Receives a message as soon as there is one: a future, which does nothing until it is polled.
-    /// Dropped before it has answered, it takes nothing. Its fault is `Closed`, where none can come
-    /// any more, or `Memory` where memory was refused, also for what keeps its waker, for which the
-    /// first poll that waits asks.
+    /// Receives a message as soon as there is one. This is a future, which does nothing until it is
+    /// polled. If it is dropped before it has answered, it takes nothing. The error is `Closed` if
+    /// no message can come any more, or `Memory` if memory was refused. That includes the memory
+    /// that keeps its waker, which the first poll that waits asks for.
     ///
-    /// Of the two `?` below the first is for `block_on`, and the second for the fault.
+    /// The first `?` below is for `block_on`, the second for the error of the receive.
     ///
     /// ```
     /// let (tx, rx) = unbounded(&rt, rt.alloc())?;
@@ -88,12 +89,12 @@ impl<T: Drop, P: Ord + Drop, R: Wait + Clone, A: Allocator + Copy> Receiver<T, P
 }
 
 impl<T, P: Ord, R: Wait + Clone, A: Allocator + Copy> Receiver<T, P, R, A> {
-    /// Receives a message at once, with its priority. The error is `Empty` where none is pending,
-    /// and `Closed` where none can come any more; what is pending in a closed channel is still
-    /// received.
+    /// Receives a message at once, with its priority. The error is `Empty` if no message is
+    /// pending, and `Closed` if none can come any more. Messages that are pending in a closed
+    /// channel are still received.
     ///
-    /// It compares priorities as often as the core's call does: at most twice as often as the
-    /// number of pending messages has binary digits.
+    /// Cost: at most twice as many comparisons of priorities as the number of pending messages has
+    /// binary digits. These are the comparisons of the core's call.
     ///
     /// ```
     /// let (tx, rx) = unbounded(&rt, rt.alloc())?;
@@ -110,8 +111,8 @@ impl<T, P: Ord, R: Wait + Clone, A: Allocator + Copy> Receiver<T, P, R, A> {
         received
     }
 
-    /// Closes the channel for good, and tells whether it was open. What is pending can still be
-    /// received. All who wait are woken.
+    /// Closes the channel for good, and returns whether it was open. Pending messages can still be
+    /// received. All waiting tasks and threads are woken.
     ///
     /// ```
     /// let (tx, rx) = unbounded(&rt, rt.alloc())?;
@@ -125,7 +126,7 @@ impl<T, P: Ord, R: Wait + Clone, A: Allocator + Copy> Receiver<T, P, R, A> {
         self.handle.close()
     }
 
-    /// Whether the channel is closed, by a call of `close` or by the drop of the last sender or
+    /// Whether the channel is closed: by a call of `close`, or by the drop of the last sender or
     /// receiver.
     ///
     /// ```
@@ -163,7 +164,7 @@ impl<T, P: Ord, R: Wait + Clone, A: Allocator + Copy> Receiver<T, P, R, A> {
         self.handle.is_full()
     }
 
-    /// How many messages are pending.
+    /// The number of pending messages.
     ///
     /// ```
     /// let (tx, rx) = unbounded(&rt, rt.alloc())?;
@@ -177,8 +178,8 @@ impl<T, P: Ord, R: Wait + Clone, A: Allocator + Copy> Receiver<T, P, R, A> {
         self.handle.len()
     }
 
-    /// How many messages may be pending at a time; None where the capacity is `u64::MAX`. It takes
-    /// no lock.
+    /// The greatest number of messages that may be pending at a time. None if the capacity is
+    /// `u64::MAX`. It takes no lock.
     ///
     /// ```
     /// let (tx, rx) = bounded(&rt, rt.alloc(), 10)?;
@@ -193,8 +194,8 @@ impl<T, P: Ord, R: Wait + Clone, A: Allocator + Copy> Receiver<T, P, R, A> {
 
     /// Whether the other is a receiver of the same channel.
     ///
-    /// A channel draws 128 random bits where it is compared for the first time, and is known by
-    /// them: so the permission has to be a `RandomSource` too.
+    /// A channel draws 128 random bits when it is compared for the first time, and is identified by
+    /// them. So the permission must also be a `RandomSource`.
     ///
     /// ```
     /// let (_tx, rx) = unbounded::<&str, u64, _, _>(&rt, rt.alloc())?;
@@ -209,7 +210,7 @@ impl<T, P: Ord, R: Wait + Clone, A: Allocator + Copy> Receiver<T, P, R, A> {
         self.handle.is_same(&other.handle)
     }
 
-    /// How many senders the channel has.
+    /// The number of the channel's senders.
     ///
     /// ```
     /// let (tx, rx) = unbounded::<&str, u64, _, _>(&rt, rt.alloc())?;
@@ -221,7 +222,7 @@ impl<T, P: Ord, R: Wait + Clone, A: Allocator + Copy> Receiver<T, P, R, A> {
         self.handle.sender_count()
     }
 
-    /// How many receivers the channel has.
+    /// The number of the channel's receivers.
     ///
     /// ```
     /// let (_tx, rx) = unbounded::<&str, u64, _, _>(&rt, rt.alloc())?;
@@ -235,8 +236,8 @@ impl<T, P: Ord, R: Wait + Clone, A: Allocator + Copy> Receiver<T, P, R, A> {
     }
 }
 
-/// A further receiver of the channel. Refused where there are more than `usize::MAX / 2`, or for
-/// want of memory; the count is then as it was.
+/// Another receiver of the channel. It is refused if there are more than `usize::MAX / 2`, or if
+/// memory is refused. The count is then unchanged.
 ///
 /// ```
 /// let (tx, rx) = unbounded(&rt, rt.alloc())?;
@@ -253,7 +254,7 @@ impl<T: Drop, P: Ord + Drop, R: Wait + Clone, A: Allocator + Copy> Clone for Rec
 
     fn clone(&self) -> Result<Self, AllocError> {
         let handle = self.handle.share()?;
-        // Last, so that a refusal above leaves the count.
+        // This comes last, so that a refusal above leaves the count unchanged.
         if !self.handle.lock().clone_receiver() {
             return Err(AllocError);
         }
@@ -265,7 +266,8 @@ impl<T: Drop, P: Ord + Drop, R: Wait + Clone, A: Allocator + Copy> Drop for Rece
     fn drop(self) {
         let Receiver { handle } = self;
         let mut core = handle.lock();
-        // Nothing says of what a lock guards that this handle is counted there.
+        // The prover does not know that the count behind the lock includes this handle, so we test
+        // it.
         let wakes = if core.receiver_count() > 0 {
             core.drop_receiver()
         } else {
@@ -279,8 +281,8 @@ impl<T: Drop, P: Ord + Drop, R: Wait + Clone, A: Allocator + Copy> Drop for Rece
     }
 }
 
-// Drops what is pending in a channel without receivers, each message after the lock is free, since
-// it may use the channel.
+// Drops the pending messages of a channel without receivers. Each message is dropped after the lock
+// is released, since its drop may use the channel.
 fn let_go<T: Drop, P: Ord + Drop, R: Wait + Clone, A: Allocator + Copy>(
     handle: &Handle<T, P, R, A>,
 ) {

@@ -23,21 +23,23 @@ use std::sync::Wait;
 /// |---|---|---|---|---|
 /// | a message | `try_send` | `send_blocking` | `send_timeout`, `send_deadline` | `send` |
 /// | many messages | `try_sendv` | `sendv_blocking` | `sendv_timeout`, `sendv_deadline` | `sendv` |
-/// | one that makes room | `try_send_evicting` | | | |
+/// | one that may displace another | `try_send_evicting` | | | |
 ///
-/// Beside them: `close`, `close_on_drop`, `downgrade`, `same_channel`, `clone`, and the looks
-/// `is_closed`, `is_empty`, `is_full`, `len`, `capacity`, `sender_count` and `receiver_count`.
+/// The other calls are `close`, `close_on_drop`, `downgrade`, `same_channel`, `clone`, and the
+/// queries `is_closed`, `is_empty`, `is_full`, `len`, `capacity`, `sender_count` and
+/// `receiver_count`.
 ///
-/// A call that answers at once takes the channel's lock for one step, and then wakes whom it lets
-/// go on: a message wakes all tasks that wait for one, of which those that find nothing wait again,
-/// and the first of the threads that do. A call that waits makes such a step each time that it
-/// looks; on a thread it looks again for some microseconds before it sleeps, where that was of use
-/// of late. `capacity`, `same_channel`, `downgrade` and what makes a future or a guard take no
-/// lock. A handle can be moved to other threads, lent to them, and cloned; the channel closes when
-/// its last sender is dropped.
+/// A call that returns at once takes the channel's lock for one step, and then wakes the waiters
+/// that can go on. A message wakes all tasks that wait for one, and the first of the threads that
+/// wait for one. A task that then finds nothing waits again. A call that waits makes such a step
+/// for each try. On a thread it tries again for some microseconds before the thread sleeps, if such
+/// tries were recently of use. `capacity`, `same_channel`, `downgrade`, and the calls that make a
+/// future or a guard take no lock. A handle can be moved to other threads, lent to them, and
+/// cloned. The channel closes when its last sender is dropped.
 ///
-/// Of its user's code the channel calls under the lock the order of priorities, and the iterator of
-/// a bulk send and its drop. These must neither use the channel nor own a handle of it.
+/// The channel calls some of the user's code under its lock: the order of priorities, and the
+/// iterator of a bulk send and its drop. This code must neither use the channel nor own a handle of
+/// it.
 ///
 /// ```
 /// let (tx, rx) = unbounded(&rt, rt.alloc())?;
@@ -62,12 +64,13 @@ impl<T, P: Ord, R: Wait + Clone, A: Allocator + Copy> Model for Sender<T, P, R, 
 }
 
 impl<T: Drop, P: Ord + Drop, R: Wait + Clone, A: Allocator + Copy> Sender<T, P, R, A> {
-    /// Sends as many messages as there is room for, in one step, and gives back the rest: `Closed`
-    /// where the channel is closed, `Full` where there was no more room, and `Memory` where none
-    /// could be made. What was sent stays sent, and the rest can be sent again.
+    /// Sends as many messages as there is room for, in one step. The error gives back the rest:
+    /// `Closed` if the channel is closed, `Full` if there was no more room, and `Memory` if the
+    /// channel could not get memory for more. What was sent stays sent, and the rest can be sent
+    /// again.
     ///
-    /// The iterator is called under the channel's lock, and where all was sent it is dropped there:
-    /// a call that it makes on the channel, or a handle of it that it drops, waits for ever.
+    /// The iterator is called under the channel's lock, and is dropped there if all was sent. A
+    /// call that it makes on the channel, or a handle of the channel that it drops, waits for ever.
     ///
     /// ```
     /// let (tx, rx) = bounded(&rt, rt.alloc(), 2)?;
@@ -93,12 +96,12 @@ impl<T: Drop, P: Ord + Drop, R: Wait + Clone, A: Allocator + Copy> Sender<T, P, 
         sent
     }
 
-    /// Sends a message as soon as there is room: a future, which does nothing until it is polled.
-    /// Dropped before it has answered, it sends nothing. Its fault is `Closed`, or `Memory` where
-    /// memory was refused, also for what keeps its waker, for which the first poll that waits asks;
-    /// either gives the message back.
+    /// Sends a message as soon as there is room. This is a future, which does nothing until it is
+    /// polled. If it is dropped before it has answered, it sends nothing. The error is `Closed`, or
+    /// `Memory` if memory was refused. That includes the memory that keeps its waker, which the
+    /// first poll that waits asks for. Either error gives the message back.
     ///
-    /// Of the two `?` below the first is for `block_on`, and the second for the fault.
+    /// The first `?` below is for `block_on`, the second for the error of the send.
     ///
     /// ```
     /// let (tx, rx) = bounded(&rt, rt.alloc(), 1)?;
@@ -114,10 +117,10 @@ impl<T: Drop, P: Ord + Drop, R: Wait + Clone, A: Allocator + Copy> Sender<T, P, 
         Send::new(self, msg, priority)
     }
 
-    /// Sends all messages, as there is room: a future, which sends a front at each poll and waits
-    /// with the rest. What it sent stays sent, also where it is dropped or ends in a fault, which
-    /// is one of those of `send` and gives back the rest. The iterator is called and dropped as by
-    /// `try_sendv`.
+    /// Sends all messages, as there is room. This is a future: each poll sends a prefix, and the
+    /// future waits with the rest. What it sent stays sent, also if it is dropped or ends in an
+    /// error. Its errors are those of `send`, and give back the rest. The iterator is called and
+    /// dropped as by `try_sendv`.
     ///
     /// ```
     /// let (tx, rx) = bounded(&rt, rt.alloc(), 1)?;
@@ -141,11 +144,11 @@ impl<T: Drop, P: Ord + Drop, R: Wait + Clone, A: Allocator + Copy> Sender<T, P, 
 }
 
 impl<T, P: Ord, R: Wait + Clone, A: Allocator + Copy> Sender<T, P, R, A> {
-    /// Sends a message at once, or gives it back: `Closed` where the channel is closed, `Full`
-    /// where it has no room, and `Memory` where none could be made.
+    /// Sends a message at once, or gives it back: `Closed` if the channel is closed, `Full` if it
+    /// has no room, and `Memory` if it could not get memory for the message.
     ///
-    /// It compares priorities as often as the core's call does: at most as often as the number of
-    /// pending messages, with this one, has binary digits.
+    /// Cost: at most as many comparisons of priorities as the number of pending messages, with this
+    /// one, has binary digits. These are the comparisons of the core's call.
     ///
     /// ```
     /// let (tx, rx) = bounded(&rt, rt.alloc(), 1)?;
@@ -164,18 +167,19 @@ impl<T, P: Ord, R: Wait + Clone, A: Allocator + Copy> Sender<T, P, R, A> {
         sent
     }
 
-    /// Sends a message at once, and where the channel is full in place of the least urgent pending
-    /// one, the last accepted among those of the least priority, which comes back. It is displaced
-    /// only by one that is more urgent; where there is none such pending, the new message comes
-    /// back, as `Full`. `Closed` and `Memory` are as of `try_send`.
+    /// Sends a message at once. If the channel is full, the message takes the place of the pending
+    /// message of least priority, which is returned; among equals that is the one accepted last.
+    /// Only a message of greater priority displaces it. If no pending message has a lesser
+    /// priority, the new message comes back, as `Full`. `Closed` and `Memory` are as for
+    /// `try_send`.
     ///
-    /// It passes those who wait in `send` for room, also with more urgent messages. Into a full
-    /// channel it takes no memory, and wakes nobody.
+    /// It goes ahead of the tasks and threads that wait in `send` for room, also of those with a
+    /// greater priority. If the channel is full, it takes no memory and wakes nobody.
     ///
-    /// The first one into a full channel puts the pending messages in an order in which both the
-    /// most and the least urgent are known, and that stays: a displacement compares priorities at
-    /// most twice as often as the number of pending messages has binary digits and once more, and
-    /// from then on sends of equal priorities cost as much as others.
+    /// The first such send into a full channel reorders the pending messages, so that both the
+    /// greatest and the least are known. The channel keeps this order. A displacement makes at most
+    /// 2 d + 1 comparisons of priorities, where d is the number of binary digits of the number of
+    /// pending messages. From then on sends of equal priorities cost as much as others.
     ///
     /// ```
     /// let (tx, rx) = bounded(&rt, rt.alloc(), 2)?;
@@ -201,8 +205,8 @@ impl<T, P: Ord, R: Wait + Clone, A: Allocator + Copy> Sender<T, P, R, A> {
         sent
     }
 
-    /// Closes the channel for good, and tells whether it was open. What is pending can still be
-    /// received. All who wait are woken.
+    /// Closes the channel for good, and returns whether it was open. Pending messages can still be
+    /// received. All waiting tasks and threads are woken.
     ///
     /// ```
     /// let (tx, rx) = unbounded(&rt, rt.alloc())?;
@@ -217,7 +221,7 @@ impl<T, P: Ord, R: Wait + Clone, A: Allocator + Copy> Sender<T, P, R, A> {
         self.handle.close()
     }
 
-    /// Whether the channel is closed, by a call of `close` or by the drop of the last sender or
+    /// Whether the channel is closed: by a call of `close`, or by the drop of the last sender or
     /// receiver.
     ///
     /// ```
@@ -256,7 +260,7 @@ impl<T, P: Ord, R: Wait + Clone, A: Allocator + Copy> Sender<T, P, R, A> {
         self.handle.is_full()
     }
 
-    /// How many messages are pending.
+    /// The number of pending messages.
     ///
     /// ```
     /// let (tx, rx) = bounded(&rt, rt.alloc(), 10)?;
@@ -270,8 +274,8 @@ impl<T, P: Ord, R: Wait + Clone, A: Allocator + Copy> Sender<T, P, R, A> {
         self.handle.len()
     }
 
-    /// How many messages may be pending at a time; None where the capacity is `u64::MAX`. It takes
-    /// no lock.
+    /// The greatest number of messages that may be pending at a time. None if the capacity is
+    /// `u64::MAX`. It takes no lock.
     ///
     /// ```
     /// let (tx, _rx) = bounded::<&str, u64, _, _>(&rt, rt.alloc(), 10)?;
@@ -287,8 +291,8 @@ impl<T, P: Ord, R: Wait + Clone, A: Allocator + Copy> Sender<T, P, R, A> {
 
     /// Whether the other is a sender of the same channel.
     ///
-    /// A channel draws 128 random bits where it is compared for the first time, and is known by
-    /// them: so the permission has to be a `RandomSource` too.
+    /// A channel draws 128 random bits when it is compared for the first time, and is identified by
+    /// them. So the permission must also be a `RandomSource`.
     ///
     /// ```
     /// let (tx, _rx) = unbounded::<&str, u64, _, _>(&rt, rt.alloc())?;
@@ -303,7 +307,7 @@ impl<T, P: Ord, R: Wait + Clone, A: Allocator + Copy> Sender<T, P, R, A> {
         self.handle.is_same(&other.handle)
     }
 
-    /// How many senders the channel has.
+    /// The number of the channel's senders.
     ///
     /// ```
     /// let (tx, _rx) = unbounded::<&str, u64, _, _>(&rt, rt.alloc())?;
@@ -316,7 +320,7 @@ impl<T, P: Ord, R: Wait + Clone, A: Allocator + Copy> Sender<T, P, R, A> {
         self.handle.sender_count()
     }
 
-    /// How many receivers the channel has.
+    /// The number of the channel's receivers.
     ///
     /// ```
     /// let (tx, rx) = unbounded::<&str, u64, _, _>(&rt, rt.alloc())?;
@@ -329,8 +333,8 @@ impl<T, P: Ord, R: Wait + Clone, A: Allocator + Copy> Sender<T, P, R, A> {
     }
 }
 
-/// A further sender of the channel. Refused where there are more than `usize::MAX / 2`, or for want
-/// of memory; the count is then as it was.
+/// Another sender of the channel. It is refused if there are more than `usize::MAX / 2`, or if
+/// memory is refused. The count is then unchanged.
 ///
 /// ```
 /// let (tx, rx) = unbounded(&rt, rt.alloc())?;
@@ -348,7 +352,7 @@ impl<T: Drop, P: Ord + Drop, R: Wait + Clone, A: Allocator + Copy> Clone for Sen
 
     fn clone(&self) -> Result<Self, AllocError> {
         let handle = self.handle.share()?;
-        // Last, so that a refusal above leaves the count.
+        // This comes last, so that a refusal above leaves the count unchanged.
         if !self.handle.lock().clone_sender() {
             return Err(AllocError);
         }
@@ -360,7 +364,8 @@ impl<T: Drop, P: Ord + Drop, R: Wait + Clone, A: Allocator + Copy> Drop for Send
     fn drop(self) {
         let Sender { handle } = self;
         let mut core = handle.lock();
-        // Nothing says of what a lock guards that this handle is counted there.
+        // The prover does not know that the count behind the lock includes this handle, so we test
+        // it.
         let wakes = if core.sender_count() > 0 {
             core.drop_sender()
         } else {

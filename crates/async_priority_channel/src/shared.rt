@@ -1,7 +1,7 @@
-//! What the handles of a channel share, and the calls that both kinds of handle make.
+//! What the handles of a channel share, and the calls that both kinds of handle have.
 //!
-//! The small calls of the hot path are inlined by force: their answers would go through memory, and
-//! be read back at once.
+//! The small calls of the hot path are forced inline. Otherwise their results would be written to
+//! memory and read back at once.
 ghost use Rattle.std.specs.Prelude.{◌≡◌, IfOk, IsSome};
 ghost use Rattle.futures.specs.Task.{Hears, IsArmed, Keeps};
 ghost use Rattle.priority_channel_core.specs.machine.State.{opening};
@@ -20,11 +20,12 @@ use std::random::RandomSource;
 use std::sync::atomic::{AtomicBool, Ordering};
 use std::sync::{Arc, Mutex, MutexGuard, OnceLock, Wait, WaitMethods};
 
-/// Where those wait who wait for the same: tasks at a source, and threads in a line.
+/// The waiters of one side: tasks (by source) and threads (in a queue).
 #[derive(Drop)]
 struct Waits<A: Allocator> {
     source: Source,
-    // Its lock is taken before the core's where both are, and never within it.
+    // The lock of the queue is taken before the core's lock where both are held, and never while
+    // the core's lock is held.
     line: Mutex<Line<A>>,
     spins: Spins,
 }
@@ -54,9 +55,10 @@ struct Shared<T, P: Ord, A: Allocator + Copy> {
     room: Waits<A>,
     message: Waits<A>,
     core: Mutex<Core<T, P, A>>,
-    // Whether what is pending goes with the last receiver.
+    // Whether pending messages are dropped when the last receiver is dropped.
     lets_go: AtomicBool,
-    // Which channel it is, drawn where channels are compared for the first time.
+    // The random bits that identify the channel. They are drawn when it is compared for the first
+    // time.
     identity: OnceLock<u128>,
 }
 
@@ -68,7 +70,8 @@ impl<T, P: Ord, A: Allocator + Copy> Model for Shared<T, P, A> {
     ghost view = { λ s. record { capacity = s.capacity; room = s.room; message = s.message } };
 }
 
-/// A party's part in a channel: what all of them share, and the permission to wait for its lock.
+/// What a sender or a receiver holds: the data that all handles of a channel share, and the
+/// permission to wait for its lock.
 #[derive(Drop)]
 pub struct Handle<T, P: Ord, R, A: Allocator + Copy> {
     rt: R,
@@ -85,7 +88,7 @@ impl<T, P: Ord, R, A: Allocator + Copy> Model for Handle<T, P, R, A> {
 }
 
 impl<T: Drop, P: Ord + Drop, R: Wait + Clone, A: Allocator + Copy> Handle<T, P, R, A> {
-    /// The sender's and the receiver's parts in a new channel over this core.
+    /// The handles of the first sender and the first receiver of a new channel over this core.
     pub fn pair(
         rt: &R,
         alloc: A,
@@ -117,7 +120,7 @@ impl<T: Drop, P: Ord + Drop, R: Wait + Clone, A: Allocator + Copy> Handle<T, P, 
 }
 
 impl<T, P: Ord, R: Wait + Clone, A: Allocator + Copy> Handle<T, P, R, A> {
-    /// A further part in the channel. It changes no count.
+    /// Another handle of the channel. It changes no count.
     pub fn share(&self) -> Result<Self, AllocError>
         ensures { IfOk result (λ other. other ≡ self.now) }
     {
@@ -131,8 +134,8 @@ impl<T, P: Ord, R: Wait + Clone, A: Allocator + Copy> Handle<T, P, R, A> {
         self.shared.core.lock(&self.rt)
     }
 
-    /// Frees the lock, and then wakes those whom the call in this hold handed out. Nothing else
-    /// wakes them, so none is woken under the lock.
+    /// Releases the lock, and then wakes the waiters that the call under this lock took off the
+    /// waiting lists. They are woken nowhere else, so no waiter is woken under the lock.
     #[inline(always)]
     pub fn release(&self, core: MutexGuard<'_, Core<T, P, A>>, wakes: Wakes<Waiter<A>, A>) {
         drop(core);
@@ -160,12 +163,12 @@ impl<T, P: Ord, R: Wait + Clone, A: Allocator + Copy> Handle<T, P, R, A> {
         }
     }
 
-    /// The line of the threads that wait for this.
+    /// The queue of the threads that wait on this side.
     pub fn line(&self, side: Side) -> MutexGuard<'_, Line<A>> {
         self.waits(side).line.lock(&self.rt)
     }
 
-    /// Whether spinning for this was of use.
+    /// Whether spinning on this side was of use.
     pub fn spins(&self, side: Side) -> &Spins {
         &self.waits(side).spins
     }
@@ -178,13 +181,12 @@ impl<T, P: Ord, R: Wait + Clone, A: Allocator + Copy> Handle<T, P, R, A> {
         self.shared.alloc
     }
 
-    /// The waiter of a party, which is made where it waits for the first time. None where memory
-    /// was refused.
+    /// The waiter of a task or a thread. It is made on its first wait. None if memory was refused.
     pub fn waiter_in<'k>(&self, waiter: &'k mut Option<Waiter<A>>) -> Option<&'k Waiter<A>> {
         Waiter::of_party(self.shared.alloc, waiter)
     }
 
-    /// Leaves the task's waker in a future's waiter. None where either was refused.
+    /// Stores the task's waker in a future's waiter. None if the waiter or the waker was refused.
     pub fn register<'k>(
         &self,
         cx: &mut Context<'_>,
@@ -197,7 +199,7 @@ impl<T, P: Ord, R: Wait + Clone, A: Allocator + Copy> Handle<T, P, R, A> {
         Waiter::register_party(&self.rt, self.shared.alloc, cx, source, waiter)
     }
 
-    /// What is pending once the last receiver goes will go with it.
+    /// When the last receiver is dropped, pending messages are dropped too.
     pub fn let_go_at_last(&self) {
         self.shared.lets_go.store(true, Ordering::SeqCst);
     }
@@ -206,8 +208,9 @@ impl<T, P: Ord, R: Wait + Clone, A: Allocator + Copy> Handle<T, P, R, A> {
         self.shared.lets_go.load(Ordering::SeqCst)
     }
 
-    /// Whether both are parts in one channel. The language compares no pointers into two blocks, so
-    /// each channel has 128 random bits, which two channels share with a chance of 2^-128.
+    /// Whether both are handles of one channel. The language compares no pointers into two blocks,
+    /// so each channel has 128 random bits. Two channels have the same bits with a chance of
+    /// 2^-128.
     pub fn is_same(&self, other: &Self) -> bool
     where
         R: RandomSource,
@@ -256,7 +259,7 @@ impl<T, P: Ord, R: Wait + Clone, A: Allocator + Copy> Handle<T, P, R, A> {
         self.lock().receiver_count()
     }
 
-    /// Kept beside the lock, as it never changes.
+    /// Stored outside the lock, since it never changes.
     pub fn capacity(&self) -> Option<u64>
         ensures { result ≡ capacity_told self.now.capacity }
     {
@@ -268,7 +271,7 @@ impl<T, P: Ord, R: Wait + Clone, A: Allocator + Copy> Handle<T, P, R, A> {
     }
 }
 
-// So few bits are refused to nobody; where they were, they are asked for again.
+// The system does not refuse 16 random bytes; if it does, retry.
 fn draw_bits<R: Wait + RandomSource>(rt: &R) -> u128 {
     let mut bytes = [0; 16];
     for _ in rt.forever() {

@@ -16,8 +16,8 @@ use std::alloc::{Allocator, Global};
 use std::marker::Model;
 use std::sync::Wait;
 
-/// The receives of a task: the ticket of the one that waits, the task's waiter, and whether they
-/// have ended.
+/// The receives of a task: the ticket of the waiting receive, the task's waiter, and whether the
+/// receives have ended.
 #[derive(Drop)]
 pub struct Receives<A: Allocator> {
     ticket: Option<u64>,
@@ -64,12 +64,12 @@ impl<A: Allocator + Copy> Receives<A> {
                 self.has_ended = true;
                 Poll::Ready(None)
             }
-            // There may be memory at the next poll, for which the task asks at once.
+            // There may be memory at the next poll, so the task asks to be polled at once.
             Outcome::Memory(Receive) => cx.yield_now(),
         }
     }
 
-    // At once, and without memory.
+    // Receives at once, without memory.
     fn receive<T, P: Ord, R: Wait + Clone>(
         &mut self,
         handle: &Handle<T, P, R, A>,
@@ -85,7 +85,7 @@ impl<A: Allocator + Copy> Receives<A> {
         outcome
     }
 
-    /// Receives, or waits in the task, where nothing was there before.
+    /// Receives, or waits in the task, after a try found nothing.
     pub fn wait<T, P: Ord, R: Wait + Clone>(
         &mut self,
         handle: &Handle<T, P, R, A>,
@@ -113,7 +113,7 @@ impl<A: Allocator + Copy> Receives<A> {
         }
     }
 
-    /// The last answer was given: nobody waits any more.
+    /// The last answer was given: gives up the ticket.
     pub fn finish<T, P: Ord, R: Wait + Clone>(&mut self, handle: &Handle<T, P, R, A>)
         ensures { self.new.has_ended ≡ true }
     {
@@ -127,7 +127,8 @@ impl<A: Allocator + Copy> Receives<A> {
         self.has_ended
     }
 
-    /// Nobody waits any more. A waker wakes as it is dropped, so the waiter goes after the lock.
+    /// Gives up the ticket. A waker wakes its task when it is dropped, so the waiter is dropped
+    /// after the lock is released.
     pub fn end<T, P: Ord, R: Wait + Clone>(self, handle: &Handle<T, P, R, A>) {
         let mut receives = self;
         receives.give_up_on(&mut handle.lock());
@@ -135,12 +136,12 @@ impl<A: Allocator + Copy> Receives<A> {
     }
 }
 
-/// The messages of a channel as a stream, which ends for good where the channel is closed and
-/// empty. `Receiver::stream` makes it.
+/// The messages of a channel as a stream, which ends for good when the channel is closed and empty.
+/// `Receiver::stream` makes it.
 ///
-/// What is there is received at once, in one hold of the lock and without memory. To wait takes
-/// memory for the task's waker, which is kept over all waits, and one in the list of those who
-/// wait; where either is refused, the task asks to be polled again at once.
+/// A pending message is received at once, in one step under the lock and without memory. A wait
+/// takes memory for the task's waker, which is kept over all waits, and for an entry in the waiting
+/// list. If either is refused, the task asks to be polled again at once.
 ///
 /// ```
 /// let (tx, rx) = unbounded(&rt, rt.alloc())?;
@@ -200,7 +201,7 @@ impl<T, P: Ord, R: Wait + Clone, A: Allocator + Copy> Drop for RecvStream<'_, T,
     }
 }
 
-/// As `RecvStream`, with a receiver of its own, which goes with it: a task can take it.
+/// As `RecvStream`, with its own receiver, which is dropped with it: a task can own it.
 /// `Receiver::into_stream` makes it.
 ///
 /// ```
@@ -263,7 +264,7 @@ impl<T: Drop, P: Ord + Drop, R: Wait + Clone, A: Allocator + Copy> Drop for Into
 }
 
 impl<T, P: Ord, R: Wait + Clone, A: Allocator + Copy> Receiver<T, P, R, A> {
-    /// The messages as a stream of the kit's `futures`, which ends where the channel is closed and
+    /// The messages as a stream of the kit's `futures`, which ends when the channel is closed and
     /// empty.
     ///
     /// ```

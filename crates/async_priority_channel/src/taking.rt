@@ -1,4 +1,4 @@
-//! Taking out what a test chooses.
+//! Calls that take out the messages that a test chooses.
 ghost use Rattle.std.specs.Prelude.{true, false, All, IfOk, IfSome};
 ghost use Rattle.priority_channel_bag.specs.Least.{Tells};
 
@@ -7,17 +7,18 @@ use std::alloc::{AllocError, Allocator};
 use std::sync::Wait;
 
 impl<T, P: Ord, R: Wait + Clone, A: Allocator + Copy> Receiver<T, P, R, A> {
-    /// Takes out a pending message of which the test tells true, also from a closed channel; None
-    /// where there is none. Which one, where there are several, is not said. What is taken is not
-    /// received: the order of what others receive is as if it had never been sent.
+    /// Takes out a pending message for which the test returns true, also from a closed channel.
+    /// None if there is none. If there are several, it is not specified which one is taken. A
+    /// message that is taken is not received: others receive their messages in the order as if it
+    /// had never been sent.
     ///
-    /// The test is asked of the pending messages in no order that is said, and of none once it has
-    /// told true. It is called under the channel's lock: a call that it makes on the channel waits
-    /// for ever. Let it be short, since all others wait for it. It is dropped once the lock is
-    /// free.
+    /// The test is called on pending messages in no specified order, and on none after it has
+    /// returned true. It is called under the channel's lock: a call that it makes on the channel
+    /// waits for ever. It should be short, since all other calls wait for it. It is dropped once
+    /// the lock is released.
     ///
-    /// It takes no memory, and wakes those who wait for room. Beside the tests it compares
-    /// priorities at most twice as often as the number of pending messages has binary digits.
+    /// It takes no memory, and wakes the waiting senders. Beside the tests, the cost is at most
+    /// twice as many comparisons of priorities as the number of pending messages has binary digits.
     ///
     /// ```
     /// let (tx, rx) = unbounded(&rt, rt.alloc())?;
@@ -39,17 +40,17 @@ impl<T, P: Ord, R: Wait + Clone, A: Allocator + Copy> Receiver<T, P, R, A> {
         taken
     }
 
-    /// Keeps the pending messages of which the test tells true. All others come back, in no order
-    /// that is said, also from a closed channel. They are not received: the order of what is kept
-    /// is as if they had never been sent.
+    /// Keeps the pending messages for which the test returns true. All others are returned, in no
+    /// specified order, also from a closed channel. They are not received: what is kept is in the
+    /// order as if they had never been sent.
     ///
-    /// The test is asked once of each pending message, in no order that is said. For it holds what
-    /// `take_where` says of its test: it must not use the channel, and all others wait for it.
+    /// The test is called once on each pending message, in no specified order. As with
+    /// `take_where`, it must not use the channel, and all other calls wait for it.
     ///
-    /// Memory for as many messages as are pending is had first; where it is refused, nothing has
-    /// changed, and the test was not asked. Where a message is taken out, those who wait for room
-    /// are woken. Beside the tests it compares priorities, for each message that it keeps at most as
-    /// often as the number of these has binary digits.
+    /// It first reserves memory for as many messages as are pending. If that is refused, nothing
+    /// has changed, and the test was not called. If a message is taken out, the waiting senders are
+    /// woken. Beside the tests, the cost for each kept message is at most as many comparisons of
+    /// priorities as the number of kept messages has binary digits.
     ///
     /// ```
     /// let (tx, rx) = unbounded(&rt, rt.alloc())?;

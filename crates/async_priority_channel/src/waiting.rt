@@ -1,4 +1,4 @@
-//! The futures, and what each keeps between its polls.
+//! The futures, and their states between polls.
 
 mod recv;
 mod send;

@@ -1,4 +1,4 @@
-//! Handles that keep no channel open.
+//! Handles that do not keep a channel open.
 ghost use Rattle.std.specs.Prelude.{IfOk, IfSome};
 ghost use Rattle.async_priority_channel.specs.Handles.{SameChannel};
 
@@ -10,11 +10,11 @@ use std::fmt;
 use std::marker::Model;
 use std::sync::Wait;
 
-/// Knows a channel, and is none of its senders. `Sender::downgrade` makes it.
+/// A sender handle that does not keep the channel open: it is not counted as a sender.
+/// `Sender::downgrade` makes it.
 ///
-/// It keeps no channel open, and cannot open one again. What is pending stays in memory while it is
-/// there, also once all senders and receivers are gone, unless a receiver's `close_on_drop` lets it
-/// go.
+/// It cannot open a closed channel again. Pending messages stay in memory while it exists, also
+/// once all senders and receivers are gone, unless a receiver's `close_on_drop` has them dropped.
 ///
 /// ```
 /// let weak = tx.downgrade()?;
@@ -36,8 +36,8 @@ impl<T, P: Ord, R: Wait + Clone, A: Allocator + Copy> Model for WeakSender<T, P,
 }
 
 impl<T: Drop, P: Ord + Drop, R: Wait + Clone, A: Allocator + Copy> WeakSender<T, P, R, A> {
-    /// A further sender of the channel. None where the channel is closed, as it is once its last
-    /// sender or its last receiver is gone, and where a clone of a sender would be refused.
+    /// Another sender of the channel. None if the channel is closed, as it is once its last sender
+    /// or its last receiver is gone, or if a clone of a sender would be refused.
     ///
     /// ```
     /// let (tx, rx) = unbounded::<&str, u64, _, _>(&rt, rt.alloc())?;
@@ -54,7 +54,7 @@ impl<T: Drop, P: Ord + Drop, R: Wait + Clone, A: Allocator + Copy> WeakSender<T,
         if core.is_closed() {
             return None;
         }
-        // Last, so that a refusal above leaves the count.
+        // This comes last, so that a refusal above leaves the count unchanged.
         if !core.clone_sender() {
             return None;
         }
@@ -64,7 +64,7 @@ impl<T: Drop, P: Ord + Drop, R: Wait + Clone, A: Allocator + Copy> WeakSender<T,
 }
 
 impl<T, P: Ord, R: Wait + Clone, A: Allocator + Copy> WeakSender<T, P, R, A> {
-    /// Whether the channel is closed, by a call of `close` or by the drop of the last sender or
+    /// Whether the channel is closed: by a call of `close`, or by the drop of the last sender or
     /// receiver.
     ///
     /// ```
@@ -80,8 +80,8 @@ impl<T, P: Ord, R: Wait + Clone, A: Allocator + Copy> WeakSender<T, P, R, A> {
 }
 
 impl<T, P: Ord, R: Wait + Clone, A: Allocator + Copy> Sender<T, P, R, A> {
-    /// A handle that knows the channel and is none of its senders. It changes no count. Refused for
-    /// want of memory.
+    /// A handle of the channel that is not counted as a sender. It changes no count. It is refused
+    /// if memory is refused.
     ///
     /// ```
     /// let (tx, rx) = unbounded::<&str, u64, _, _>(&rt, rt.alloc())?;
@@ -98,7 +98,7 @@ impl<T, P: Ord, R: Wait + Clone, A: Allocator + Copy> Sender<T, P, R, A> {
     }
 }
 
-/// A further weak handle of the channel.
+/// Another weak handle of the channel.
 ///
 /// ```
 /// let (tx, rx) = unbounded(&rt, rt.alloc())?;
@@ -130,11 +130,11 @@ impl<T, P: Ord, R: Wait + Clone, A: Allocator + Copy> fmt::Debug for WeakSender<
     }
 }
 
-/// Knows a channel, and is none of its receivers. `Receiver::downgrade` makes it.
+/// A receiver handle that does not keep the channel open: it is not counted as a receiver.
+/// `Receiver::downgrade` makes it.
 ///
-/// It keeps no channel open, and cannot open one again. What is pending stays in memory while it is
-/// there, also once all receivers and senders are gone, unless a receiver's `close_on_drop` lets it
-/// go.
+/// It cannot open a closed channel again. Pending messages stay in memory while it exists, also
+/// once all receivers and senders are gone, unless a receiver's `close_on_drop` has them dropped.
 ///
 /// ```
 /// let weak = rx.downgrade()?;
@@ -157,8 +157,8 @@ impl<T, P: Ord, R: Wait + Clone, A: Allocator + Copy> Model for WeakReceiver<T, 
 }
 
 impl<T: Drop, P: Ord + Drop, R: Wait + Clone, A: Allocator + Copy> WeakReceiver<T, P, R, A> {
-    /// A further receiver of the channel. None where the channel is closed, as it is once its last
-    /// receiver or its last sender is gone, and where a clone of a receiver would be refused.
+    /// Another receiver of the channel. None if the channel is closed, as it is once its last
+    /// receiver or its last sender is gone, or if a clone of a receiver would be refused.
     ///
     /// ```
     /// let (tx, rx) = unbounded::<&str, u64, _, _>(&rt, rt.alloc())?;
@@ -175,7 +175,7 @@ impl<T: Drop, P: Ord + Drop, R: Wait + Clone, A: Allocator + Copy> WeakReceiver<
         if core.is_closed() {
             return None;
         }
-        // Last, so that a refusal above leaves the count.
+        // This comes last, so that a refusal above leaves the count unchanged.
         if !core.clone_receiver() {
             return None;
         }
@@ -185,7 +185,7 @@ impl<T: Drop, P: Ord + Drop, R: Wait + Clone, A: Allocator + Copy> WeakReceiver<
 }
 
 impl<T, P: Ord, R: Wait + Clone, A: Allocator + Copy> WeakReceiver<T, P, R, A> {
-    /// Whether the channel is closed, by a call of `close` or by the drop of the last sender or
+    /// Whether the channel is closed: by a call of `close`, or by the drop of the last sender or
     /// receiver.
     ///
     /// ```
@@ -201,8 +201,8 @@ impl<T, P: Ord, R: Wait + Clone, A: Allocator + Copy> WeakReceiver<T, P, R, A> {
 }
 
 impl<T, P: Ord, R: Wait + Clone, A: Allocator + Copy> Receiver<T, P, R, A> {
-    /// A handle that knows the channel and is none of its receivers. It changes no count. Refused
-    /// for want of memory.
+    /// A handle of the channel that is not counted as a receiver. It changes no count. It is
+    /// refused if memory is refused.
     ///
     /// ```
     /// let (tx, rx) = unbounded::<&str, u64, _, _>(&rt, rt.alloc())?;
@@ -219,7 +219,7 @@ impl<T, P: Ord, R: Wait + Clone, A: Allocator + Copy> Receiver<T, P, R, A> {
     }
 }
 
-/// A further weak handle of the channel.
+/// Another weak handle of the channel.
 ///
 /// ```
 /// let (tx, rx) = unbounded(&rt, rt.alloc())?;

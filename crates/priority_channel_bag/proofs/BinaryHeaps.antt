@@ -1,4 +1,4 @@
--- What the moves keep of a binary heap.
+-- What the moves preserve of a binary heap.
 use Rattle.std.proofs.Common.{◌≡◌, ◌≢◌, ℕ, ◌+◌, ◌*◌, ◌/◌, ◌<◌, ◌≤◌, Bool, false, List, length, get_or, set, sym, ap, subst, ◌∙◌, arith, inl, inr}
 use Rattle.std.proofs.HeapSift as heap
 use Rattle.std.proofs.Permutation.{which, swap_places}
@@ -32,7 +32,7 @@ module _ {X : Type 0} (lt : X → X → Bool) where
   )
 
 module _ {X : Type 0} (R : X → X → Ordering) (o : IsTotalOrder R) where
-  -- What `sink` keeps: a heap with a hole.
+  -- What `sink` preserves: a heap with a hole.
   pub opens : (xs : List X) (h : ℕ) (x : X) → IsHeap R (set xs h x) → IsHeapWithHole (lt_by_cmp R) xs h (length xs)
   unfolding IsHeap
   opens xs h x w =
@@ -53,7 +53,7 @@ module _ {X : Type 0} (R : X → X → Ordering) (o : IsTotalOrder R) where
   unfolding SiftsUp IsHeap
   closes ys zs j leaf in' long was rises = subst (IsHeapWithin (lt_by_cmp R) zs 0) (sym long) (rises (length ys) in' (was, λ k d a b f. absurd (omega arith)))
 
-  -- of the same items, and no more
+  -- for a list of the same items, and no more
   pub agrees : (xs ys : List X) → length ys ≤ length xs → ((i : ℕ) (d : X) → i < length ys → get_or ys i d ≡ get_or xs i d) → IsHeap R xs → IsHeap R ys
   unfolding IsHeap
   agrees xs ys le same w p k d lo a b f = by (lt_by_cmp R) _ _ _ _ (same p d (omega arith)) (same k d f) (w p k d lo a b (omega arith))

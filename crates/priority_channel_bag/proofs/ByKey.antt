@@ -1,4 +1,4 @@
--- A list put in the order of its keys.
+-- A list sorted by its keys.
 use Rattle.std.proofs.Common.{◌≡◌, ℕ, zero, suc, ◌+◌, ◌<◌, ◌≤◌, ◌≢◌, Bool, true, false, cond, List, [], ◌∷◌, ◌++◌, length, get_or, set, eqb, nat_lt, ltb-false, ltb-true, refl, sym, ap, ◌∙◌, arith}
 use Rattle.std.specs.Bool.{⊤}
 use Rattle.std.specs.List.{swap, IsDistinct, AllByRecursion}
@@ -60,7 +60,7 @@ module _ {X : Type 0} (key : X → ℕ) where
   by_key-push [] x h = refl
   by_key-push (y ∷ xs) x h = ap (put_in key y) (by_key-push xs x h.1) ∙ put_in-push y x (by_key key xs) h.0
 
-  -- where an element is put in
+  -- the place where an element is put in
   pub record PutIn (x : X) (s : List X) : Type 0 where
     pub front : List X
     pub back : List X
@@ -83,7 +83,7 @@ module _ {X : Type 0} (key : X → ℕ) where
         upto = (ltb-false (key x) (key z) e, i.upto);
       }
 
-  -- the order of the elements doesn't matter, where their keys differ
+  -- the order of the elements does not matter if their keys differ
   replaced : (r : List X) (j : ℕ) (x d : X) → j < length r → IsDistinct same_key (x ∷ r) → put_in key (get_or r j d) (by_key key (set r j x)) ≡ put_in key x (by_key key r)
   unfolding IsDistinct by_key
   replaced [] j x d p h = absurd (omega arith)
@@ -114,7 +114,7 @@ module _ {X : Type 0} (key : X → ℕ) where
       (IsPermutation-keeps xs (λ l. IsDistinct same_key l × (by_key key l ≡ by_key key xs)) (h, refl)
       (λ l i j p q was. (still_apart l (swap l i j) (IsPermutation-swap l _ i j p q refl) was.0, swapped l i j p q was.0 ∙ was.1)) ys moves).1
 
-  -- no key is less than one before it
+  -- no key is less than a key before it
   Rises : List X → Type 0
   Rises [] = ⊤
   Rises (x ∷ s) = AllByRecursion (λ y. key x ≤ key y) s × Rises s
@@ -133,7 +133,7 @@ module _ {X : Type 0} (key : X → ℕ) where
   rises_by_key [] = tt
   rises_by_key (x ∷ xs) = rises_put_in x (by_key key xs) (rises_by_key xs)
 
-  -- where an element is put in, and what comes after it
+  -- the place where an element is put in, and what comes after it
   pub record PutBefore (x : X) (s : List X) : Type 0 where
     pub front : List X
     pub back : List X

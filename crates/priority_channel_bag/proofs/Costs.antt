@@ -1,9 +1,9 @@
--- From a pair to the one over it there is a digit less.
+-- The place of the pair above has one digit less.
 use Rattle.std.proofs.Common.{◌≡◌, ℕ, ◌+◌, ◌-◌, ◌*◌, ◌/◌, ◌<◌, ◌≤◌, arith}
 use Rattle.priority_channel_bag.specs.Digits.{digits}
 use Rattle.priority_channel_bag.proofs.Digits.{digits-half, digits-mono}
 
--- `upper` is in the pair over that of `lower`
+-- `upper` is in the pair above the pair of `lower`
 pub digits_step : (upper lower : ℕ) → 1 < lower → upper / 2 ≡ (lower - 2) / 4 → digits (upper / 2 + 1) + 1 ≤ digits (lower / 2 + 1)
 digits_step upper lower more is = digits-half (upper / 2 + 1) (lower / 2 + 1) (omega arith) (omega arith)
 

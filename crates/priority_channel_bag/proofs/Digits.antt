@@ -19,7 +19,7 @@ digits-mono m n le =
     let h = lt-digits n in
     length-digits_of-le 2 (digits n) m (omega arith) (omega arith)
 
--- a half has a digit less
+-- a half has one digit less
 pub digits-half : (m n : ℕ) → 0 < n → m ≤ n / 2 → digits m + 1 ≤ digits n
 unfolding digits
 digits-half m n positive le =
@@ -45,7 +45,7 @@ digits_parent at positive = digits-half ((at - 1) / 2 + 1) (at + 1) (omega arith
 pub digits_child : (at child : ℕ) → at * 2 + 1 ≤ child → digits at + 1 ≤ digits child
 digits_child at child le = digits-half at child (omega arith) (omega arith)
 
--- a push more, into a longer bag
+-- one more push, into a longer bag
 pub push_costs : (n before after : ℕ) → before ≤ after → n * digits before + digits after ≤ (n + 1) * digits after
 push_costs n before after le =
     let h = mul-le n (digits before) n (digits after) (omega arith) (digits-mono before after le) in

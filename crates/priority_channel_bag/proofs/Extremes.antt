@@ -1,4 +1,5 @@
--- A list has one first greatest pair, and one last least.
+-- A list has one greatest pair (the first among equals), and one least pair (the last among
+-- equals).
 use Rattle.std.proofs.Common.{◌≡◌, true, false, List, [], ◌∷◌, ◌++◌, sym, ap, subst, ◌∙◌}
 use Rattle.std.proofs.lemmas.List.Elements.{recursion_from_All}
 use Rattle.std.specs.Cmp.{IsTotalOrder}
@@ -9,7 +10,8 @@ use Rattle.std.specs.declared.cmp.Ordering.TheVariants.{Less, Greater}
 use Rattle.priority_channel_bag.specs.Greatest.{TakesGreatest}
 use Rattle.priority_channel_bag.specs.Least.{TakesLeast}
 
--- An element that is told by what stands before it and what behind it, where no two are told so.
+-- An element that is recognized by what is before it and what is behind it. No two elements are
+-- recognized in this way.
 module _ {A : Type 0} (Before Behind : A → A → Type 0) (never : (x y : A) → Behind x y → Before y x → ⊥) where
   in_middle : (F : A → Type 0) (b : List A) (x : A) (a : List A) → AllByRecursion F (b ++ x ∷ a) → F x
   in_middle F [] x a h = h.0

@@ -1,4 +1,4 @@
--- What the moves keep of an interval heap.
+-- What the moves preserve of an interval heap.
 use Rattle.std.proofs.Common.{◌≡◌, ℕ, zero, suc, ◌+◌, ◌-◌, ◌*◌, ◌/◌, ◌%◌, ◌<◌, ◌≤◌, ◌≢◌, ◌⊎◌, Bool, true, false, List, length, get_or, set, min, inl, inr, refl, sym, subst, ◌∙◌, arith}
 use Rattle.std.proofs.Permutation.{which}
 use Rattle.std.proofs.lemmas.Bool.{cases_lt}
@@ -32,9 +32,9 @@ module _ {X : Type 0} (R : X → X → Ordering) (o : IsTotalOrder R) where
     across = λ a b r t p q. w.across a b r t (omega arith) (omega arith);
   }
 
-  -- The item at h and the one at g change places.
+  -- The item at h and the item at g change places.
   module _ (xs ys : List X) (h g : ℕ) (gn : g < length xs) (long : length ys ≡ length xs) (sw : SwappedAt xs ys h g) where
-    -- an item falls, to what it is over
+    -- an item falls to a place under it
     module _ (hg : IsOver h g) (w : InOrderBut R xs h) where
       falls : ((b : ℕ) → IsOver h b → b < length xs → b ≢ g → ComparesAt R xs g b false) → InOrderBut R ys g
       falls best = of_but ys (length xs) g (sym long) (moved lt IsOver ranks never_both xs ys (length xs) h g hg gn sw (to_but xs h w) best)
@@ -42,7 +42,7 @@ module _ {X : Type 0} (R : X → X → Ordering) (o : IsTotalOrder R) where
       falls_below : ComparesAt R xs h g true → (a : ℕ) → IsOver a g → a < length ys → ComparesAt R ys a g false
       falls_below t a r p = settled lt IsOver ranks never_both xs ys (length xs) h g hg gn sw (to_but xs h w) t a r (omega arith)
 
-    -- an item climbs, to what is over it
+    -- an item climbs to a place over it
     module _ (gh : IsOver g h) (w : InOrderBut R xs h) where
       climbs : ((a : ℕ) → IsOver a h → a < length xs → a ≢ g → ComparesAt R xs a g false) → InOrderBut R ys g
       climbs best = of_but ys (length xs) g (sym long) (flips_back lt IsOver ys (length xs) g
@@ -81,7 +81,7 @@ module _ {X : Type 0} (R : X → X → Ordering) (o : IsTotalOrder R) where
       under = climbs_above gh w t;
     }
 
-  -- where it stays
+  -- the item stays
   pub stays_high : (xs : List X) (h g : ℕ) → g < length xs → IsOver h g → ((b : ℕ) → IsOver h b → b < length xs → b ≢ g → IsOver g b) → ComparesAt R xs h g false → InOrderBut R xs h → AtMostTooGreat R xs h
   stays_high xs h g gn hg faces t w = record { others = w; under = rests lt IsOver ranks never_both xs (length xs) h g hg gn t faces (to_but xs h w) }
 
@@ -112,7 +112,7 @@ module _ {X : Type 0} (R : X → X → Ordering) (o : IsTotalOrder R) where
   tops_low xs h e le w = closes lt IsOver xs (length xs) h (to_but xs h w.others) w.over
       (λ b r p. let more = (under_low h b e r).0 in absurd (omega arith))
 
-  -- What `settle` and the two that mend begin with.
+  -- What `settle` and the two functions that mend begin with.
   pub opens_last : (xs : List X) (h : ℕ) → h + 1 ≡ length xs → IsIntervalHeapWithin R xs (length xs - 1) → InOrderBut R xs h
   unfolding IsIntervalHeapWithin
   opens_last xs h e w = record {
@@ -187,7 +187,7 @@ module _ {X : Type 0} (R : X → X → Ordering) (o : IsTotalOrder R) where
           (w.apart c (h + 1) (low (omega arith) (omega arith) (omega arith)) cn (omega arith) (omega arith) (omega arith) d)
           (w.apart (h + 1) b (low f (omega arith) (omega arith)) (omega arith) r (omega arith) (omega arith) d)
 
-    -- c is the lesser of their lows, where the last high stands for its low
+    -- c is the lesser of their lows; the last high stands for its low
     module _ (e : h % 2 ≡ 1) (lo : h * 2 ≤ c) (hi : c ≤ h * 2 + 3)
         (left : ComparesAt R xs (min (h * 2 + 1) (length xs - 1)) c false) (right : ComparesAt R xs (min (h * 2 + 3) (length xs - 1)) c false) where
       at_most_low : (a : ℕ) → h * 2 ≤ a → a ≤ h * 2 + 3 → a < length xs → (a % 2 ≡ 1) ⊎ (a + 1 ≡ length xs) → ComparesAt R xs a c false
@@ -222,7 +222,7 @@ module _ {X : Type 0} (R : X → X → Ordering) (o : IsTotalOrder R) where
   unfolding IsIntervalHeapWithin
   is_single xs one a b r p q = absurd (never_itself a b r (omega arith))
 
-  -- of the same items, and no more
+  -- for a list of the same items, and no more
   pub agrees : (xs ys : List X) (n m : ℕ) → m ≤ n → ((i : ℕ) (d : X) → i < m → get_or ys i d ≡ get_or xs i d) → IsIntervalHeapWithin R xs n → IsIntervalHeapWithin R ys m
   unfolding IsIntervalHeapWithin
   agrees xs ys n m le same w = λ a b r p q d. (λ k. lt (same a d p k) (same b d q k)) ∙ w a b r (omega arith) (omega arith) d

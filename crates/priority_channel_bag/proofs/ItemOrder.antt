@@ -12,7 +12,7 @@ use Rattle.priority_channel_bag.specs.Heap.{item_cmp}
 pub item_total : {T P : Type 0} {cmp : P → P → Ordering} → IsTotalOrder cmp → IsTotalOrder (item_cmp {T = T} cmp)
 item_total {T} {P} o = then_total (on_total (λ (x : Item T P). x.priority) o) (back_total (on_total (λ (x : Item T P). x.number) nat_cmp_total))
 
--- what a call of `compare` on the elements at i and j told
+-- what a call of `compare` on the elements at i and j returned
 pub compared :
     {X : Type 0} (R : X → X → Ordering) (xs : List X) (i j : ℕ) (x y : X) (o : Ordering) (r : Bool)
     → i < length xs → j < length xs → x ≡ get_or xs i x → y ≡ get_or xs j y → o ≡ R x y → r ≡ is_lt o → ComparesAt R xs i j r

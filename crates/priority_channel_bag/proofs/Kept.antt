@@ -1,4 +1,4 @@
--- What a bag keeps.
+-- The items that a bag keeps.
 use Rattle.std.proofs.Common.{◌≡◌, ℕ, suc, ◌+◌, ◌<◌, ◌≤◌, Bool, true, false, List, [], ◌∷◌, ◌++◌, length, get_or, map, take, drop, eqb, nat_lt, lt-ltb, refl, sym, ap, subst, ◌∙◌, cond, arith}
 use Rattle.std.proofs.lemmas.Bool.{eqb-false}
 use Rattle.std.proofs.lemmas.Bool.Decides.{nat_tests}
@@ -24,7 +24,7 @@ use Rattle.priority_channel_bag.proofs.ItemOrder.{item_total}
 use Rattle.priority_channel_bag.proofs.Ordered.{greatest_first}
 
 module _ {X : Type 0} where
-  -- what is so of all of a list is so of both its parts
+  -- what holds of all elements of a list holds of all elements of both its parts
   pub every_part : (P : X → Type 0) (xs ys : List X) → AllByRecursion P (xs ++ ys) → AllByRecursion P xs × AllByRecursion P ys
   every_part P [] ys h = (tt, h)
   every_part P (x ∷ xs) ys h = let r = every_part P xs ys h.1 in ((h.0, r.0), r.1)
@@ -62,7 +62,7 @@ module _ {T P : Type 0} where
     }
 
     module _ (two : Bool) (xs : List (Item T P)) (n : ℕ) (was : IsKept cmp two xs n) where
-      -- the same items in another order, of whichever heap
+      -- the same items in another order, in either kind of heap
       pub kept_moved : (other : Bool) (zs : List (Item T P)) → IsPermutation xs zs → IsOrdered R other zs → IsKept cmp other zs n
       kept_moved other zs moves order = record {
         order = order;
@@ -73,7 +73,7 @@ module _ {T P : Type 0} where
       pub pending_moved : (zs : List (Item T P)) → IsPermutation xs zs → in_order_of_numbers zs ≡ in_order_of_numbers xs
       pending_moved zs moves = ap (map pair_of) (keys.by_key_permutation number xs zs moves was.apart)
 
-    -- an item of a new number goes in
+    -- an item with a new number is added
     module _ (xs zs : List (Item T P)) (x : Item T P) (n : ℕ) (apart_before : IsDistinct same_number xs) (numbered : All (λ y. y.number < n) xs) (new : x.number ≡ n) (moves : IsPermutation (xs ++ x ∷ []) zs) where
       below : AllByRecursion (λ y. y.number < x.number) xs
       below = subst (λ (m : ℕ). AllByRecursion (λ y. y.number < m) xs) (sym new) (recursion_from_All (λ y. y.number < n) xs numbered)
@@ -135,7 +135,7 @@ module _ {T P : Type 0} where
             cc
         by_case Greater e = e
 
-    -- one item goes out of any items
+    -- one item is taken out of any items
     module _ (xs zs : List (Item T P)) (x : Item T P) (apart : IsDistinct same_number xs) (moved : IsPermutation xs (x ∷ zs)) where
       by_number : by_key number xs ≡ by_key number (x ∷ zs)
       by_number = sym (keys.by_key_permutation number xs (x ∷ zs) moved apart)
@@ -155,7 +155,7 @@ module _ {T P : Type 0} where
     apart_rest [] ys h = h
     apart_rest (x ∷ xs) ys h = apart_rest xs ys h.1
 
-    -- many go out
+    -- many items are taken out
     module _ (two : Bool) (xs others zs : List (Item T P)) (n : ℕ) (was : IsKept cmp two xs n) (moved : IsPermutation xs (others ++ zs)) where
       pub kept_rest : (ys : List (Item T P)) → IsPermutation zs ys → IsOrdered R two ys → IsKept cmp two ys n
       kept_rest ys moves order = record {
@@ -174,7 +174,7 @@ module _ {T P : Type 0} where
       takes_all (others ++ zs) others zs (apart_rest (x ∷ []) (others ++ zs) (keys.still_apart number xs (x ∷ others ++ zs) moved apart)) (IsPermutation-refl (others ++ zs)),
     )
 
-    -- one item goes out, and the others are left
+    -- one item is taken out, and the others are left
     module _ (two : Bool) (xs zs : List (Item T P)) (x : Item T P) (n : ℕ) (was : IsKept cmp two xs n) (moved : IsPermutation xs (x ∷ zs)) where
       apart_after : IsDistinct same_number (x ∷ zs)
       apart_after = keys.still_apart number xs (x ∷ zs) moved was.apart
@@ -192,11 +192,11 @@ module _ {T P : Type 0} where
       pub kept_without : IsOrdered R two zs → IsKept cmp two zs n
       kept_without order = record { order = order; apart = apart_left; numbered = numbered_left }
 
-      -- what is true of each item that is left
+      -- what holds of each item that is left
       abbrev Left : Item T P → Type 0
       Left y = (is_lt (R x y) ≡ false) × (same_number x y ≡ false)
 
-      -- it is above all others
+      -- the item is above all others
       pub takes_greatest : AllByRecursion (λ y. is_lt (R x y) ≡ false) xs → TakesGreatest cmp (in_order_of_numbers xs) (pair_of x) (in_order_of_numbers zs)
       unfolding IsDistinct by_key
       takes_greatest bound =
@@ -219,7 +219,7 @@ module _ {T P : Type 0} where
                 (every_weaker Left (λ y. is_gt (cmp y.priority x.priority) ≡ false) (λ y h. never_above x y h.0) i.back parts.1));
           }
 
-      -- it is below all others
+      -- the item is below all others
       pub takes_least : AllByRecursion (λ y. is_lt (R y x) ≡ false) xs → TakesLeast cmp (in_order_of_numbers xs) (pair_of x) (in_order_of_numbers zs)
       unfolding by_key
       takes_least bound =
@@ -249,7 +249,7 @@ module _ {T P : Type 0} where
       takes_greatest two xs (swap_remove xs 0 x) x n was (IsPermutation-swap_remove xs 0 x some first) (greatest_first R (item_total o) two xs x first was.order),
     )
 
-    -- where not even the least item is below a priority, no pair is
+    -- if not even the least item is below a priority, no pair is
     pub none_below : (xs : List (Item T P)) (x : Item T P) (priority : P) → AllByRecursion (λ y. is_lt (R y x) ≡ false) xs → is_lt (cmp x.priority priority) ≡ false → NoneBelow cmp (in_order_of_numbers xs) priority
     none_below xs x priority least h =
         All-map (λ other. is_lt (cmp other.1 priority) ≡ false) pair_of (by_key number xs)
@@ -258,7 +258,7 @@ module _ {T P : Type 0} where
         (every_weaker (λ y. is_lt (R y x) ≡ false) (λ y. is_lt (cmp y.priority priority) ≡ false)
         (λ y e. (heap.ranks o).chain _ _ _ (never_below x y e) h) xs least)))
 
--- what was told of each item was told of each pair
+-- what holds of each item holds of each pair
 pub of_pairs : {T P : Type 0} (Q : T × P → Type 0) (xs : List (Item T P)) → ((k : ℕ) (d : Item T P) → k < length xs → Q (pair_of (get_or xs k d))) → All Q (in_order_of_numbers xs)
 of_pairs {T} {P} Q xs h = All-map Q pair_of (by_key (λ y. y.number) xs)
     (All-from_recursion (λ y. Q (pair_of y)) (by_key (λ y. y.number) xs) (keys.every_by_key (λ (y : Item T P). y.number) (λ y. Q (pair_of y)) xs (each xs h)))
@@ -272,6 +272,6 @@ less_from_test Less e = refl
 less_from_test Equal e = cc
 less_from_test Greater e = cc
 
--- what a vector holds after a slice of the whole of it was written
+-- the contents of a vector after a slice of the whole of it was written
 pub written_back : {X : Type 0} (xs ys : List X) (n : ℕ) → n ≡ length xs → take n (xs ++ drop (length xs) ys) ≡ xs
 written_back xs ys n e = ap (λ (k : ℕ). take k (xs ++ drop (length xs) ys)) e ∙ take-append_seam xs (drop (length xs) ys)

@@ -1,23 +1,23 @@
--- One item moves among places of which some stand over others.
+-- One item moves among places, of which some are over others.
 use Rattle.std.proofs.Common.{◌≡◌, ℕ, ◌<◌, ◌≢◌, Bool, true, false, List, get_or, set, get_or-set_other, inl, inr, refl, sym, ap, subst, ◌∙◌}
 use Rattle.std.proofs.Permutation.{which}
 use Rattle.std.specs.Cmp.{IsStrictWeakOrder}
 use Rattle.std.specs.List.{SwappedAt}
 
 module _ {X : Type 0} (lt : X → X → Bool) (Over : ℕ → ℕ → Type 0) where
-  -- the item at a is not less than the one at b
+  -- the item at a is not less than the item at b
   abbrev pub NotLess : List X → ℕ → ℕ → Type 0
   NotLess xs a b = (d : X) → lt (get_or xs a d) (get_or xs b d) ≡ false
 
   abbrev pub Ordered : List X → ℕ → Type 0
   Ordered xs n = (a b : ℕ) → Over a b → a < n → b < n → NotLess xs a b
 
-  -- ordered but for the item at h
+  -- ordered except for the item at h
   pub record But (xs : List X) (n h : ℕ) : Type 0 where
     pub apart : (a b : ℕ) → Over a b → a < n → b < n → a ≢ h → b ≢ h → NotLess xs a b
     pub across : (a b : ℕ) → Over a h → Over h b → a < n → b < n → NotLess xs a b
 
-  -- what is over the item at h is not less than it, and it not less than what is under it
+  -- the items over the item at h are not less than it; it is not less than the items under it
   abbrev pub OverHolds : List X → ℕ → ℕ → Type 0
   OverHolds xs n h = (a : ℕ) → Over a h → a < n → NotLess xs a h
 
@@ -51,7 +51,7 @@ module _ {X : Type 0} (lt : X → X → Bool) (Over : ℕ → ℕ → Type 0) wh
           (s.chain _ _ _ (w a h o p hn d) (w h b r hn q d));
     }
 
-    -- the item at h is not less than the one at g, which is over all else that is under h
+    -- the item at h is not less than the item at g, and g is over all other places under h
     pub rests : (xs : List X) (n h g : ℕ) → Over h g → g < n → NotLess xs h g → ((b : ℕ) → Over h b → b < n → b ≢ g → Over g b) → But xs n h → UnderHolds xs n h
     rests xs n h g hg gn t faces w = λ b o q d. elim (which b g) [
       | inl e ↦ by _ _ _ _ refl (ap (λ m. get_or xs m d) e) (t d)
@@ -90,7 +90,7 @@ module _ {X : Type 0} (lt : X → X → Bool) (Over : ℕ → ℕ → Type 0) wh
             (s.chain _ _ _ (w.apart a g o p gn a' (other h g hg) d) (s.one_way _ _ (t d)))
       ]
 
--- The other way round.
+-- The same in the other direction.
 module _ {X : Type 0} (lt : X → X → Bool) (Over : ℕ → ℕ → Type 0) where
   abbrev pub flipped : X → X → Bool
   flipped x y = lt y x

@@ -1,4 +1,4 @@
--- What both heaps keep.
+-- What both kinds of heap preserve.
 use Rattle.std.proofs.Common.{◌≡◌, ℕ, suc, ◌+◌, ◌-◌, ◌<◌, ◌≤◌, Bool, true, false, List, [], ◌∷◌, ◌++◌, length, length-append, get_or, set, take, drop, refl, sym, ap, subst, ◌∙◌, arith, inl, inr}
 use Rattle.std.proofs.HeapSift as heap
 use Rattle.std.proofs.Permutation.{which, every_of}
@@ -15,7 +15,7 @@ use Rattle.priority_channel_bag.specs.IntervalHeap.{IsIntervalHeap, IsIntervalHe
 use Rattle.priority_channel_bag.proofs.BinaryHeaps as binary
 use Rattle.priority_channel_bag.proofs.IntervalHeaps as interval
 
--- the items of xs, as many as there are in ys
+-- ys is a prefix of xs
 abbrev Begins : {X : Type 0} → List X → List X → Type 0
 Begins {X} ys xs = (length ys ≤ length xs) × ((i : ℕ) (d : X) → i < length ys → get_or ys i d ≡ get_or xs i d)
 
@@ -35,7 +35,7 @@ module _ {X : Type 0} (xs ys : List X) (h : ℕ) (x : X) (hn : h < length xs) (f
         ],
       )
 
-  -- one was replaced, and put back
+  -- one item was replaced, and put back
   set_back : (y : X) → ys ≡ set xs h y → Begins (set ys h x) xs
   set_back y is =
       let long = ap length is ∙ length-set xs h y in
@@ -77,7 +77,7 @@ module _ {X : Type 0} (R : X → X → Ordering) (o : IsTotalOrder R) where
   greatest_first true xs x first w = every_of (λ y. lt_by_cmp R x y ≡ false) xs x
       (λ k p. ap (λ y. lt_by_cmp R y (get_or xs k x)) first ∙ interval.greatest_first R o xs (length xs) w k k (omega arith) p x)
 
-  -- What `arrange` keeps: a front of the items is in order.
+  -- What `arrange` preserves: a prefix of the items is in order.
   pub none_yet : (two : Bool) (xs : List X) → IsOrdered R two (take 0 xs)
   none_yet false xs = heap.empty o [] refl
   none_yet true xs = interval.is_single R o [] (omega arith)
@@ -87,7 +87,7 @@ module _ {X : Type 0} (R : X → X → Ordering) (o : IsTotalOrder R) where
       let long = length-take n xs in
       agrees two (take n xs) xs (omega arith, λ i d p. sym (get_or-take n xs i d (omega arith))) w
 
-  -- of the first items one more is settled
+  -- one more of the first items is settled
   pub one_more : (two : Bool) (xs ys : List X) (n : ℕ) → n < length xs → IsPermutation (take (n + 1) xs) ys
       → (IsOrdered R two (take (length (take (n + 1) xs) - 1) (take (n + 1) xs)) → IsOrdered R two ys)
       → IsOrdered R two (take n xs) → IsOrdered R two (take (n + 1) (ys ++ drop (n + 1) xs))
@@ -105,11 +105,11 @@ module _ {X : Type 0} (R : X → X → Ordering) (o : IsTotalOrder R) where
       (settles (agrees two before first
       (omega arith, λ i d q. get_or-take (length (take (n + 1) xs) - 1) (take (n + 1) xs) i d (omega arith) ∙ get_or-take (n + 1) xs i d (omega arith) ∙ sym (get_or-take n xs i d (omega arith))) w))
 
--- no item is less than the one of the least place
+-- no item is less than the item at the least place
 pub none_less : {X : Type 0} (R : X → X → Ordering) (xs : List X) (h : ℕ) (x : X) → x ≡ get_or xs h x → IsLeastAt R xs h → AllByRecursion (λ y. lt_by_cmp R y x ≡ false) xs
 none_less R xs h x is least = every_of (λ y. lt_by_cmp R y x ≡ false) xs x (λ k p. ap (λ y. lt_by_cmp R (get_or xs k x) y) is ∙ least k p x)
 
--- An item goes out, and another comes in its place.
+-- An item is taken out, and another comes in its place.
 module _ {X : Type 0} (xs : List X) where
   pub goes_out : (h : ℕ) (x : X) → h < length xs → x ≡ get_or xs h x → IsPermutation xs (x ∷ remove xs h)
   goes_out h x hn first = IsPermutation-remove xs h x hn first

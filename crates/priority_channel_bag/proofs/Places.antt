@@ -18,13 +18,13 @@ never_itself a b (own_low f q) e = omega arith
 never_itself a b (high f q r) e = omega arith
 never_itself a b (low f q r) e = omega arith
 
--- over a high is only the high of the pair over its own
+-- only the high of the pair above is over a high
 pub over_high : (h a : ℕ) → h % 2 ≡ 0 → IsOver a h → (1 < h) × (a ≡ (h - 2) / 4 * 2)
 over_high h a e (own_low f q) = absurd (omega arith)
 over_high h a e (high f q r) = (omega arith, omega arith)
 over_high h a e (low f q r) = absurd (omega arith)
 
--- and under a low only the low of that pair
+-- only the low of that pair is under a low
 pub under_low : (h b : ℕ) → h % 2 ≡ 1 → IsOver h b → (1 < h) × (b ≡ (h - 2) / 4 * 2 + 1)
 under_low h b e (own_low f q) = absurd (omega arith)
 under_low h b e (high f q r) = absurd (omega arith)
@@ -36,7 +36,7 @@ parent_high h lt = high (omega arith) (omega arith) (omega arith)
 pub parent_low : (h : ℕ) → 1 < h → IsOver h ((h - 2) / 4 * 2 + 1)
 parent_low h lt = low (omega arith) (omega arith) (omega arith)
 
--- what is over the last place is over what is under it
+-- a place over the last place is over each place under the last place
 pub across_last : (h a b : ℕ) → IsOver a h → IsOver h b → a ≤ h → b ≤ h → IsOver a b
 across_last h a b (own_low e p) (own_low f q) s t = absurd (omega arith)
 across_last h a b (own_low e p) (high f q r) s t = absurd (omega arith)
@@ -46,7 +46,7 @@ across_last h a b (high e p u) (high f q r) s t = absurd (omega arith)
 across_last h a b (high e p u) (low f q r) s t = own_low e (omega arith)
 across_last h a b (low e p u) r s t = absurd (omega arith)
 
--- Where no pair lies below that of a place, its partner faces all else there.
+-- If no pair is below the pair of a place, its partner faces all other places there.
 pub faces_own_low : (h n b : ℕ) → h % 2 ≡ 0 → n ≤ h * 2 + 2 → IsOver h b → b < n → b ≢ h + 1 → IsOver (h + 1) b
 faces_own_low h n b e m (own_low f q) l u = absurd (u q)
 faces_own_low h n b e m (high f q r) l u = absurd (omega arith)

@@ -14,7 +14,7 @@ pub record Contents (T P : Type 0) : Type 0 where
   -- whether the least pair is known without a search
   pub knows_least : Bool
 
--- how many comparisons it takes at most until the least pair is known
+-- the greatest number of comparisons until the least pair is known
 abbrev pub search_for_least : {T P : Type 0} → Contents T P → ℕ
 search_for_least bag =
     if bag.knows_least then 0 else length bag.pending * digits (length bag.pending)

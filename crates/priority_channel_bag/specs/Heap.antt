@@ -8,7 +8,7 @@ use Rattle.priority_channel_bag.specs.declared.item.Item.{Item}
 use Rattle.priority_channel_bag.specs.IntervalHeap.{IsIntervalHeap}
 
 module _ {X : Type 0} (key : X → ℕ) where
-  -- xs with x before the first element of a greater key
+  -- xs with x before the first element that has a greater key
   unfoldable pub put_in : X → List X → List X
   put_in x [] = x ∷ []
   put_in x (y ∷ ys) = cond (nat_lt (key x) (key y)) (x ∷ y ∷ ys) (y ∷ put_in x ys)
@@ -19,12 +19,12 @@ module _ {X : Type 0} (key : X → ℕ) where
   by_key (x ∷ xs) = put_in x (by_key xs)
 
 module _ {X : Type 0} (R : X → X → Ordering) where
-  -- the items are a binary heap; or an interval heap, which has two ends
+  -- the items are a binary heap, or an interval heap, which has two ends
   abbrev pub IsOrdered : Bool → List X → Type 0
   IsOrdered false xs = IsHeap R xs
   IsOrdered true xs = IsIntervalHeap R xs
 
-  -- ys are such a heap where xs would be one with some other item at h
+  -- if xs would be such a heap with some other item at h, then ys is such a heap
   abbrev pub MendsAt : Bool → ℕ → List X → List X → Type 0
   MendsAt has_two_ends h xs ys =
       (x : X) → IsOrdered has_two_ends (slice_set xs h x) → IsOrdered has_two_ends ys
@@ -40,7 +40,8 @@ module _ {T P : Type 0} where
   abbrev pub same_number : Item T P → Item T P → Bool
   same_number x y = x.number == y.number
 
-  -- by the priority, and of two equal ones the smaller number is the greater
+  -- by the priority; of two items with equal priorities the one with the smaller number is the
+  -- greater
   abbrev pub item_cmp : (P → P → Ordering) → Item T P → Item T P → Ordering
   item_cmp cmp = then_cmp (on (λ x. x.priority) cmp) (flip_args (on (λ x. x.number) nat_cmp))
 

@@ -1,13 +1,14 @@
--- Where the items of an interval heap lie, and in which order they are.
+-- Where the items of an interval heap are, and how they are ordered.
 --
--- They lie in pairs: at each even place a high, and right behind it its low. Below a pair lie two
--- more. Where its high is at h, their four items are from h * 2 + 2 on, which is l * 2 for its low.
+-- The items are in pairs: a high at each even place, and its low right behind it. Below a pair are
+-- two more pairs. If the high of a pair is at h and its low at l, the four items below it are from
+-- h * 2 + 2 on, which is l * 2.
 use Rattle.std.specs.Prelude.{◌≡◌, ℕ, ◌+◌, ◌*◌, ◌%◌, ◌<◌, ◌≤◌, ◌≢◌, false, List, length}
 use Rattle.std.specs.BinaryHeap.Sift.{ComparesAt}
 use Rattle.std.specs.declared.cmp.Ordering.{Ordering}
 
--- the item at a may not be less than the one at b: a high is over its low, and each item of the two
--- pairs below lies between both
+-- the item at a may not be less than the item at b: a high is over its low, and each item of the
+-- two pairs below is between both
 pub data IsOver (a b : ℕ) : Type 0 where
   own_low : a % 2 ≡ 0 → b ≡ a + 1 → IsOver a b
   high : a % 2 ≡ 0 → a * 2 + 2 ≤ b → b ≤ a * 2 + 5 → IsOver a b
@@ -21,23 +22,23 @@ module _ {X : Type 0} (R : X → X → Ordering) where
   abbrev pub IsIntervalHeap : List X → Type 0
   IsIntervalHeap xs = IsIntervalHeapWithin xs (length xs)
 
-  -- no item is less than the one at i
+  -- no item is less than the item at i
   abbrev pub IsLeastAt : List X → ℕ → Type 0
   IsLeastAt xs i = (k : ℕ) → k < length xs → ComparesAt R xs k i false
 
-  -- xs is an interval heap but for the item at h, whatever that is
+  -- xs is an interval heap except for the item at h, whatever that is
   pub record InOrderBut (xs : List X) (h : ℕ) : Type 0 where
     pub apart : (a b : ℕ) → IsOver a b → a < length xs → b < length xs → a ≢ h → b ≢ h
         → ComparesAt R xs a b false
     pub across : (a b : ℕ) → IsOver a h → IsOver h b → a < length xs → b < length xs
         → ComparesAt R xs a b false
 
-  -- the item at h may be greater than those over it
+  -- the item at h may be greater than the items over it
   pub record AtMostTooGreat (xs : List X) (h : ℕ) : Type 0 where
     pub others : InOrderBut xs h
     pub under : (b : ℕ) → IsOver h b → b < length xs → ComparesAt R xs h b false
 
-  -- the item at h may be less than those that it is over
+  -- the item at h may be less than the items under it
   pub record AtMostTooSmall (xs : List X) (h : ℕ) : Type 0 where
     pub others : InOrderBut xs h
     pub over : (a : ℕ) → IsOver a h → a < length xs → ComparesAt R xs a h false

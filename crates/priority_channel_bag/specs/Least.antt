@@ -1,4 +1,4 @@
--- Which pending pair makes room for a more urgent one, and which a test takes out.
+-- Which pending pair makes room for a pair of greater priority, and which pair a test takes out.
 use Rattle.std.specs.Prelude.{◌≡◌, Bool, false, List, [], ◌∷◌, ◌++◌}
 use Rattle.std.specs.List.{All}
 use Rattle.std.specs.Fn.{Shared, FnReturns}
@@ -8,8 +8,8 @@ use Rattle.std.specs.declared.cmp.Ordering.{Ordering}
 use Rattle.std.specs.declared.cmp.Ordering.TheVariants.{Less, Greater}
 
 module _ {T P : Type 0} (cmp : P → P → Ordering) where
-  -- `pair` is the last of `pending` among those that exceed no pair in priority, and `rest` is the
-  -- others
+  -- `pair` has the least priority in `pending`, and is the last pair of that priority; `rest` is
+  -- the others
   pub record TakesLeast (pending : List (T × P)) (pair : T × P) (rest : List (T × P))
       : Type 0 where
     pub before : List (T × P)
@@ -23,7 +23,7 @@ module _ {T P : Type 0} (cmp : P → P → Ordering) where
   abbrev pub NoneBelow : List (T × P) → P → Type 0
   NoneBelow pending priority = All (λ other. is_lt (cmp other.1 priority) ≡ false) pending
 
-  -- the least pair `out`, which is less urgent than `pair`, makes room for it
+  -- the least pair `out` makes room for `pair`, and has a lesser priority than `pair`
   pub record Displaces (pending : List (T × P)) (pair out : T × P) (new : List (T × P))
       : Type 0 where
     pub rest : List (T × P)
@@ -45,7 +45,7 @@ TakesAll pending [] rest = rest ≡ pending
 TakesAll {T} {P} pending (pair ∷ more) rest =
     (left : List (T × P)) × TakesOne pending pair left × TakesAll left more rest
 
--- a call of the test at this pair may tell `answer`
+-- a call of the test on this pair may return `answer`
 pub record Tells {F T P : Type 0} (g : Shared F (Bor T × (Bor P × Unit {0})) Bool) (test : F)
     (pair : T × P) (answer : Bool) : Type 0 where
   pub msg : Bor T

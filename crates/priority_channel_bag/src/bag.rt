@@ -1,7 +1,7 @@
 //! Pending pairs, kept as a heap in one vector.
 //!
-//! The small calls of the hot path are inlined by force: their answers would go through memory, and
-//! be read back at once.
+//! The small calls of the hot path are forced inline. Otherwise their results would be written to
+//! memory and read back at once.
 ghost use Rattle.std.specs.Prelude.{◌≡◌, List, ◌↔◌, ◌+◌, ◌*◌, ◌<◌, ◌≤◌, ◌^◌, true, false, [], ◌∷◌, ◌++◌, length, All, IfOk, IfErr, IfSome, IfNone, OnOk, OnErr, IsTrue, MatchOption, vec_capacity};
 ghost use Rattle.priority_channel_bag.specs.Digits.{digits};
 ghost use Rattle.priority_channel_bag.specs.Greatest.{TakesGreatest};
@@ -16,10 +16,10 @@ use crate::item::Item;
 use std::alloc::{AllocError, Allocator, Global};
 use std::marker::Model;
 
-/// Pairs of a message and a priority, of which `pop` takes out the first among those that no other
-/// exceeds in priority.
+/// A bag of pairs of a message and a priority. `pop` takes out the pair of greatest priority, and
+/// among equals the one pushed first.
 ///
-/// A pair is pushed into a slot that was made before, by `reserved` or `make_slot`, so a push
+/// A pair is pushed into a slot that was made before, by `reserved` or `make_slot`. So a push
 /// cannot fail:
 ///
 /// ```
@@ -29,13 +29,13 @@ use std::marker::Model;
 /// assert_eq!(rt; bag.pop(), Some(("build", 3)));
 /// ```
 ///
-/// Each pair gets a number when it is pushed, which decides among equal priorities. `u64::MAX`
-/// pairs can be pushed in all, however many are taken out.
+/// Each pair gets a number when it is pushed. Among equal priorities the number decides. At most
+/// `u64::MAX` pairs can be pushed in all, however many are taken out.
 #[derive(Drop)]
 pub struct Bag<T, P: Ord, A: Allocator = Global> {
     items: Vec<Item<T, P>, A>,
     accepted: u64,
-    // Whether the items lie as an interval heap, and no more as a binary heap.
+    // Whether the items are an interval heap. Otherwise they are a binary heap.
     has_two_ends: bool,
     comparisons: Comparisons,
 }
@@ -91,8 +91,8 @@ impl<T, P: Ord, A: Allocator> Bag<T, P, A> {
         Ok(Bag::of(Vec::with_capacity(alloc, n as usize)?))
     }
 
-    /// Makes a slot for one more pair, where none is free. It fails only where memory is refused,
-    /// or at 2^63 - 1 pairs, and then nothing has changed.
+    /// Makes a slot for one more pair, if none is free. It fails only if memory is refused, or at
+    /// 2^63 - 1 pairs. Then nothing has changed.
     #[inline(always)]
     pub fn make_slot(&mut self) -> Result<(), AllocError>
         ensures same { self.new ≡ record self.old { slots = self.new.slots } }
@@ -105,7 +105,7 @@ impl<T, P: Ord, A: Allocator> Bag<T, P, A> {
         self.items.reserve(1)
     }
 
-    /// How many pairs are pending.
+    /// The number of pending pairs.
     #[inline(always)]
     pub fn len(&self) -> u64
         ensures { result ≡ length self.now.pending }
@@ -113,7 +113,7 @@ impl<T, P: Ord, A: Allocator> Bag<T, P, A> {
         self.items.len() as u64
     }
 
-    /// Whether there is a number left for a further pair.
+    /// Whether a number is left for another pair.
     #[inline(always)]
     pub fn can_push(&self) -> bool
         ensures { IsTrue result ↔ (self.now.accepted + 1 < 2 ^ 64) }
@@ -147,8 +147,8 @@ impl<T, P: Ord, A: Allocator> Bag<T, P, A> {
         );
     }
 
-    /// The first pair among those that no other exceeds in priority, which stays. It compares
-    /// nothing.
+    /// The pair of greatest priority, and among equals the one pushed first. It stays in the bag.
+    /// No priorities are compared.
     pub fn peek(&self) -> Option<(&T, &P)>
         ensures { MatchOption result (self.now.pending ≡ []) (λ pair. (rest : List (T × P))
             × TakesGreatest P.cmp self.now.pending (pair.0.now, pair.1.now) rest) }
@@ -160,7 +160,7 @@ impl<T, P: Ord, A: Allocator> Bag<T, P, A> {
         Some((&item.msg, &item.priority))
     }
 
-    /// Takes out the first pair among those that no other exceeds in priority.
+    /// Takes out the pair of greatest priority, and among equals the one pushed first.
     #[inline(always)]
     pub fn pop(&mut self) -> Option<(T, P)>
         ensures taken { MatchOption result (self.old.pending ≡ []) (λ pair.
@@ -175,7 +175,7 @@ impl<T, P: Ord, A: Allocator> Bag<T, P, A> {
         if self.items.is_empty() {
             return None;
         }
-        // In either heap.
+        // This is so in both kinds of heap.
         let greatest = 0;
         let Item {
             msg,
@@ -190,12 +190,12 @@ impl<T, P: Ord, A: Allocator> Bag<T, P, A> {
         Some((msg, priority))
     }
 
-    /// Puts a pair in the place of the last one among those that exceed no other in priority, and
-    /// gives that back, if it is less urgent than the new one. Else the new pair comes back. It
-    /// takes no memory.
+    /// Puts a pair in the place of the pair of least priority (among equals the one pushed last),
+    /// and returns the latter, if its priority is less than that of the new pair. Otherwise the new
+    /// pair comes back. It takes no memory.
     ///
-    /// The first call makes the least pair known, which costs a search through all pairs; from then
-    /// on each push keeps it so.
+    /// The first call makes the least pair known, at the cost of a search through all pairs. From
+    /// then on each push keeps it known.
     pub fn displace(&mut self, msg: T, priority: P) -> Result<(T, P), (T, P)>
         requires number { self.old.accepted + 1 < 2 ^ 64 }
         ensures displaced { IfOk result (λ out.
@@ -256,9 +256,9 @@ impl<T, P: Ord, A: Allocator> Bag<T, P, A> {
         }
     }
 
-    /// Takes out a pair of which the test tells true; which one, where there are several, is not
-    /// said. The test is asked of the pairs in no order that is said, and of none once it has told
-    /// true. It takes no memory.
+    /// Takes out a pair for which the test returns true. If there are several, it is not specified
+    /// which one. The test is called on pairs in no specified order, and on none after it has
+    /// returned true. It takes no memory.
     pub fn take_where<F: Fn(&T, &P) -> bool>(&mut self, test: &F) -> Option<(T, P)>
         requires { F.IsAlwaysCallable test.now }
         ensures taken { MatchOption result (self.new.pending ≡ self.old.pending) (λ pair.
@@ -286,8 +286,8 @@ impl<T, P: Ord, A: Allocator> Bag<T, P, A> {
         Some((msg, priority))
     }
 
-    /// Keeps the pairs of which the test tells true. All others go to the end of `out`, in no order
-    /// that is said. The test is asked once of each pair, in no order that is said.
+    /// Keeps the pairs for which the test returns true. All others go to the end of `out`, in no
+    /// specified order. The test is called once on each pair, in no specified order.
     pub fn retain<F: Fn(&T, &P) -> bool, B: Allocator>(
         &mut self,
         test: &F,

@@ -1,4 +1,4 @@
-//! What a test of the caller's chooses.
+//! Finding the pairs that a test of the caller chooses.
 ghost use Rattle.std.specs.Prelude.{◌≡◌, ℕ, true, false, List, ◌++◌, ◌+◌, ◌<◌, ◌≤◌, length, map, slice_index_or, All, IfNone, IfSome, vec_capacity};
 ghost use Rattle.std.specs.List.Sorted.{IsPermutation};
 ghost use Rattle.priority_channel_bag.specs.Heap.{pair_of};
@@ -8,7 +8,7 @@ ghost use Rattle.priority_channel_bag.specs.declared.item.Item.{Item};
 use crate::item::Item;
 use std::alloc::Allocator;
 
-/// The place of an item of whose pair the test tells true.
+/// The place of an item for whose pair the test returns true.
 pub(crate) fn find<T, P, F: Fn(&T, &P) -> bool>(items: &[Item<T, P>], test: &F) -> Option<usize>
     requires { F.IsAlwaysCallable test.now }
     ensures within { IfSome result (λ at. at < length items.now) }
@@ -26,8 +26,8 @@ pub(crate) fn find<T, P, F: Fn(&T, &P) -> bool>(items: &[Item<T, P>], test: &F) 
     None
 }
 
-/// Moves the pairs of which the test tells false to the end of `out`. What is left changes its
-/// order.
+/// Moves the pairs for which the test returns false to the end of `out`. The order of the other
+/// items changes.
 pub(crate) fn divide<T, P, F: Fn(&T, &P) -> bool, A: Allocator, B: Allocator>(
     items: &mut Vec<Item<T, P>, A>,
     test: &F,

@@ -1,8 +1,8 @@
-//! What a bag asks of its heap, whichever of the two that is.
+//! What a bag needs of its heap, for both kinds of heap.
 //!
-//! A pair that is less urgent than all others, as each of equal priorities is, compares once as it
-//! enters a binary heap, and rises to the top of an interval heap's lows. So a bag is a binary heap
-//! until its least item is asked for.
+//! A pair of lesser priority than all others makes one comparison when it enters a binary heap. In
+//! an interval heap it rises to the top of the lows. A new pair of equal priority is such a lesser
+//! pair. So a bag is a binary heap until its least item is asked for.
 ghost use Rattle.std.specs.Prelude.{◌≡◌, List, ◌+◌, ◌-◌, ◌*◌, ◌<◌, ◌≤◌, [], ◌∷◌, ◌++◌, length, take, slice_index_or, vec_capacity};
 ghost use Rattle.std.specs.List.Sorted.{IsPermutation};
 ghost use Rattle.priority_channel_bag.specs.Digits.{digits};
@@ -16,7 +16,7 @@ use crate::sift::{rise, sink};
 use std::alloc::Allocator;
 use std::mem;
 
-/// Puts an item in, for which there is a slot.
+/// Adds an item, for which there is a slot.
 #[inline(always)]
 pub(crate) fn push<T, P: Ord, A: Allocator>(
     items: &mut Vec<Item<T, P>, A>,
@@ -36,7 +36,7 @@ pub(crate) fn push<T, P: Ord, A: Allocator>(
     settle(items.as_mut_slice(), comparisons, has_two_ends);
 }
 
-/// Takes the item at `at` out.
+/// Takes out the item at `at`.
 #[inline(always)]
 pub(crate) fn remove<T, P: Ord, A: Allocator>(
     items: &mut Vec<Item<T, P>, A>,
@@ -58,7 +58,7 @@ pub(crate) fn remove<T, P: Ord, A: Allocator>(
     item
 }
 
-/// Puts an item in the place of the one at `at`, and gives that back.
+/// Puts an item in the place of the item at `at`, and returns the latter.
 pub(crate) fn replace<T, P: Ord>(
     items: &mut [Item<T, P>],
     comparisons: &mut Comparisons,
@@ -95,7 +95,7 @@ pub(crate) fn arrange<T, P: Ord>(
     }
 }
 
-// Makes a heap of items that are one but for the last of them, which was just added.
+// Makes a heap of items that are a heap except for the last one, which was just added.
 #[inline(always)]
 fn settle<T, P: Ord>(items: &mut [Item<T, P>], comparisons: &mut Comparisons, has_two_ends: bool)
     requires { 0 < length items.old }
@@ -112,8 +112,8 @@ fn settle<T, P: Ord>(items: &mut [Item<T, P>], comparisons: &mut Comparisons, ha
     }
 }
 
-// Makes a heap of items that were one until another came in at `at`. Where there are not so many,
-// they stay as they are.
+// Makes a heap of items that were a heap before another item came in at `at`. If there is no place
+// `at`, the items stay as they are.
 #[inline(always)]
 fn mend<T, P: Ord>(
     items: &mut [Item<T, P>],

@@ -1,9 +1,9 @@
-//! An interval heap. The items lie in pairs, a high and behind it its low, and each pair lies
-//! between the high and the low of the pair over it. So the first item is the greatest and the
-//! second the least. Where the number of items is odd, the last high is without a low.
+//! An interval heap. The items are in pairs: a high, and its low right behind it. Each pair lies
+//! between the high and the low of the pair above it. So the first item is the greatest, and the
+//! second is the least. If the number of items is odd, the last high has no low.
 //!
-//! As a binary heap it takes no memory of its own, and each call makes a number of comparisons that
-//! grows as the logarithm of the length.
+//! Like a binary heap, it takes no memory of its own, and the number of comparisons of a call grows
+//! with the logarithm of the length.
 ghost use Rattle.std.specs.Prelude.{◌≡◌, ◌+◌, ◌-◌, ◌*◌, ◌<◌, ◌≤◌, true, [], length, IfSome, MatchOption};
 ghost use Rattle.std.specs.List.Sorted.{IsPermutation};
 ghost use Rattle.priority_channel_bag.specs.Digits.{digits};
@@ -16,7 +16,7 @@ use crate::item::Item;
 
 mod sift;
 
-/// Makes an interval heap of items that are one but for the last of them, which was just added.
+/// Makes an interval heap of items that are one except for the last item, which was just added.
 pub(crate) fn settle<T, P: Ord>(items: &mut [Item<T, P>], comparisons: &mut Comparisons)
     ensures moves { IsPermutation items.old items.new }
     ensures order { IsIntervalHeapWithin (item_cmp P.cmp) items.old (length items.old - 1)
@@ -30,7 +30,7 @@ pub(crate) fn settle<T, P: Ord>(items: &mut [Item<T, P>], comparisons: &mut Comp
     settle_at(items, comparisons, last);
 }
 
-/// Makes an interval heap of items that were one until another came in at `at`.
+/// Makes an interval heap of items that were one before another item came in at `at`.
 pub(crate) fn mend<T, P: Ord>(items: &mut [Item<T, P>], comparisons: &mut Comparisons, at: usize)
     requires { at < length items.old }
     ensures moves { IsPermutation items.old items.new }
@@ -41,7 +41,7 @@ pub(crate) fn mend<T, P: Ord>(items: &mut [Item<T, P>], comparisons: &mut Compar
     settle_at(items, comparisons, bottom);
 }
 
-/// Where the least item of an interval heap is, if it has any.
+/// The place of the least item of an interval heap, if there is any item.
 pub(crate) fn least_place<T, P: Ord>(items: &[Item<T, P>]) -> Option<usize>
     ensures place { MatchOption result (items.now ≡ []) (λ i. i < length items.now) }
     ensures least { IfSome result (λ i. IsIntervalHeap (item_cmp P.cmp) items.now

@@ -7,8 +7,8 @@ ghost use Rattle.std.specs.Ordering.{on, as_partial_cmp, eq_of_both};
 
 use std::cmp::Ordering;
 
-/// Items are ordered by their priority. Of two with equal priorities the one that was accepted
-/// first is the greater.
+/// Items are ordered by their priority. Of two items with equal priorities, the one that was
+/// accepted first is the greater.
 #[derive(Drop)]
 pub struct Item<T, P> {
     pub msg: T,

@@ -1,7 +1,7 @@
-//! The bag of a channel's pending pairs, with the two heaps that it is kept as, and the counter of
-//! comparisons that contracts alone see.
+//! The bag of a channel's pending pairs, the two kinds of heap in which it keeps them, and the
+//! counter of comparisons that only contracts see.
 //!
-//! A caller has them in `priority_channel_core`.
+//! Callers get them from `priority_channel_core`.
 #![tactic(auto)]
 
 pub mod bag;

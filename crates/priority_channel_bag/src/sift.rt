@@ -1,5 +1,5 @@
-//! The two ways in which an item moves through a binary heap. The parent of the item at i is at
-//! (i - 1) / 2.
+//! The two ways in which an item moves through a binary heap. The parent of the item at i is at (i
+//! - 1) / 2.
 ghost use Rattle.std.specs.Prelude.{◌≡◌, ◌+◌, ◌*◌, ◌<◌, ◌≤◌, false, length};
 ghost use Rattle.std.specs.List.Sorted.{IsPermutation};
 ghost use Rattle.std.specs.List.{swap};
@@ -11,7 +11,7 @@ use crate::comparisons::Comparisons;
 use crate::item::Item;
 use std::mem;
 
-/// Moves the item at `at` up, until its parent is not below it.
+/// Moves the item at `at` up, until its parent is not less than it.
 pub(crate) fn rise<T, P: Ord>(items: &mut [Item<T, P>], comparisons: &mut Comparisons, at: usize)
     requires { at < length items.old }
     ensures moves { IsPermutation items.old items.new }
@@ -29,17 +29,17 @@ pub(crate) fn rise<T, P: Ord>(items: &mut [Item<T, P>], comparisons: &mut Compar
     }
 }
 
-/// Makes a heap of items that were one until another came in at `at`: that goes down to the bottom,
-/// and up again.
+/// Makes a heap of items that were a heap before another item came in at `at`. That item goes down
+/// to the bottom, and up again.
 pub(crate) fn sink<T, P: Ord>(items: &mut [Item<T, P>], comparisons: &mut Comparisons, at: usize)
     requires { at < length items.old }
     ensures moves { IsPermutation items.old items.new }
     ensures order { MendsAt (item_cmp P.cmp) false at items.old items.new }
     ensures cost { comparisons.new.count ≤ comparisons.old.count + 2 * digits (length items.old) }
 {
-    // Once for all levels: which child is the greater cannot be foretold, so a branch is wrong at
-    // every second level; but it begins to load the next level before the comparison has ended,
-    // which counts for more where the items lie in far memory.
+    // The choice is made once for all levels. It cannot be predicted which child is the greater, so
+    // a branch is mispredicted at every second level. But a branch begins to load the next level
+    // before the comparison has ended, and that counts for more if the items are in far memory.
     if items.len() < FAR {
         sink_by::<WithoutBranch, T, P>(items, comparisons, at);
     } else {
@@ -47,7 +47,7 @@ pub(crate) fn sink<T, P: Ord>(items: &mut [Item<T, P>], comparisons: &mut Compar
     }
 }
 
-// From this length on the items are taken to lie in far memory.
+// From this length on, the items are assumed to be in far memory.
 const FAR: usize = 1 << 16;
 
 // How the greater child is found.
@@ -118,8 +118,8 @@ fn sink_by<C: Choice, T, P: Ord>(items: &mut [Item<T, P>], comparisons: &mut Com
     rise(items, comparisons, at);
 }
 
-/// Swaps two items. Field by field, since fields of a few bytes move in registers, where a whole
-/// item goes through memory.
+/// Swaps two items, field by field: fields of a few bytes move in registers, but a whole item goes
+/// through memory.
 fn exchange<T, P>(items: &mut [Item<T, P>], low: usize, high: usize)
     requires { (low < high) × (high < length items.old) }
     ensures after { items.new ≡ swap items.old low high }

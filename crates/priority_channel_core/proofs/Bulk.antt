@@ -1,4 +1,4 @@
--- A bulk send of the code as a step, whatever list its iterator has.
+-- A bulk send of the code as a step, for every list that its iterator has.
 use Rattle.std.proofs.Common.{◌≡◌, ℕ, ◌+◌, ◌-◌, ◌<◌, ◌≤◌, ◌^◌, ◌⊎◌, true, false, List, refl, arith}
 use Rattle.std.specs.Prelude.{Result, Ok, Err, Option}
 use Rattle.std.specs.declared.cmp.Ordering.{Ordering}
@@ -15,7 +15,7 @@ use Rattle.priority_channel_core.specs.code.Front.{HasMore, HasEnded, SendsFront
 use Rattle.priority_channel_core.specs.code.Calls.{SameReply, Performs}
 use Rattle.priority_channel_core.proofs.Sends.{sent_full, sent_all, sent_cut, refuses_full}
 
--- a reply is right for whatever list m holds
+-- a reply is right for every list that m holds
 pub record Replies {T P W M : Type 0} (holds : M → List (T × P) → Type 0) (old : State T P W) (m : M)
     (reply : Result (Unit {0}) (TrySendError M)) (handed : Handed W) (new : State T P W) : Type 0 where
   pub at : (pairs : List (T × P)) → holds m pairs

@@ -1,4 +1,4 @@
--- The parts of a channel, once the loop of a bulk send has added a front to the bag and the word
+-- The parts of a channel, after the loop of a bulk send has added a prefix to the bag and the word
 -- has risen.
 use Rattle.std.proofs.Common.{◌≡◌, ℕ, ◌+◌, ◌-◌, ◌<◌, ◌≤◌, ◌^◌, ◌⊎◌, Bool, true, false, List, [], ◌++◌, length, refl, ap, arith, inl, inr, length-append}
 use Rattle.std.specs.Prelude.{◌==◌, if◌then◌else◌}

@@ -1,4 +1,4 @@
--- How many handles there are, along the calls of a run.
+-- The number of handles, along the calls of a run.
 use Rattle.std.proofs.Common.{◌≡◌, ℕ, ◌+◌, ◌-◌, ◌≤◌, inl, inr, Bool, true, false, cond, ◌||◌, List, [], ◌∷◌, refl, arith, count_by}
 use Rattle.std.specs.List.{list_any}
 use Rattle.std.proofs.lemmas.List.Sums.{sum_by-cons}
@@ -19,8 +19,8 @@ module _ {C : Type 0} (is_clone is_drop : C → Bool) where
       let both = neither (is_drop call) (list_any is_drop calls) h in
       (λ dropped. cc (both.0), none_dropped (count_after is_clone is_drop count call) calls both.1)
 
-  -- the count after the call and the clones after it are no more than the count before it and its
-  -- clones
+  -- the count after the call and the clones after it are together at most the count before it and
+  -- its clones
   bound : (count n : ℕ) (b c : Bool) → cond b (count + 1) (cond c (count - 1) count) + n ≤ count + (cond b 1 0 + n)
   bound count n true c = omega arith
   bound count n false true = omega arith

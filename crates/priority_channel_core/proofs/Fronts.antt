@@ -1,4 +1,4 @@
--- The loop of a bulk send, one pair more at a time.
+-- The loop of a bulk send, one more pair at a time.
 use Rattle.std.proofs.Common.{◌≡◌, ℕ, ◌+◌, ◌<◌, ◌≤◌, List, [], ◌∷◌, ◌++◌, length, refl, sym, ap, ◌∙◌, arith, append_assoc, length-append, Option, Some, Bool, true, false, IsTrue, ◌↔◌}
 use Rattle.std.specs.Iterator.Adapters.{peekable_steps}
 use Rattle.std.specs.declared.iter.Ahead.{Ahead}
@@ -15,13 +15,13 @@ no_items [] none = refl
 no_items (x ∷ list) none = absurd (none (omega arith))
 
 module _ {S X : Type 0} {steps : S → Option X → S → Type 0} where
-  -- a peek leaves the list
+  -- a peek leaves the list unchanged
   pub takes_peeked : {msgs left : Ahead S X} {front : List X} (peeked : Ahead S X) → Takes steps msgs front left
       → ((list : List X) → HasList steps left list → HasList steps peeked list) → Takes steps msgs front peeked
   takes_peeked peeked takes same =
       record { at = λ list has. let k = takes.at list has in (k.0, k.1, same k.0 k.2) }
 
-  -- what the answer of a peek tells
+  -- what the answer of a peek means
   pub more_left : (msgs : Ahead S X) (answer : Bool)
       → ((list : List X) → HasList steps msgs list → (IsTrue answer ↔ (0 < length list))) → answer ≡ true → HasMore steps msgs
   more_left msgs answer tells e = record { at = λ list has. (tells list has).0 e }
@@ -56,7 +56,7 @@ module _ {S X : Type 0} (steps : S → Option X → S → Type 0) where
   sent_within is_refused room (Filled n) left stops = omega (arith, stops)
   sent_within is_refused room (Memory n) left stops = omega (arith, stops.0)
 
-  -- the same stop, where one refusal means another
+  -- the same stop, if one refusal implies another
   pub stops_for : (was is_refused : ℕ → Type 0) (room : ℕ) (stop : Stop) (left : Ahead S X)
       → (sent_before stop < room → was (sent_before stop) → is_refused (sent_before stop))
       → StopsFor steps was room stop left → StopsFor steps is_refused room stop left

@@ -1,4 +1,4 @@
--- That the calls of a run that are left may be made.
+-- The calls of a run that are left may be made.
 use Rattle.std.proofs.Common.{refl, List, ◌∷◌}
 use Rattle.priority_channel_core.specs.declared.calls.Call.{Call}
 use Rattle.priority_channel_core.specs.declared.calls.Call.TheVariants.{DropSender, DropReceiver}

@@ -35,7 +35,7 @@ use Rattle.priority_channel_core.specs.code.Calls.{SameReply, SamePoll, Performs
 use Rattle.priority_channel_core.proofs.Channels.{digits_shorter}
 use Rattle.priority_channel_core.proofs.Sends.{refuses_full}
 
--- to be listed for room, or to be refused that, is a poll of a send into a full channel
+-- a listing on the send side, or its refusal, is a poll of a send into a full channel
 pub lists_full : {T P W : Type 0} (cmp : P → P → Ordering) (is_clone : W → W → Type 0) (old new : State T P W) (pair : T × P) (given listed : Option ℕ) (waker : W)
     (poll : CorePoll (Result (Unit {0}) (SendFault (T × P))) (T × P)) → IsBlocked Room old → Ends is_clone Room given waker listed old new → IsGood new
     → send_answer (Err (Full pair)) listed ≡ Some poll → Step cmp is_clone old (call.PollSend pair.0 pair.1 given waker) (answer.PollSend poll) nobody new
@@ -51,7 +51,7 @@ lists_full cmp is_clone old new pair given listed waker poll blocked ends good i
   good = good;
 }
 
--- who is answered waits no more, and who waits was given a ticket
+-- a caller that is answered no longer waits, and a caller that waits has a ticket
 pub send_waits_under : {K : Type 0} (reply : Result (Unit {0}) (TrySendError K)) (listed : Option ℕ) (poll : CorePoll (Result (Unit {0}) (SendFault K)) K)
     → send_answer reply listed ≡ Some poll → listed ≡ waits_under poll
 send_waits_under (Ok done) None poll h = let e : poll ≡ Ready (Ok done) = cc in rw e refl
@@ -84,14 +84,14 @@ kept_callable can (Ok done) (Some ticket) poll h is = absurd (cc)
 kept_callable can (Err (Closed rest)) (Some ticket) poll h is = absurd (cc)
 kept_callable can (Err (Memory rest)) (Some ticket) poll h is = absurd (cc)
 
--- where nothing changes but that a ticket is given up, a poll ends without one
+-- if nothing changes except that a ticket is given up, a poll ends without a ticket
 pub ends_unlisted : {T P W : Type 0} (is_clone : W → W → Type 0) (side : Side) (given : Option ℕ) (waker : W) (mid new : State T P W)
     → new ≡ record mid { waiters = unlist given mid.waiters } → Ends is_clone side given waker None mid new
 ends_unlisted {T} {P} {W} is_clone side given waker mid new gone =
     let left = ap (λ (s : State T P W). s.waiters) gone in
     (left, gone ∙ sym (ap (λ (w : Waiters W). record mid { waiters = w }) left))
 
--- what was sent leaves no more to search
+-- a send does not make the search longer
 pub sent_searches_less : {T P W : Type 0} (old mid : State T P W) (front : List (T × P)) (handed : Handed W) → AddsFront old front handed mid
     → search_bound mid.waiters ≤ search_bound old.waiters
 sent_searches_less {T} {P} {W} old mid front handed adds =
@@ -113,7 +113,7 @@ received_searches_less cmp old mid (Err try_recv.Empty) handed received = let sa
 
 module _ {T P W : Type 0} (is_clone : W → W → Type 0) (old mid new : CountedState T P W) (given listed : Option ℕ) (waker : W) (front : List (T × P))
     (handed : Handed W) (adds : AddsFront old.state front handed mid.state) (ends : Ends is_clone Room given waker listed mid.state new.state) where
-  -- who waits changes nothing else
+  -- a caller that waits changes nothing else
   pub poll_costs : (n : ℕ) → ComparesAtMost (n * digits (length mid.state.pending)) 0 old mid → ComparesAtMost 0 (search_bound mid.state.waiters) mid new
       → ComparesAtMost (n * digits (length new.state.pending)) (search_bound old.state.waiters) old new
   poll_costs n tried waited =
@@ -148,7 +148,8 @@ module _ {T P M : Type 0} (holds : M → List (T × P) → Type 0) where
   same_answer (Err (Closed m)) told (Some ticket) poll same is = absurd (cc)
   same_answer (Err (Memory m)) told (Some ticket) poll same is = absurd (cc)
 
-  -- a try of a bulk send and then the end of its poll are a poll, whatever list the iterator has
+  -- a try of a bulk send and then the end of its poll are a poll, for every list that the iterator
+  -- has
   pub performs_poll : {W : Type 0} (is_clone : W → W → Type 0) (cmp : P → P → Ordering) (old mid new : State T P W) (handed : Handed W) (m : M) (given listed : Option ℕ) (waker : W)
       (reply : Result (Unit {0}) (TrySendError M)) (poll : CorePoll (Result (Unit {0}) (SendFault M)) M)
       → Performs holds cmp is_clone old (call.TrySendv m) (answer.TrySendv reply) handed mid
@@ -176,7 +177,7 @@ false_if : (b : Bool) → (b ≡ true → ⊥) → b ≡ false
 false_if true h = absurd (h refl)
 false_if false h = refl
 
--- who is listed for room waits at an open and full channel
+-- while a sender is listed, the channel is open and full
 pub listed_for_room : {T P W : Type 0} (s : State T P W) → IsGood s → (given : Option ℕ) → is_given_listed given s.waiters.room ≡ true → IsBlocked Room s
 listed_for_room s good given listed = (
   false_if s.is_closed (λ closed. nobody_listed given s.waiters.room (good.no_waiters_if_closed closed).0 listed),

@@ -1,4 +1,4 @@
--- Runs of the code's calls, one call more at a time.
+-- Runs of the code's calls, one more call at a time.
 use Rattle.std.proofs.Common.{◌≡◌, ℕ, ◌+◌, List, [], ◌∷◌, ◌++◌, map, drop, refl, sym, ap, ◌∙◌, append_assoc, drop-drop}
 use Rattle.std.specs.Prelude.{Bool, true, is_ok, OnOk, Ok, Err}
 use Rattle.std.specs.declared.result.Result.{Result}
@@ -25,7 +25,7 @@ module _ {T P W : Type 0} (cmp : P → P → Ordering) (is_clone : W → W → T
   Run-more old mid new (m ∷ run) made r s = (r.0, r.1, Run-more r.0 mid new run made r.2 s)
 
 module _ {T P W M : Type 0} (holds : M → List (T × P) → Type 0) (cmp : P → P → Ordering) (is_clone : W → W → Type 0) where
-  -- nothing was made yet
+  -- no call was made yet
   pub RunsFront-none : (old : State T P W) (calls : List (Call T P W M)) → RunsFront holds cmp is_clone old calls [] calls old
   RunsFront-none old calls = record { at = λ meant same. ([], meant, refl, tt, same, refl) }
 
@@ -54,11 +54,11 @@ module _ {T P W M : Type 0} (holds : M → List (T × P) → Type 0) (cmp : P �
             Run-more cmp is_clone old mid new run made r s.2,
           )
 
--- what holds of an `Ok` holds where `is_ok` answered true
+-- what holds for an `Ok` holds if `is_ok` returned true
 pub at_ok : {X E : Type 0} {P : Type 0} (r : Result X E) (b : Bool) → b ≡ is_ok r → b ≡ true → OnOk r P → P
 at_ok (Ok x) b e h p = p
 at_ok (Err x) b e h p = cc
 
--- what is behind the first item of a rest
+-- the part of a rest behind its first item
 pub drop-past : {A : Type 0} (n : ℕ) (items : List A) (first : A) (rest : List A) → first ∷ rest ≡ drop n items → rest ≡ drop (n + 1) items
 drop-past n items first rest is = ap (drop 1) is ∙ drop-drop 1 n items

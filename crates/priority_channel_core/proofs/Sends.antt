@@ -1,4 +1,4 @@
--- What the addition of a front of a list is, as a send of the list.
+-- Adding a prefix of a list, as a send of the list.
 use Rattle.std.proofs.Common.{◌≡◌, ◌+◌, ◌-◌, ◌<◌, ◌≤◌, ◌^◌, ◌⊎◌, false, List, [], ◌++◌, length, refl, sym, ◌∙◌, arith, inl, inr, length-append}
 use Rattle.std.specs.Prelude.{Result, Ok, Err}
 use Rattle.std.proofs.lemmas.Bool.Decides.{eqb_tells}
@@ -23,18 +23,18 @@ module _ {T P W : Type 0} where
         let all : pairs ≡ front = parts ∙ rw none (append-nil front) in
         rw all (some, within, (opened, adds))
 
-    -- memory or a number was refused to a further pair
+    -- memory or a number was refused for another pair
     pub sent_cut : length front < room old → 0 < length rest → (old.is_reserved ≡ false) ⊎ (old.accepted + length front ≡ 2 ^ 64 - 1)
         → Sends old pairs (Err (Memory rest)) handed new
     sent_cut within more why = (front, parts, within, more, (opened, adds), why)
 
-  -- nothing is added to what a channel has
+  -- nothing is added to the pairs of a channel
   pub adds_none : (s : State T P W) → AddsFront s [] nobody s
   adds_none s =
       let none : s.accepted + 0 ≡ s.accepted = omega arith in
       record { handed_is = refl; new_is = rw (append-nil s.pending, none) refl }
 
-  -- whatever a send replies, it added a front
+  -- whatever a send replies, it added a prefix
   pub sends_front : (old new : State T P W) (pairs : List (T × P)) (reply : Result (Unit {0}) (TrySendError (List (T × P)))) (handed : Handed W)
       → Sends old pairs reply handed new → (front : List (T × P)) × AddsFront old front handed new
   sends_front old new pairs (Ok done) handed sends = (pairs, sends.2.1)
@@ -42,7 +42,7 @@ module _ {T P W : Type 0} where
   sends_front old new pairs (Err (Full rest)) handed sends = (sends.0, sends.4.1)
   sends_front old new pairs (Err (Memory rest)) handed sends = (sends.0, sends.4.1)
 
-  -- a full open channel refuses a list as it is
+  -- a full open channel refuses a list without changes
   pub refuses_full : (s : State T P W) (pairs : List (T × P)) → room s ≡ 0 → s.is_closed ≡ false → Sends s pairs (Err (Full pairs)) nobody s
   refuses_full s pairs none opened = ([], refl, sym none, inl none, (opened, adds_none s))
 
@@ -52,7 +52,7 @@ module _ {T P W : Type 0} where
   refuses_first s pairs some more opened why =
       ([], refl, more, some, (opened, adds_none s), elim why [ inl unreserved ↦ inl unreserved | inr last ↦ inr (omega (arith, last)) ])
 
-  -- a channel stays good where there was room and were numbers for what is added
+  -- a channel stays good if there was room, and there were numbers, for what is added
   pub good_adds : (old new : State T P W) (front : List (T × P)) (handed : Handed W) → AddsFront old front handed new → IsGood old
       → old.is_closed ≡ false → length new.pending ≤ old.capacity → length new.pending < 2 ^ 63 → new.accepted < 2 ^ 64
       → HasOwnTickets new.waiters → IsGood new

@@ -1,4 +1,4 @@
--- What takings in a row are in the channel.
+-- What takings in a row do in the channel.
 use Rattle.std.proofs.Common.{◌≡◌, ℕ, ◌+◌, ◌<◌, ◌==◌, if◌then◌else◌, false, List, [], ◌∷◌, length, length-append, map, refl, sym, ap, subst, ◌∙◌, arith, Some}
 use Rattle.std.proofs.lemmas.Bool.Decides.{nat_tests}
 use Rattle.std.specs.declared.cmp.Ordering.{Ordering}
@@ -31,7 +31,7 @@ module _ {T P W : Type 0} (cmp : P → P → Ordering) (is_clone : W → W → T
       → HasOwnTickets mid.waiters → Step cmp is_clone old (call.TakeWhere (length one.before)) (answer.TakeWhere (Some pair)) handed mid
   taking old mid pair handed one frees good tickets = record { moves = (one, refl, frees); good = good_frees old mid handed frees pair one good tickets }
 
-  -- so many takings from a channel in which nobody waits for room
+  -- takings in a row from a channel without waiting senders
   takings : (old : State T P W) (pairs rest : List (T × P)) → TakesAll old.pending pairs rest → old.waiters.room ≡ [] → IsGood old
       → (taken : List (Placed T P)) × (map (λ one. one.pair) taken ≡ pairs) × Run cmp is_clone old (in_turn takes taken nobody) (record old { pending = rest })
       × IsGood (record old { pending = rest })
@@ -48,7 +48,7 @@ module _ {T P W : Type 0} (cmp : P → P → Ordering) (is_clone : W → W → T
       let rest_of = takings mid more rest h.2 nobody_waits step.good in
       (record { place = length h.1.before; pair = pair } ∷ rest_of.0, ap (λ (l : List (T × P)). pair ∷ l) {x = map (λ one. one.pair) rest_of.0} rest_of.1, (mid, step, rest_of.2), rest_of.3)
 
-  -- all who wait for room are handed out with the first
+  -- all waiting senders are woken by the first taking
   pub takes_in_turn : (old new : State T P W) (pairs : List (T × P)) (n : ℕ) (handed : Handed W) → n ≡ length pairs → TakesAll old.pending pairs new.pending
       → handed ≡ (if n == 0 then nobody else record { room = old.waiters.room; message = [] })
       → new ≡ record old { pending = new.pending; waiters = record old.waiters { room = if n == 0 then old.waiters.room else [] } }

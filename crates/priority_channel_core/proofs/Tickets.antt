@@ -1,5 +1,5 @@
--- Listing a party and taking a ticket off keep each ticket one of the word's own, in one list
--- alone.
+-- If a waiter is listed or a ticket is taken off, each ticket remains one of the word's own, and in
+-- one list only.
 use Rattle.std.proofs.Common.{◌≡◌, ℕ, ◌+◌, ◌<◌, ◌≤◌, ◌≢◌, true, false, not, List, [], ◌∷◌, ◌++◌, get_or, map, refl, sym, subst, arith, inl, inr}
 use Rattle.std.specs.Prelude.{◌==◌, if◌then◌else◌, Option, Some, None, IfSome, IfNone}
 use Rattle.std.specs.List.{All}
@@ -23,7 +23,7 @@ module _ {W : Type 0} where
   unlisted-without xs t u none =
       list_any_none (λ a. a.0 == t) (without u xs) (All-filter (λ a. not (a.0 == u)) (λ a. (a.0 == t) ≡ false) xs (all_from_unlisted xs t none))
 
-  -- what a list, and the next ticket, may become
+  -- how a list and the next ticket may change
   pub record Follows (xs ys : List (ℕ × W)) (n m : ℕ) : Type 0 where
     pub rises : IsRising ys
     pub below : All (λ a. a.0 < m) ys
@@ -65,7 +65,7 @@ module _ {W : Type 0} where
         | false ↦ follows-fresh xs w n rises below
       ]
 
-  -- what two lists and the next ticket become, if each ticket stays one of their own
+  -- how two lists and the next ticket may change, if each ticket remains one of their own
   abbrev pub Own : List (ℕ × W) → List (ℕ × W) → ℕ → Type 0
   Own rs ms n = HasOwnTickets (record { room = rs; message = ms; next_ticket = n })
 
@@ -103,7 +103,7 @@ module _ {W : Type 0} where
   pub own-message : (rs ms ns : List (ℕ × W)) (n m : ℕ) → Own rs ms n → Follows ms ns n m → Own rs ns m
   own-message rs ms ns n m own f = own-swapped ns rs m (own-room ms ns rs n m (own-swapped rs ms n own) f)
 
-  -- what `listen_beside` promises of the list where a party is listed, and of the others
+  -- what `listen_beside` promises of the list in which a waiter is listed, and of the other list
   pub own-listed : (is_clone : W → W → Type 0) (rs ss ms ns : List (ℕ × W)) (given r : Option ℕ) (waker : W) (n m : ℕ) → Own rs ms n
       → IfSome r (λ u. IsListing is_clone given waker rs n (record { ticket = u; waiters = ss; next_ticket = m }) × (ns ≡ ms))
       → IfNone r ((ss ≡ without_given given rs) × (ns ≡ without_given given ms) × (m ≡ n)) → Own ss ns m

@@ -14,7 +14,7 @@ use Rattle.std.specs.Ordering.{MatchOrdering, nat_cmp}
 use Rattle.std.specs.Cmp.{ranks}
 use Rattle.priority_channel_core.specs.Waiting.{IsRising, is_listed, without, with_waker, listing}
 
--- what a comparison of two numbers tells
+-- the meaning of a comparison of two numbers
 pub ranked : (o : Ordering) (x y : ℕ) → o ≡ nat_cmp x y → MatchOrdering o (x < y) (x ≡ y) (y < x)
 ranked o x y e = rw e (ranks x y)
 
@@ -34,7 +34,7 @@ module _ {W : Type 0} where
         | inr l ↦ let e : i ≡ k = omega arith in let P : ℕ → Type 0 = λ j. t < (get_or xs j d).0 in subst P e (here d)
       ]
 
-  -- a ticket that lies between two neighbours
+  -- a ticket that is between two neighbours
   pub absent_between : (xs : List (ℕ × W)) (t low high : ℕ) → high ≤ low → AllWithin (λ a. a.0 < t) xs 0 low → AllWithin (λ a. t < a.0) xs high (length xs) → is_listed t xs ≡ false
   absent_between xs t low high le below above =
       list_any_none (λ a. a.0 == t) xs (λ k d lt. ne_eqb _ t (λ e.
@@ -51,7 +51,7 @@ module _ {W : Type 0} where
         | inr l ↦ let r = rising i k d (omega arith) lk in omega arith
       ])
 
-  -- a write at the ticket's position
+  -- a write at the position of the ticket
   pub set_rising : (xs : List (ℕ × W)) (t i : ℕ) (w : W) → IsRising xs → i < length xs → HoldsAt (λ a. a.0 ≡ t) xs i → set xs i (t, w) ≡ with_waker t w xs
   set_rising xs t i w rising lt here =
       let f : ℕ × W → ℕ × W = λ a. if a.0 == t then (t, w) else a in
@@ -68,7 +68,7 @@ module _ {W : Type 0} where
         ]
       ])
 
-  -- no ticket changes where a waker does
+  -- no ticket changes if a waker does
   pub same_ticket : (t : ℕ) (w : W) (a : ℕ × W) → (if a.0 == t then (t, w) else a).0 ≡ a.0
   same_ticket t w a = elim (eqb_tells a.0 t) [ inl h ↦ let e = h.0 in rw e (sym h.1) | inr h ↦ let e = h.0 in rw e refl ]
 
@@ -82,7 +82,7 @@ module _ {W : Type 0} where
   tail_rising : (x : ℕ × W) (xs : List (ℕ × W)) → IsRising (x ∷ xs) → IsRising xs
   tail_rising x xs rising = λ i j d l m. rising (suc i) (suc j) d (omega arith) (omega arith)
 
-  -- the ticket's position closed up
+  -- the list after the position of the ticket was removed
   pub remove_rising : (xs : List (ℕ × W)) (t i : ℕ) → IsRising xs → i < length xs → HoldsAt (λ a. a.0 ≡ t) xs i → remove xs i ≡ without t xs
   remove_rising [] t i rising lt here = absurd (omega arith)
   remove_rising (x ∷ xs) t zero rising lt here =
@@ -118,7 +118,7 @@ module _ {W : Type 0} where
   pub rising-without : (xs : List (ℕ × W)) (t : ℕ) → IsRising xs → IsRising (without t xs)
   rising-without xs t rising = AllPairs-filter (λ a b. a.0 < b.0) (λ a. not (a.0 == t)) xs rising
 
-  -- those behind the first rise as before
+  -- the tickets behind the first rise as before
   pub rising-behind : (first : Option (ℕ × W)) (others : List (ℕ × W)) → IsRising (option_to_list first ++ others) → IsRising others
   rising-behind None others rising = rising
   rising-behind (Some first) others rising = λ i j d before within. rising (suc i) (suc j) d (omega arith) (omega arith)

@@ -1,8 +1,8 @@
--- Lists of waiting parties: tickets in rising order, each with the waker kept under it.
+-- Lists of waiters: tickets in rising order, each with its waker.
 use Rattle.std.specs.Prelude.{◌≡◌, false, ℕ, ◌+◌, ◌<◌, Bool, not, ◌==◌, if◌then◌else◌, List, [], ◌∷◌, ◌++◌, map, Option, Some, None}
 use Rattle.std.specs.List.{AllPairs, filter, list_any}
 
--- a party's ticket, with the list and the next ticket once the party is listed
+-- the ticket of a waiter, with the list and the next ticket after the waiter was listed
 pub record Listing (W : Type 0) : Type 0 where
   pub ticket : ℕ
   pub waiters : List (ℕ × W)
@@ -16,21 +16,21 @@ module _ {W : Type 0} where
   abbrev pub is_listed : ℕ → List (ℕ × W) → Bool
   is_listed ticket waiters = list_any (λ a. a.0 == ticket) waiters
 
-  -- whether there is a given ticket and it stands in the list
+  -- whether there is a given ticket and it is in the list
   abbrev pub is_given_listed : Option ℕ → List (ℕ × W) → Bool
   is_given_listed None waiters = false
   is_given_listed (Some ticket) waiters = is_listed ticket waiters
 
-  -- the list once this ticket has left it
+  -- the list without this ticket
   abbrev pub without : ℕ → List (ℕ × W) → List (ℕ × W)
   without ticket waiters = filter (λ a. not (a.0 == ticket)) waiters
 
-  -- the list once the given ticket, if there is one, has left it
+  -- the list without the given ticket, if there is one
   abbrev pub without_given : Option ℕ → List (ℕ × W) → List (ℕ × W)
   without_given None waiters = waiters
   without_given (Some ticket) waiters = without ticket waiters
 
-  -- the list with this waker in place of the one that was kept under the ticket
+  -- the list with this waker in place of the waker under the ticket
   abbrev pub with_waker : ℕ → W → List (ℕ × W) → List (ℕ × W)
   with_waker ticket waker waiters = map (λ a. if a.0 == ticket then (ticket, waker) else a) waiters
 
@@ -38,8 +38,7 @@ module _ {W : Type 0} where
   fresh waker waiters next =
       record { ticket = next; waiters = waiters ++ (next, waker) ∷ []; next_ticket = next + 1 }
 
-  -- a party is listed under its own ticket where that stands in the list, and else under the next
-  -- one
+  -- a waiter is listed under its own ticket if that is in the list, otherwise under the next one
   abbrev pub listing : Option ℕ → W → List (ℕ × W) → ℕ → Listing W
   listing None waker waiters next = fresh waker waiters next
   listing (Some ticket) waker waiters next =
@@ -47,7 +46,7 @@ module _ {W : Type 0} where
       then record { ticket = ticket; waiters = with_waker ticket waker waiters; next_ticket = next }
       else fresh waker waiters next
 
-  -- so a party is listed, with a clone of its waker
+  -- a waiter is listed in this way, with a clone of its waker
   abbrev pub IsListing : (W → W → Type 0) → Option ℕ → W → List (ℕ × W) → ℕ → Listing W → Type 0
   IsListing is_clone given waker waiters next listed =
       (kept : W) × is_clone waker kept × (listing given kept waiters next ≡ listed)

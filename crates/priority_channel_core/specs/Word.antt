@@ -1,4 +1,4 @@
--- The word of a channel: how many pairs are pending, whether it is closed, and who waits.
+-- The word of a channel: the number of pending pairs, whether it is closed, and the waiters.
 use Rattle.std.specs.Prelude.{ℕ, ◌%◌, ◌^◌, Bool, List, [], nat_le}
 use Rattle.priority_channel_core.specs.Waiters.{Waiters}
 
@@ -7,12 +7,13 @@ pub record Word (W : Type 0) : Type 0 where
   pub count : ℕ
   pub waiters : Waiters W
 
--- a word, and how many comparisons of two ticket numbers it has made
+-- a word, and how many comparisons of two tickets it has made
 pub record CountedWord (W : Type 0) : Type 0 where
   pub word : Word W
   pub comparisons : ℕ
 
--- whom a step hands out: those who waited for room, and those who waited for a message
+-- the waiters that a step wakes, that is, takes off the lists for the caller to wake: the waiting
+-- senders (`room`) and the waiting receivers (`message`)
 pub record Handed (W : Type 0) : Type 0 where
   pub room : List (ℕ × W)
   pub message : List (ℕ × W)

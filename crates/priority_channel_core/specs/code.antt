@@ -1,4 +1,4 @@
--- What the contracts of the code's calls cite beside the machine.
+-- Definitions beside the machine that the contracts of the code's calls cite.
 pub mod Channel
 pub mod Room
 pub mod Replies

@@ -1,4 +1,4 @@
--- The machine, in the order in which it is best read.
+-- The machine, in the best order to read it.
 pub mod State
 pub mod Good
 pub mod Sends

@@ -1,7 +1,8 @@
-//! A count with a closed bit in one word, and the parties that wait for the count to change.
+//! A count and a closed bit in one word, and the senders and receivers that wait for the count to
+//! change.
 //!
-//! The small calls of the hot path are inlined by force: their answers would go through memory, and
-//! be read back at once.
+//! The small calls of the hot path are forced inline. Otherwise their results would be written to
+//! memory and read back at once.
 ghost use Rattle.std.specs.Prelude.{◌≡◌, ◌+◌, ◌-◌, ◌<◌, ◌≤◌, ◌^◌, ◌==◌, if◌then◌else◌, [], IsSome, true, false, Some};
 ghost use Rattle.priority_channel_core.specs.Word.{nobody};
 ghost use Rattle.priority_channel_core.specs.Waiting.{is_given_listed};
@@ -16,8 +17,8 @@ use std::marker::Model;
 
 const CLOSED_BIT: u64 = 1 << 63;
 
-/// Whom a step hands out: those who waited for room, and those who waited for a message. It must be
-/// spent, by `into_lists`.
+/// The waiters that a step takes off the lists, for the caller to wake: the waiting senders
+/// (`room`) and the waiting receivers (`message`). It must be consumed, by `into_lists`.
 pub struct Wakes<W, A: Allocator = Global> {
     room: Vec<(u64, W), A>,
     message: Vec<(u64, W), A>,
@@ -32,7 +33,7 @@ impl<W, A: Allocator> Model for Wakes<W, A> {
 }
 
 impl<W, A: Allocator> Wakes<W, A> {
-    /// First those who waited for room, then those who waited for a message, each under its ticket.
+    /// First the waiting senders, then the waiting receivers, each under its ticket.
     #[inline(always)]
     pub fn into_lists(self) -> (Vec<(u64, W), A>, Vec<(u64, W), A>)
         ensures room { result.0.items ≡ self.room }
@@ -44,7 +45,7 @@ impl<W, A: Allocator> Wakes<W, A> {
 }
 
 impl<W, A: Allocator + Copy> Wakes<W, A> {
-    /// Nobody is handed out, which takes no memory.
+    /// No waiter to wake. It takes no memory.
     #[inline(always)]
     pub fn nobody(alloc: A) -> Self
         ensures { result ≡ nobody }
@@ -56,12 +57,12 @@ impl<W, A: Allocator + Copy> Wakes<W, A> {
     }
 }
 
-/// A count below 2^63 and a closed bit, in one word, and the parties that wait: for the count to
-/// fall, so that there is room, or to rise, so that there is a message. The name is the Rust
-/// crate's: here nothing is atomic, since a lock guards the channel.
+/// A count below 2^63 and a closed bit, in one word, with two lists of waiters: senders wait for
+/// the count to fall, so that there is room; receivers wait for it to rise, so that there is a
+/// message. The name is the Rust crate's. Nothing is atomic here, since a lock guards the channel.
 ///
-/// A waiting party is known by its ticket, a number that is given once. Whom a call hands out is
-/// moved out as whole lists, so no call that hands out takes memory.
+/// A waiter is known by its ticket, a number that is given once. A call that wakes waiters moves
+/// whole lists out, so it takes no memory.
 ///
 /// ```
 /// let mut length: AwaitableAtomicCounterAndBit<Waker> = AwaitableAtomicCounterAndBit::new(alloc, 5);
@@ -114,7 +115,7 @@ fn unpack(packed: u64) -> (bool, u64)
 }
 
 impl<W, A: Allocator + Copy> AwaitableAtomicCounterAndBit<W, A> {
-    /// An open word of this count, for which nobody waits. It takes no memory.
+    /// An open word with this count and no waiters. It takes no memory.
     pub fn new(alloc: A, value: u64) -> Self
         requires { value < 2 ^ 63 }
         ensures word { result.word ≡ record {
@@ -143,7 +144,7 @@ impl<W, A: Allocator + Copy> AwaitableAtomicCounterAndBit<W, A> {
         unpack(self.packed)
     }
 
-    /// Sets the bit, answers the bit before, and hands out everybody.
+    /// Sets the bit, returns the bit before, and takes off all waiters to be woken.
     pub fn set_bit(&mut self) -> (bool, Wakes<W, A>)
         ensures bit { result.0 ≡ self.old.word.is_closed }
         ensures handed { result.1 ≡ record {
@@ -164,8 +165,8 @@ impl<W, A: Allocator + Copy> AwaitableAtomicCounterAndBit<W, A> {
         (was_closed, Wakes { room, message })
     }
 
-    /// Adds to the count, and answers the bit and the count before. Where the count rises, those
-    /// who wait for a message are handed out.
+    /// Adds to the count, and returns the bit and the count before. If the count rises, the waiting
+    /// receivers are taken off to be woken.
     #[inline(always)]
     pub fn incr(&mut self, n: u64) -> ((bool, u64), Wakes<W, A>)
         requires { self.old.word.count + n < 2 ^ 63 }
@@ -193,8 +194,8 @@ impl<W, A: Allocator + Copy> AwaitableAtomicCounterAndBit<W, A> {
         (before, Wakes { room, message })
     }
 
-    /// Takes from the count, and answers the bit and the count before. Where the count falls, those
-    /// who wait for room are handed out.
+    /// Subtracts from the count, and returns the bit and the count before. If the count falls, the
+    /// waiting senders are taken off to be woken.
     #[inline(always)]
     pub fn decr(&mut self, n: u64) -> ((bool, u64), Wakes<W, A>)
         requires { n ≤ self.old.word.count }
@@ -222,7 +223,7 @@ impl<W, A: Allocator + Copy> AwaitableAtomicCounterAndBit<W, A> {
         (before, Wakes { room, message })
     }
 
-    /// The party of this ticket waits no more. An unknown ticket changes nothing.
+    /// Takes this ticket off the lists. An unknown ticket changes nothing.
     pub fn unlisten(&mut self, ticket: u64)
     where
         W: Drop,
@@ -238,9 +239,9 @@ impl<W, A: Allocator + Copy> AwaitableAtomicCounterAndBit<W, A> {
 }
 
 impl<W: Clone, A: Allocator + Copy> AwaitableAtomicCounterAndBit<W, A> {
-    /// Lists a party on a side, under its own ticket where that stands there, and else under the
-    /// next one. None where the clone of the waker or memory for its entry was refused, or where
-    /// the numbers ran out; it is then listed nowhere.
+    /// Lists a waiter on a side: under its own ticket if that is in the list of that side,
+    /// otherwise under the next one. None if the clone of the waker or memory for its entry was
+    /// refused, or if the numbers ran out. The waiter is then in no list.
     pub fn listen(&mut self, side: Side, ticket: Option<u64>, waker: &W) -> Option<u64>
         ensures enlists { Enlists W.is_clone side ticket waker.now result self.old.word.waiters
             self.new.word.waiters }

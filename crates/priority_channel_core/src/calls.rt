@@ -1,17 +1,17 @@
-//! The core's calls and their answers, as values.
+//! The calls of the core and their answers, as values.
 use crate::errors::{RecvFault, SendFault, TryRecvError, TrySendError};
 
-/// A call of the core. `M` is what holds the pairs of a bulk send: an iterator that can be peeked,
-/// or, in the definitions, a list.
+/// A call of the core. `M` is the type that holds the pairs of a bulk send: in the code an iterator
+/// that can be peeked, in the definitions a list.
 #[derive(Drop)]
 pub enum Call<T, P, W, M> {
     TrySend(T, P),
     TrySendv(M),
     TrySendEvicting(T, P),
     TryRecv,
-    /// What a `take_where` is in definitions and histories. A test is no value, so the call carries
-    /// which pair it takes: its place among those pending, in the order of their acceptance. `run`
-    /// does not make it.
+    /// A `take_where` in definitions and histories. A test is no value, so the call carries which
+    /// pair it takes: the pair's place among the pending pairs, in the order of their acceptance.
+    /// `run` does not make it.
     TakeWhere(u64),
     Close,
     IsClosed,
@@ -31,7 +31,7 @@ pub enum Call<T, P, W, M> {
     GiveUp(u64),
 }
 
-/// What a call of the same name answers.
+/// The answer to the call of the same name.
 #[derive(Debug, Drop, PartialEq)]
 pub enum Answer<T, P, M> {
     TrySend(Result<(), TrySendError<(T, P)>>),
@@ -57,7 +57,7 @@ pub enum Answer<T, P, M> {
     GiveUp,
 }
 
-/// What a poll answers: the outcome, or what the caller keeps for its next poll with the ticket
+/// The answer to a poll: the result, or what the caller keeps for its next poll, with the ticket
 /// under which it waits.
 #[derive(Debug, Drop, PartialEq)]
 pub enum CorePoll<A, K> {

@@ -1,13 +1,13 @@
-//! What a send and a receive that were refused answer.
+//! The errors of sends and receives.
 //!
-//! The error of a send holds what was to be sent. `{}` and `{:?}` print nothing of that, so its
-//! type need not print.
+//! The error of a send holds what was to be sent. `{}` and `{:?}` do not print it, so its type need
+//! not be printable.
 ghost use Rattle.std.specs.Prelude.{◌≡◌, ◌↔◌, IsTrue, Some, codes};
 
 use std::error::Error;
 use std::fmt;
 
-/// Why a pair, or the rest of a list of pairs, was not taken. It holds what was to be sent.
+/// Why a pair, or the rest of a list of pairs, was not accepted. It holds what was to be sent.
 ///
 /// ```
 /// let refusal = TrySendError::Full(("late", 3));
@@ -16,7 +16,7 @@ use std::fmt;
 /// ```
 #[derive(Clone, Copy, Drop, PartialEq, Eq)]
 pub enum TrySendError<T> {
-    /// As many are pending as the channel may hold.
+    /// As many messages are pending as the channel may hold.
     Full(T),
     /// The channel is closed.
     Closed(T),
@@ -27,7 +27,7 @@ pub enum TrySendError<T> {
 impl<T> TrySendError<T> {
     ghost use Rattle.priority_channel_core.specs.Errors.{rest_of};
 
-    /// What was to be sent.
+    /// Returns what was to be sent.
     pub fn into_inner(self) -> T
         ensures { result ≡ rest_of self }
     {
@@ -45,7 +45,7 @@ impl<T> TrySendError<T> {
         matches!(self, TrySendError::Full(_))
     }
 
-    /// Whether the channel was closed, so that it takes nothing any more.
+    /// Whether the channel was closed, so that it accepts nothing more.
     pub fn is_closed(&self) -> bool
         ensures { IsTrue result ↔ (self.now ≡ TrySendError.Closed (rest_of self.now)) }
     {
@@ -116,9 +116,9 @@ impl<T> From<SendFault<T>> for TrySendError<T> {
 /// Why there is no message.
 #[derive(Clone, Copy, Debug, Drop, PartialEq, Eq)]
 pub enum TryRecvError {
-    /// None is pending.
+    /// No message is pending.
     Empty,
-    /// None is pending, and the channel is closed, so none will come.
+    /// No message is pending, and the channel is closed, so none will come.
     Closed,
 }
 
@@ -163,14 +163,14 @@ impl From<RecvError> for TryRecvError {
     }
 }
 
-/// Why a batch brought nothing.
+/// Why a receive of many messages returned none.
 #[derive(Clone, Copy, Debug, Drop, PartialEq, Eq)]
 pub enum TryRecvManyError {
     /// No message is pending.
     Empty,
     /// No message is pending, and the channel is closed, so none will come.
     Closed,
-    /// There is no memory for what was to come.
+    /// Memory for the messages was refused.
     Memory,
 }
 
@@ -189,7 +189,7 @@ impl TryRecvManyError {
         matches!(self, TryRecvManyError::Closed)
     }
 
-    /// Whether there was no memory for what was to come.
+    /// Whether memory for the messages was refused.
     pub fn is_memory(&self) -> bool
         ensures { IsTrue result ↔ (self.now ≡ TryRecvManyError.Memory) }
     {
@@ -231,7 +231,7 @@ impl From<TryRecvError> for TryRecvManyError {
 pub struct SendError<T>(pub T);
 
 impl<T> SendError<T> {
-    /// What was to be sent.
+    /// Returns what was to be sent.
     pub fn into_inner(self) -> T
         ensures { result ≡ self.0 }
     {
@@ -276,14 +276,14 @@ impl Error for RecvError {}
 pub enum SendFault<T> {
     /// The channel is closed.
     Closed(SendError<T>),
-    /// There is no memory, for what was to be sent or for waiting.
+    /// Memory was refused, for what was to be sent or for waiting.
     Memory(T),
 }
 
 impl<T> SendFault<T> {
     ghost use Rattle.priority_channel_core.specs.Errors.{unsent};
 
-    /// What was not sent.
+    /// Returns what was not sent.
     pub fn into_inner(self) -> T
         ensures { result ≡ unsent self }
     {
@@ -292,14 +292,14 @@ impl<T> SendFault<T> {
         }
     }
 
-    /// Whether the channel was closed, so that it takes nothing any more.
+    /// Whether the channel was closed, so that it accepts nothing more.
     pub fn is_closed(&self) -> bool
         ensures { IsTrue result ↔ ((closed : SendError T) × (self.now ≡ SendFault.Closed closed)) }
     {
         matches!(self, SendFault::Closed(_))
     }
 
-    /// Whether there was no memory, for what was to be sent or for waiting.
+    /// Whether memory was refused, for what was to be sent or for waiting.
     pub fn is_memory(&self) -> bool
         ensures { IsTrue result ↔ (self.now ≡ SendFault.Memory (unsent self.now)) }
     {
@@ -350,7 +350,7 @@ impl<T> From<SendError<T>> for SendFault<T> {
 pub enum RecvFault {
     /// The channel is closed and empty.
     Closed(RecvError),
-    /// There is no memory, for waiting or for many messages.
+    /// Memory was refused, for waiting or for many messages.
     Memory,
 }
 
@@ -362,7 +362,7 @@ impl RecvFault {
         matches!(self, RecvFault::Closed(_))
     }
 
-    /// Whether there was no memory for waiting.
+    /// Whether memory was refused for waiting.
     pub fn is_memory(&self) -> bool
         ensures { IsTrue result ↔ (self.now ≡ RecvFault.Memory) }
     {

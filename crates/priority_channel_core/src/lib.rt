@@ -1,8 +1,8 @@
-//! The core of a priority channel: its state, and each of its calls as one step of a machine.
+//! The core of a priority channel: its state, and each of its calls as one step of a state machine.
 //!
-//! `channel::PriorityQueueChannel` is the channel, and `waiting` of `async_priority_channel` has
-//! what a future keeps between its polls on it. The definitions that the contracts cite stand in
-//! `specs/`; `docs/DEFINITIONS.md` says them in words.
+//! `channel::PriorityQueueChannel` is the channel. `waiting` of `async_priority_channel` has the
+//! states of futures between their polls. The definitions that the contracts cite are in `specs/`;
+//! `docs/DEFINITIONS.md` explains them in words.
 #![tactic(auto)]
 
 pub mod awaitable_atomics;

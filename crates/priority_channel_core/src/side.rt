@@ -1,9 +1,10 @@
-//! What a party waits for.
+//! The two sides of a channel.
 
-/// A channel's two sides: who would send waits for room, and who would receive for a message.
+/// The side on which a call waits: a send waits for room on the send side (`Room`), and a receive
+/// for a message on the receive side (`Message`).
 #[derive(Clone, Copy, Debug, PartialEq, Eq)]
 pub enum Side {
-    /// Room for a further pair.
+    /// Room for another pair.
     Room,
     /// A pending message.
     Message,

@@ -1,4 +1,4 @@
-//! The parties that wait for one thing.
+//! The list of the waiters on one side.
 ghost use Rattle.std.specs.Prelude.{◌≡◌, ℕ, ◌+◌, ◌<◌, ◌≤◌, false, IfSome, IsSome, true, IfNone, None, List, [], ◌++◌, length, option_to_list, ◌^◌};
 ghost use Rattle.std.specs.List.{All, HoldsAt};
 ghost use Rattle.priority_channel_bag.specs.Digits.{digits};
@@ -12,7 +12,7 @@ use std::alloc::{Allocator, Global};
 use std::cmp::Ordering;
 use std::marker::Model;
 
-/// The tickets that wait, each with the waker kept under it, in rising order.
+/// The waiting tickets, each with its waker, in rising order.
 #[derive(Drop)]
 pub struct WaitingList<W, A: Allocator = Global> {
     entries: Entries<W, A>,
@@ -38,7 +38,7 @@ impl<W, A: Allocator> WaitingList<W, A> {
         }
     }
 
-    /// Where the ticket stands, by halving.
+    /// The position of the ticket, by binary search.
     fn position_of(&self, ticket: u64, comparisons: &mut Comparisons) -> Option<usize>
         ensures found { IfSome result (λ i. (i < length self.now)
             × HoldsAt (λ a. a.0 ≡ ticket) self.now i) }
@@ -58,7 +58,7 @@ impl<W, A: Allocator> WaitingList<W, A> {
         None
     }
 
-    /// Takes the ticket off. An unknown ticket changes nothing.
+    /// Takes the ticket off the list. An unknown ticket changes nothing.
     pub fn remove(&mut self, ticket: u64, comparisons: &mut Comparisons)
     where
         W: Drop,
@@ -70,7 +70,7 @@ impl<W, A: Allocator> WaitingList<W, A> {
         }
     }
 
-    /// Takes the given ticket off, if there is one.
+    /// Takes the given ticket, if there is one, off the list.
     pub fn remove_given(&mut self, ticket: Option<u64>, comparisons: &mut Comparisons)
     where
         W: Drop,
@@ -82,7 +82,7 @@ impl<W, A: Allocator> WaitingList<W, A> {
         }
     }
 
-    /// Takes off the party with the least ticket, if there is one.
+    /// Takes off the waiter with the least ticket, if there is one.
     pub fn take_first(&mut self) -> Option<(u64, W)>
     where
         W: Drop,
@@ -92,7 +92,7 @@ impl<W, A: Allocator> WaitingList<W, A> {
         self.entries.take_first()
     }
 
-    /// Takes the whole list. Takes no memory.
+    /// Takes the whole list. It takes no memory.
     #[inline(always)]
     pub fn take(&mut self, alloc: A) -> Vec<(u64, W), A>
         ensures taken { result.items ≡ self.old }
@@ -103,7 +103,7 @@ impl<W, A: Allocator> WaitingList<W, A> {
 }
 
 impl<W: Clone, A: Allocator> WaitingList<W, A> {
-    /// Lists a party under its own ticket where that stands in the list, else under the next one.
+    /// Lists a waiter: under its own ticket if that is in the list, otherwise under the next one.
     pub fn listen(
         &mut self,
         ticket: Option<u64>,
@@ -132,7 +132,8 @@ impl<W: Clone, A: Allocator> WaitingList<W, A> {
         }
     }
 
-    /// Lists a party as `listen` does. Where that is refused, it leaves the list of the others too.
+    /// Lists a waiter as `listen` does. If that is refused, the waiter leaves the list of the other
+    /// side (`others`) too.
     pub fn listen_beside(
         &mut self,
         others: &mut WaitingList<W, A>,
@@ -163,7 +164,7 @@ impl<W: Clone, A: Allocator> WaitingList<W, A> {
         listed
     }
 
-    // Without memory for the new waker the ticket leaves the list.
+    // If memory for the new waker is refused, the ticket leaves the list.
     fn renew(&mut self, position: usize, ticket: u64, waker: &W) -> Option<u64>
         requires in_list { position < length self.old }
         requires here { HoldsAt (λ a. a.0 ≡ ticket) self.old position }

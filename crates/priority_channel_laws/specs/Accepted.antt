@@ -1,4 +1,4 @@
--- What calls accepted and received, read from the calls and their answers alone.
+-- What calls accepted and received, read only from the calls and their answers.
 use Rattle.std.specs.Prelude.{◌≡◌, ◌-◌, false, List, [], ◌∷◌, length, take, Some, Result, Ok, Err}
 use Rattle.std.specs.List.{AllPairs, flat_map}
 use Rattle.std.specs.Ordering.{is_gt}
@@ -50,8 +50,8 @@ received_by (answer.TryRecv (Ok pair)) = pair ∷ []
 received_by (answer.PollRecv (Ready (Ok pair))) = pair ∷ []
 received_by _ = []
 
--- the pair that made room for a more urgent one, and the one that a test took out: neither is
--- received
+-- the pair that made room for one of greater priority, and the pair that a test took out; neither
+-- is received
 abbrev pub displaced_by : {T P : Type 0} → Answers T P → List (T × P)
 displaced_by (answer.TrySendEvicting (Ok (Some pair))) = pair ∷ []
 displaced_by _ = []
@@ -60,7 +60,7 @@ abbrev pub taken_by : {T P : Type 0} → Answers T P → List (T × P)
 taken_by (answer.TakeWhere (Some pair)) = pair ∷ []
 taken_by _ = []
 
--- all pairs that a run accepted, and all that went each way, in order
+-- all pairs that a run accepted, and all pairs that went each way, in order
 abbrev pub accepted_in : {T P W : Type 0} → List (Operation T P W) → List (T × P)
 accepted_in run = flat_map (λ made. accepted_by made.call made.answer) run
 
@@ -73,6 +73,6 @@ displaced_in run = flat_map (λ made. displaced_by made.answer) run
 abbrev pub taken_in : {T P W : Type 0} → List (Operation T P W) → List (T × P)
 taken_in run = flat_map (λ made. taken_by made.answer) run
 
--- no pair has a greater priority than one before it
+-- no pair has a greater priority than a pair before it
 abbrev pub NeverRise : {T P : Type 0} → (P → P → Ordering) → List (T × P) → Type 0
 NeverRise cmp pairs = AllPairs (λ before later. is_gt (cmp later.1 before.1) ≡ false) pairs

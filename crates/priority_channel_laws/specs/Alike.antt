@@ -1,4 +1,4 @@
--- Runs that are the same but for which value the wakers' Clone gave.
+-- Runs that are the same, except for the values that the wakers' Clone gave.
 use Rattle.std.specs.Prelude.{◌≡◌, ℕ, ◌⊎◌, Bool, true, false, length, Err}
 use Rattle.std.specs.List.{AllZip}
 use Rattle.priority_channel_core.specs.declared.calls.Answer.TheVariants as answer
@@ -22,7 +22,7 @@ is_memory (answer.PollSendv (Ready (Err (send_fault.Memory rest)))) = true
 is_memory (answer.PollRecv (Ready (Err recv_fault.Memory))) = true
 is_memory _ = false
 
--- the same call, which accepted as many pairs and answered Memory or not alike
+-- the same call, which accepted as many pairs in both, and answered Memory in both or in neither
 pub record IsAlike {T P W : Type 0} (one other : Operation T P W) : Type 0 where
   pub same_call : other.call ≡ one.call
   pub as_many : length (accepted_by other.call other.answer)
@@ -44,12 +44,12 @@ module _ {W : Type 0} (is_clone : W → W → Type 0) where
     pub message : AllZip SameWaiter one.message other.message
     pub next_ticket : other.next_ticket ≡ one.next_ticket
 
-  -- the same parties wait, and all else is the same
+  -- the same waiters, and all else is the same
   pub record SameState {T P : Type 0} (one other : State T P W) : Type 0 where
     pub waiters : SameWaiters one.waiters other.waiters
     pub others : other ≡ record one { waiters = other.waiters }
 
-  -- the same answer, and the same parties handed out
+  -- the same answer, and the same waiters woken
   pub record SameOutcome {T P : Type 0} (one other : Operation T P W) : Type 0 where
     pub answer : other.answer ≡ one.answer
     pub handed : SameHanded one.handed other.handed

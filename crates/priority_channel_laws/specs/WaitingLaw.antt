@@ -10,25 +10,24 @@ use Rattle.priority_channel_laws.specs.World.{World}
 use Rattle.priority_channel_waiting.specs.Future.Task.{Send, Sendv, Recv}
 use Rattle.priority_channel_waiting.specs.Future.Standing.{New, Waiting, Called, Done}
 
--- the waker kept under a ticket
+-- the waker under a ticket
 abbrev pub waker_of : {W : Type 0} → ℕ → List (ℕ × W) → Option W
 waker_of ticket [] = None
 waker_of ticket (a ∷ waiters) = if a.0 == ticket then Some a.1 else waker_of ticket waiters
 
--- sends wait for room, receives wait for a message
+-- sends wait on the send side (`Room`), receives on the receive side (`Message`)
 abbrev pub side_of : {T P : Type 0} → Tasks T P → Side
 side_of (Send msg priority) = Room
 side_of (Sendv pairs) = Room
 side_of Recv = Message
 
--- a send can go on where the channel is closed or not full, and a receive where it is closed or not
--- empty
+-- a send can go on if the channel is closed or not full, and a receive if it is closed or not empty
 abbrev pub CanGoOn : {T P W : Type 0} → State T P W → Side → Type 0
 CanGoOn s Room = (s.is_closed ≡ true) ⊎ (length s.pending ≢ s.capacity)
 CanGoOn s Message = (s.is_closed ≡ true) ⊎ (s.pending ≢ [])
 
 module _ {T P W : Type 0} (is_clone : W → W → Type 0) where
-  -- a future that waits under this ticket, on this side, whose waker has `kept` as a clone
+  -- a future that waits under this ticket, on this side; `kept` is a clone of its waker
   pub record HasWaiting (futures : List (Futures T P W)) (side : Side) (ticket : ℕ)
       (kept : W) : Type 0 where
     pub which : ℕ
@@ -53,7 +52,7 @@ module _ {T P W : Type 0} (is_clone : W → W → Type 0) where
     pub waiting_cannot_go_on : (which : ℕ) (future : Futures T P W) (ticket : ℕ) (waker : W)
         → slice_get world.futures which ≡ Some future → future.standing ≡ Waiting ticket waker
         → CanGoOn world.state (side_of future.task) → ⊥
-    -- a future that was polled, has not answered and can go on has been called since
+    -- a future that was polled, has not answered and can go on was woken since (`Called`)
     pub called_if_can_go_on : (which : ℕ) (future : Futures T P W)
         → slice_get world.futures which ≡ Some future → future.standing ≢ New
         → future.standing ≢ Done
@@ -69,8 +68,8 @@ module _ {T P W : Type 0} (is_clone : W → W → Type 0) where
         → ticket_of one.standing ≡ Some ticket → ticket_of other.standing ≡ Some ticket
         → first ≡ second
 
--- a ticket that had been given by then, and is held now, was held by the same future then: no
--- number is given twice
+-- a ticket that was given by then, and that a future has now, was that future's then: no number is
+-- given twice
 abbrev pub GivenOnce : {T P W : Type 0} → World T P W → World T P W → Type 0
 GivenOnce {T} {P} {W} past now =
     (which : ℕ) (future : Futures T P W) (ticket : ℕ)
@@ -79,8 +78,8 @@ GivenOnce {T} {P} {W} past now =
     → (earlier : Futures T P W) × (slice_get past.futures which ≡ Some earlier)
     × (ticket_of earlier.standing ≡ Some ticket)
 
--- a future is called by an event that hands out its ticket, with a clone of the waker of its last
--- poll
+-- a future that an event wakes (`Called`) has its ticket among the tickets that the event wakes,
+-- with a clone of the waker of its last poll
 abbrev pub CalledBy : {T P W : Type 0} → (W → W → Type 0) → World T P W → Handed W → World T P W
     → Type 0
 CalledBy {T} {P} {W} is_clone old handed new =

@@ -1,4 +1,4 @@
--- Worlds: a channel with the futures that use it, and what may happen to them.
+-- Worlds: a channel with the futures that use it, and the events that may happen to them.
 use Rattle.std.specs.Prelude.{◌≡◌, ℕ, ◌||◌, Bool, if◌then◌else◌, List, [], ◌∷◌, map, slice_get, slice_set, Option, Some, None, ⊤}
 use Rattle.std.specs.List.{All}
 use Rattle.std.specs.declared.cmp.Ordering.{Ordering}
@@ -29,7 +29,7 @@ IsDirect (call.PollRecv given waker) = ⊥
 IsDirect (call.GiveUp ticket) = ⊥
 IsDirect _ = ⊤
 
--- a waiting future is called when its ticket is handed out
+-- a waiting future is woken (`Called`) when its ticket is in the woken lists
 abbrev pub is_handed : {W : Type 0} → ℕ → Handed W → Bool
 is_handed ticket handed = is_listed ticket handed.room || is_listed ticket handed.message
 
@@ -46,7 +46,7 @@ call_out handed futures =
     futures
 
 module _ {T P W : Type 0} (cmp : P → P → Ordering) (is_clone : W → W → Type 0) where
-  -- a poll, with the future's own ticket. The waiting futures are called before the polled one gets
+  -- a poll, with the future's own ticket; the waiting futures are woken before the polled one gets
   -- its new standing
   abbrev pub PollsFuture : World T P W → ℕ → W → Tasks T P → Standing W → Handed W → World T P W
       → Type 0
@@ -57,7 +57,7 @@ module _ {T P W : Type 0} (cmp : P → P → Ordering) (is_clone : W → W → T
       × (new.futures
       ≡ slice_set (call_out handed old.futures) which (future_after task waker reply))
 
-  -- an event, those whom it hands out, and the world after it
+  -- an event, the waiters that it wakes, and the world after it
   abbrev pub Happens : World T P W → Event T P W → Handed W → World T P W → Type 0
   Happens old (Makes made) handed new =
       IsDirect made
@@ -71,7 +71,7 @@ module _ {T P W : Type 0} (cmp : P → P → Ordering) (is_clone : W → W → T
       × GivesUpTicket cmp is_clone old.state (ticket_of future.standing) new.state
       × (new.futures ≡ slice_set old.futures which (record { task = future.task; standing = Done }))
 
-  -- events in turn, whomever they hand out
+  -- events one after another, whichever waiters they wake
   abbrev pub Leads : World T P W → List (Event T P W) → World T P W → Type 0
   Leads old [] new = new ≡ old
   Leads old (event ∷ more) new =

@@ -1,4 +1,4 @@
-//! What follows from the definitions alone.
+//! Consequences of the definitions alone.
 ghost use Rattle.std.specs.Prelude.{◌≡◌, ◌+◌, ◌≤◌, true, List, [], ◌∷◌, ◌++◌, length, map, replicate, Ok, Err};
 ghost use Rattle.std.specs.List.{AllZip};
 ghost use Rattle.std.specs.List.Sorted.{IsPermutation};
@@ -12,9 +12,9 @@ ghost use Rattle.priority_channel_laws.specs.Accepted.{accepted_in, received_in,
 ghost use Rattle.priority_channel_laws.specs.World.{World, Event, Happens, IsOpening, Leads};
 ghost use Rattle.priority_channel_laws.specs.WaitingLaw.{NobodyIsForgotten, GivenOnce, CalledBy};
 
-/// No pair is lost, made up or given twice: each that was pending or accepted is received,
-/// displaced by a more urgent one, taken out by a test, or still pending. A closed channel stays
-/// closed and accepts nothing.
+/// No pair is lost, made up or given twice: each pair that was pending or accepted is received,
+/// displaced by one of greater priority, taken out by a test, or still pending. A closed channel
+/// stays closed and accepts nothing.
 pub fn conservation_law<T, P: Ord, W: Clone>()
     ensures conserved { (old new : State T P W) (run : List (Operation T P W))
         → Run P.cmp W.is_clone old run new
@@ -27,7 +27,7 @@ pub fn conservation_law<T, P: Ord, W: Clone>()
 
 /// Pairs come out in the order of their priorities.
 pub fn drain_law<T, P: Ord, W: Clone>()
-    // Between two accepted pairs the priorities of what is received never rise.
+    // Between two accepted pairs, the priorities of the received pairs never rise.
     ensures ordered { (old new : State T P W) (before between after : List (Operation T P W))
         → Run P.cmp W.is_clone old (before ++ between ++ after) new → accepted_in between ≡ []
         → NeverRise P.cmp (received_in between) }
@@ -40,8 +40,8 @@ pub fn drain_law<T, P: Ord, W: Clone>()
         ++ answer.TryRecv (Err recv_error.Closed) ∷ []) }
 {}
 
-/// Two runs over the same calls go alike, where each call accepts as many pairs and answers Memory
-/// or not alike.
+/// Two runs over the same calls have the same outcomes, if each call accepts as many pairs in both
+/// runs, and answers Memory in both or in neither.
 pub fn alike_law<T, P: Ord, W: Clone>()
     ensures { (old new other : State T P W) (run another : List (Operation T P W))
         → Run P.cmp W.is_clone old run new → Run P.cmp W.is_clone old another other
@@ -49,7 +49,7 @@ pub fn alike_law<T, P: Ord, W: Clone>()
         × SameState W.is_clone new other }
 {}
 
-/// Whatever happens, in any order, no future that waits could go on, and no ticket number is given
+/// Whatever happens, in any order, no waiting future can go on, and no ticket number is given
 /// twice.
 pub fn waiting_law<T, P: Ord, W: Clone>()
     ensures forgotten { (opening world : World T P W) (events : List (Event T P W))

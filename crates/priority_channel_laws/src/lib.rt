@@ -1,5 +1,5 @@
-//! What follows from the definitions of the core, of every run of it, and of all futures over it
-//! together. A caller has it in `async_priority_channel`.
+//! Consequences of the definitions of the core, for every run of it, and for all futures over it
+//! together. Callers get them from `async_priority_channel`.
 #![tactic(auto)]
 
 pub mod laws;

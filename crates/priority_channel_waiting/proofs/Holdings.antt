@@ -1,4 +1,4 @@
--- What is kept of a future that was polled.
+-- The state of a future after a poll.
 use Rattle.std.proofs.Common.{◌≡◌, ℕ, List, length, drop, refl, sym, subst}
 use Rattle.std.proofs.Math.Seq.{drop-append_seam}
 use Rattle.std.specs.Prelude.{Option, None, Some, IfSome, IfErr, Result, Ok, Err}
@@ -36,7 +36,7 @@ pub sendv_left : {T P W M : Type 0} (msgs : M) (waker : W) (reply : CorePoll (Re
 sendv_left msgs waker (Ready outcome) = record { task = refl; ticket = refl }
 sendv_left msgs waker (Pending kept ticket) = record { task = refl; ticket = refl }
 
--- what is handed back with a fault was kept by the core's poll
+-- what is given back with an error was kept by the core's poll
 pub unsent_kept : {M : Type 0} (Q : M → Type 0) (reply : CorePoll (Result (Unit {0}) (SendFault M)) M)
     → IfSome (kept_by reply) Q → IfSome (handed_back (told_by reply)) Q
 unsent_kept Q (Ready (Ok sent)) h = h
@@ -54,12 +54,12 @@ module _ {T P W M K R : Type 0} (Performs : State T P W → Call T P W M → Ans
   polls_kept holding left kept given waker old new handed reply told is tells leaves step k =
       rw is (record { reply = reply; tells = tells; step = step; leaves = rw leaves k })
 
--- a fact of whatever there is
+-- a fact of the value, if there is one
 pub if_some : {M : Type 0} (Q : M → Type 0) (held : Option M) → ((m : M) → held ≡ Some m → Q m) → IfSome held Q
 if_some Q None h = tt
 if_some Q (Some m) h = h m refl
 
--- what waits was kept by the core's poll
+-- what is left of a pending poll was kept by the core's poll
 pub left_kept : {M : Type 0} (Q : M → Type 0) (reply : CorePoll (Result (Unit {0}) (SendFault M)) M)
     → IfSome (kept_by reply) Q → IfSome (left_by reply).kept Q
 left_kept Q (Ready outcome) h = tt
@@ -79,7 +79,7 @@ tails old new handed (Err back) list h = rest_at old new handed back list h
 
 module _ {T P W M : Type 0} (holds : M → List (T × P) → Type 0) (cmp : P → P → Ordering) (is_clone : W → W → Type 0)
     (old new : State T P W) (handed : Handed W) (msgs : M) where
-  -- what comes back from a bulk send holds what comes back in the machine
+  -- what comes back from a bulk send of the code holds what comes back in the machine
   same_refused : (error : TrySendError M) (told : Result (Unit {0}) (TrySendError (List (T × P)))) → SameReply holds (Err error) told
       → (back : TrySendError (List (T × P))) × (told ≡ Err back) × holds (rest_of error) (rest_of back)
   same_refused (send_error.Closed m) told h = (send_error.Closed h.0, h.1, h.2)
@@ -107,7 +107,7 @@ module _ {T P W M : Type 0} (holds : M → List (T × P) → Type 0) (cmp : P �
     kept_is : (m held : M) → Some m ≡ Some held → (list : List (T × P)) → holds m list → holds held list
     kept_is m held is list h = let same : m ≡ held = cc in subst (λ x. holds x list) same h
 
-    -- the same of a poll
+    -- the same for a poll
     same_kept : (poll : CorePoll (Result (Unit {0}) (SendFault M)) M) (told : CorePoll (Result (Unit {0}) (SendFault (List (T × P)))) (List (T × P)))
         → SamePoll holds poll told → (held : M) → kept_by poll ≡ Some held
         → (rest : List (T × P)) × (kept_by told ≡ Some rest) × holds held rest

@@ -1,4 +1,4 @@
--- What comes back of an attempt is what the core hands back, and an error of the call holds it.
+-- What comes back from an attempt is what the core gives back, and the error of the call holds it.
 use Rattle.std.specs.Prelude.{◌≡◌, IfErr, IfSome, IsErrAnd, Result, Ok, Err}
 use Rattle.priority_channel_core.specs.declared.errors.TrySendError.{TrySendError}
 use Rattle.priority_channel_core.specs.declared.errors.TrySendError.TheVariants.{Full, Closed, Memory}
@@ -12,7 +12,7 @@ module _ {C : Type 0} (Q : C → Type 0) where
   left_of_try (Err (Closed rest)) h = h
   left_of_try (Err (Memory rest)) h = h
 
--- what an error holds is what came back of the call that it was made from
+-- the error holds what came back of the call that it was made from
 pub held_by_error : {C F X : Type 0} (Q : C → Type 0) (Tells : F → Type 0) (held : F → C) (back : C) (result : Result X F)
     → IsErrAnd result (λ error. Tells error × (held error ≡ back)) → Q back → IfErr result (λ error. Q (held error))
 held_by_error Q Tells held back (Ok done) h k = tt

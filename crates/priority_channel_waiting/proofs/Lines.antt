@@ -1,4 +1,4 @@
--- Those who stand behind the first.
+-- The threads behind the head.
 use Rattle.std.specs.Prelude.{◌++◌, List, Option, Some, None, option_to_list}
 use Rattle.std.specs.List.{All}
 use Rattle.std.proofs.lemmas.List.Elements.{All-tail}

@@ -1,4 +1,4 @@
--- Tries of what is kept of a future: where they answer they are polls, with whatever waker.
+-- Tries with the state of a future: a try that is answered is a poll, with any waker.
 use Rattle.std.proofs.Common.{◌≡◌, ◌≤◌, ◌*◌, ℕ, List, [], ◌∷◌, length, ap, refl, arith}
 use Rattle.std.specs.Prelude.{Option, None, Some, IfSome, IfErr, Result, Ok, Err}
 use Rattle.futures.specs.declared.task.Poll.{Poll}
@@ -34,14 +34,14 @@ use Rattle.priority_channel_waiting.specs.Holding.{Holding, done, told_at_once, 
 use Rattle.priority_channel_waiting.specs.Future.{GivesUpTicket}
 use Rattle.priority_channel_waiting.proofs.Holdings.{if_some}
 
--- who gave up a ticket, if there was one, is in neither list
+-- a ticket that was given up, if there was one, is in neither list
 pub given_up : {T P W : Type 0} (cmp : P → P → Ordering) (is_clone : W → W → Type 0) (mid new : State T P W) (given : Option ℕ) → IsGood mid
     → GivesUpTicket cmp is_clone mid given new → (new ≡ record mid { waiters = unlist given mid.waiters }) × IsGood new
 given_up cmp is_clone mid new None good same = (same, rw same good)
 given_up cmp is_clone mid new (Some ticket) good gave = (gave.moves.1, gave.good)
 
 module _ {T P W : Type 0} (cmp : P → P → Ordering) (is_clone : W → W → Type 0) (old mid new : State T P W) (handed : Handed W) where
-  -- a try that is answered, and then the ticket given up, are a poll with whatever waker
+  -- a try that is answered, followed by giving up the ticket, is a poll with any waker
   polled_at_once : {R A : Type 0} {tries : R → Handed W → State T P W → Type 0} {answer_by : R → Option ℕ → Option A} {answered : A} (side : Side)
       (given : Option ℕ) (reply : R) (waker : W) → tries reply handed mid → answer_by reply None ≡ Some answered
       → new ≡ record mid { waiters = unlist given mid.waiters } → Polls is_clone tries answer_by side given waker answered handed new
@@ -105,14 +105,14 @@ module _ {T P W : Type 0} (cmp : P → P → Ordering) (is_clone : W → W → T
   sent_at_once holding left tried told pair given is tells leaves step gave =
       rw (is, tells, leaves) (sent tried pair given step (rw tells at gave))
 
-  -- a try leaves no more to search
+  -- a try does not make the search longer
   pub tried_searches_less : (tried : Result (Unit {0}) (TrySendError (T × P))) (msg : T) (priority : P)
       → Step cmp is_clone old (call.TrySend msg priority) (answer.TrySend tried) handed mid → search_bound mid.waiters ≤ search_bound old.waiters
   tried_searches_less tried msg priority step =
       let front = sends_front old mid ((msg, priority) ∷ []) (as_list tried) handed step.moves in
       sent_searches_less old mid front.0 handed front.1
 
--- who gives up a ticket takes no pair
+-- giving up a ticket takes no pair
 pub pending_stays : {T P W R : Type 0} (cmp : P → P → Ordering) (is_clone : W → W → Type 0) (mid new : CountedState T P W) (told : Poll R) (given : Option ℕ)
     → IsGood mid.state → IfReady told (λ _. GivesUpTicket cmp is_clone mid.state given new.state) → OnPending told (new ≡ mid)
     → length new.state.pending ≡ length mid.state.pending
@@ -120,7 +120,7 @@ pending_stays {T} {P} {W} cmp is_clone mid new (poll.Ready r) given good gave wa
     ap (λ (s : State T P W). length s.pending) (given_up cmp is_clone mid.state new.state given good gave).0
 pending_stays {T} {P} {W} cmp is_clone mid new poll.Pending given good gave waits = ap (λ (s : CountedState T P W). length s.state.pending) waits
 
--- whatever its iterator, a try of a bulk send sends a front, and leaves a good state
+-- for every iterator, a try of a bulk send sends a prefix, and leaves a good state
 module _ {T P W R : Type 0} (cmp : P → P → Ordering) (is_clone : W → W → Type 0) (mid new : CountedState T P W) (given : Option ℕ) where
   answered_unlisted : (told : Poll R) → IsGood mid.state → IfReady told (λ _. GivesUpTicket cmp is_clone mid.state given new.state)
       → IfReady told (λ _. new.state ≡ record mid.state { waiters = unlist given mid.state.waiters })
@@ -149,7 +149,7 @@ module _ {T P W R : Type 0} (cmp : P → P → Ordering) (is_clone : W → W →
   tried_good (poll.Ready r) good gave waits = (given_up cmp is_clone mid.state new.state given good gave).1
   tried_good poll.Pending good gave waits = rw waits good
 
--- what a try hands back, and what it keeps, was not sent
+-- what a try gives back, and what it keeps, was not sent
 pub handed_back_at_once : {M : Type 0} (Q : M → Type 0) (tried : Result (Unit {0}) (TrySendError M)) → IfErr tried (λ error. Q (rest_of error))
     → IfSome (handed_back (told_at_once tried)) Q
 handed_back_at_once Q (Ok _) h = tt
@@ -214,7 +214,7 @@ module _ {T P W M : Type 0} (holds : M → List (T × P) → Type 0) (cmp : P �
   sentv_at_once holding left tried told msgs given is tells leaves good step gave =
       rw (is, tells, leaves) (sentv tried msgs given good step (rw tells at gave))
 
--- where it found no room, it was a try
+-- if it found no room, it was a try
 pub tried_in_vain : {T P W M : Type 0} (holds : M → List (T × P) → Type 0) (cmp : P → P → Ordering) (is_clone : W → W → Type 0) (old : State T P W)
     (mid new : CountedState T P W) (handed : Handed W) (tried : Result (Unit {0}) (TrySendError M)) (told : Poll (Result (Unit {0}) (SendFault M))) (msgs : M)
     → OnPending told (new ≡ mid) → Performs holds cmp is_clone old (call.TrySendv msgs) (answer.TrySendv tried) handed mid.state

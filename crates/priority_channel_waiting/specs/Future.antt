@@ -1,4 +1,4 @@
--- Futures: what each is still to do, and how far it has come.
+-- Futures: the task of each, and how far it has come.
 use Rattle.std.specs.Prelude.{◌≡◌, ℕ, List, Option, Some, None}
 use Rattle.std.specs.declared.cmp.Ordering.{Ordering}
 use Rattle.priority_channel_core.specs.declared.calls.Call.{Call}
@@ -9,7 +9,7 @@ use Rattle.priority_channel_core.specs.declared.calls.CorePoll.TheVariants.{Pend
 use Rattle.priority_channel_core.specs.machine.State.{State, nobody}
 use Rattle.priority_channel_core.specs.machine.Step.{Step}
 
--- what a future is still to do. `M` is what holds the pairs of a bulk send
+-- what a future is still to do; `M` is the type that holds the pairs of a bulk send
 pub data Task (T P M : Type 0) : Type 0 where
   Send : T → P → Task T P M
   Sendv : M → Task T P M
@@ -27,7 +27,7 @@ pub record Future (T P W M : Type 0) : Type 0 where
   pub task : Task T P M
   pub standing : Standing W
 
--- the machine's tasks and futures: a bulk send has a list
+-- the tasks and futures of the machine, where a bulk send has a list
 abbrev pub Tasks : (T P : Type 0) → Type 0
 Tasks T P = Task T P (List (T × P))
 
@@ -57,7 +57,7 @@ future_after task waker (answer.PollRecv (Pending kept ticket)) =
     record { task = Recv; standing = Waiting ticket waker }
 future_after task waker _ = record { task = task; standing = Done }
 
--- giving a future up gives up its ticket, if it has one
+-- a future that is given up gives up its ticket, if it has one
 module _ {T P W : Type 0} (cmp : P → P → Ordering) (is_clone : W → W → Type 0) where
   abbrev pub GivesUpTicket : State T P W → Option ℕ → State T P W → Type 0
   GivesUpTicket old None new = new ≡ old

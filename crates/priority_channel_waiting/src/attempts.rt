@@ -1,4 +1,5 @@
-//! What a party is to do on the core: at once, or once it has waited.
+//! Operations that can be tried again on the core: a receive, a send, a bulk send. Each is tried at
+//! once, or after a wait.
 ghost use Rattle.std.specs.Prelude.{◌≡◌, ⊤, IfSome, IfOk, IfErr, Some, refl};
 ghost use Rattle.std.proofs.Common.{◌∙◌};
 ghost use Rattle.std.specs.Iterator.Adapters.{peekable_can};
@@ -19,17 +20,17 @@ use priority_channel_core::side::Side;
 use std::alloc::Allocator;
 use std::iter::Peekable;
 
-/// What came of an attempt. What was not done comes back.
+/// The result of one attempt. If the call was not done, it comes back.
 pub enum Outcome<D, C> {
     Done(D),
-    /// There was no room, or no message.
+    /// There was no room (a send), or no message (a receive).
     Blocked(C),
     Closed(C),
     Memory(C),
 }
 
 impl<D, C> Outcome<D, C> {
-    /// The answer, where it is one; the call, where that is blocked.
+    /// The answer, if there is one; otherwise the blocked call.
     pub fn answer<O>(self) -> Result<Result<D, Ended<C, O>>, C>
         ensures answered { IfOk result (λ answer. IfErr answer (λ ended.
             left_over self ≡ Some (given_back ended))) }
@@ -44,21 +45,21 @@ impl<D, C> Outcome<D, C> {
     }
 }
 
-/// A call that can be attempted until it is done. It need not be `Drop`: whoever attempts it can
-/// lose nothing of it.
+/// A call that can be attempted until it is done. It need not be `Drop`: an attempt cannot lose any
+/// part of it.
 pub trait Attempt<T, P: Ord, A: Allocator + Copy>: Sized {
     type Done;
 
-    // Holds of what may be attempted.
+    // Holds for a call that may be attempted.
     ghost can_attempt: { Self → Type 0 } = { λ _. ⊤ };
 
-    // Holds of a call and of what may come back of it.
+    // Holds for a call and the rest of it that may come back.
     ghost leaves: { Self → Self → Type 0 };
 
-    /// What it waits for where it is blocked.
+    /// The side on which the call waits if it is blocked.
     fn side() -> Side;
 
-    /// The call, in one step.
+    /// Makes the call, in one step.
     fn try_on(self, core: &mut Core<T, P, A>) -> (Outcome<Self::Done, Self>, Wakes<Waiter<A>, A>)
         requires { can_attempt self }
         ensures { IfSome (left_over result.0) (λ rest. can_attempt rest × leaves self rest) };
@@ -104,7 +105,7 @@ impl<T, P: Ord, A: Allocator + Copy> Attempt<T, P, A> for Receive {
 }
 
 impl Receive {
-    /// Receives in one step, or waits under the ticket.
+    /// Receives in one step. If there is no message, waits under the ticket.
     pub fn poll_on<T, P: Ord, A: Allocator + Copy>(
         self,
         core: &mut Core<T, P, A>,
@@ -180,7 +181,7 @@ impl<T, P: Ord, A: Allocator + Copy> Attempt<T, P, A> for (T, P) {
     }
 }
 
-/// A send of many pairs, of which a front may have been sent and the rest comes back.
+/// A send of many pairs. A prefix may have been sent; the rest comes back.
 impl<T: Drop, P: Ord + Drop, A: Allocator + Copy, I: Iterator<Item = (T, P)>> Attempt<T, P, A>
     for Peekable<I> {
     type Done = ();

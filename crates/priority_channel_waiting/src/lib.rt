@@ -1,8 +1,8 @@
-//! How a party of a channel waits: what it attempts, what a future keeps between its polls, by which
-//! waiter it is woken, in which line its thread stands, and until when.
+//! How senders and receivers wait: what they attempt, the state of a future between its polls, the
+//! waiter that wakes a task or a thread, the queue of a waiting thread, and the time limit.
 //!
-//! `async_priority_channel` makes the calls of its handles of these, and gives callers the errors
-//! of `timeouts`. Nothing here takes a channel's lock.
+//! `async_priority_channel` builds the calls of its handles on these, and returns the errors of
+//! `timeouts` to its callers. Nothing here takes a channel's lock.
 #![tactic(auto)]
 
 pub mod attempts;

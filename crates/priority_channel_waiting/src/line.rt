@@ -1,10 +1,10 @@
-//! The threads that wait for one thing, in a line in the order in which they came. Only the first
-//! waits in the channel's own list, so that what comes wakes one thread, however many wait; and
-//! while a thread spins for it, none.
+//! The queue of the threads that wait on one side of a channel (`Line`), in the order in which they
+//! came. Only the head of the queue is in the channel's own waiting list. So a message or free room
+//! wakes one thread, however many wait. While a thread of that side spins, it wakes none.
 //!
-//! `Queued`, `Lead`, `Spinner` and `Listing` are no `Drop`, so none can be let go: who joins a line
-//! leaves it or leads it, who leads it makes the next one the first, and who spins says when that
-//! is over.
+//! `Queued`, `Lead`, `Spinner` and `Listing` are not `Drop`, so code cannot forget them. A thread
+//! that joins a queue must leave it or become its head (`Lead`). A head must promote the next
+//! thread. A thread that spins must report when it stops.
 ghost use Rattle.std.specs.Prelude.{◌≡◌, ◌≢◌, ◌↔◌, ℕ, ◌+◌, ◌-◌, ◌<◌, ◌∷◌, ◌++◌, [], option_to_list, IfOk, IfErr, IfNone, IfSome, IsSome, IsTrue, OnOk, OnErr, Some, None};
 ghost use Rattle.priority_channel_core.specs.Waiting.{without};
 ghost use Rattle.priority_channel_core.specs.Waiters.{unlist};
@@ -18,17 +18,17 @@ use priority_channel_core::waiting_list::WaitingList;
 use std::alloc::{AllocError, Allocator};
 use std::marker::Model;
 
-/// A line. It takes memory for the second party and those behind it.
+/// A queue of waiting threads. It takes memory for its second thread and those behind it.
 #[derive(Drop)]
 pub struct Line<A: Allocator> {
-    // The number of the first, and the waiter under which it sleeps.
+    // The number of the head, and the waiter under which it sleeps.
     first: Option<(u64, Waiter<A>)>,
-    // Under which the channel has listed the first.
+    // The ticket under which the channel has listed the head.
     ticket: Option<u64>,
-    // The others by their numbers, each asleep under its waiter.
+    // The other threads by their numbers. Each sleeps under its waiter.
     others: WaitingList<Waiter<A>, A>,
     next_number: u64,
-    // How many threads look again before they join.
+    // How many threads spin before they join.
     spinning: usize,
 }
 
@@ -47,29 +47,29 @@ impl<A: Allocator> Model for Line<A> {
       spinning = l.spinning;
     } };
 
-    // Nobody waits behind nobody, and the numbers behind the first were given.
+    // If there is no head, the queue is empty; all queued numbers are below `next_number`.
     ghost invariant = { λ l. (l.first ≡ None → l.others ≡ [])
         × All (λ other. other.0 < l.next_number) l.others };
 }
 
-/// A party in line.
+/// A thread in the queue.
 pub struct Queued {
     number: u64,
 }
 
-/// The part of the first.
+/// The head of the queue.
 pub struct Lead {
     number: u64,
 }
 
-/// A thread that looks again before it joins.
+/// A thread that spins before it joins.
 pub struct Spinner {
     seal: (),
 }
 
-/// What came of having the first listed.
+/// The result of having the head registered with the channel.
 pub enum Listing {
-    /// What it waits for wakes it.
+    /// The channel listed it, and will wake it when it can go on.
     Listed,
     /// It need not wait.
     Free,
@@ -96,7 +96,7 @@ impl<A: Allocator> Line<A> {
         }
     }
 
-    /// A further party, at the end of the line. The error is that memory was refused, or that the
+    /// Adds a thread at the end of the queue. The error is that memory was refused, or that the
     /// numbers ran out.
     pub fn join(&mut self, waiter: &Waiter<A>) -> Result<Queued, AllocError>
         ensures number { IfOk result (λ party. party.number ≡ self.old.next_number) }
@@ -135,7 +135,8 @@ impl<A: Allocator> Line<A> {
         }
     }
 
-    /// The lead, where the party is the first; else the party, which waits on.
+    /// The head (`Lead`), if the thread is the head of the queue. Otherwise the thread comes back,
+    /// and waits on.
     pub fn lead(&self, party: Queued) -> Result<Lead, Queued>
         ensures led { IfOk result (λ lead. IsFirst self.now party.number
             × (lead.number ≡ party.number)) }
@@ -149,7 +150,7 @@ impl<A: Allocator> Line<A> {
         Ok(Lead { number })
     }
 
-    /// Takes the party out of the line, unless it is the first by now.
+    /// Takes the thread out of the queue, unless it has become the head.
     pub fn leave(&mut self, party: Queued) -> Result<(), Queued>
         ensures left { OnOk result ((IsFirst self.old party.number → ⊥)
             × (self.new ≡ record self.old { others = without party.number self.old.others })) }
@@ -165,7 +166,7 @@ impl<A: Allocator> Line<A> {
         Ok(())
     }
 
-    /// The first leaves the line, and the next one is the first.
+    /// The head leaves the queue, and the next thread becomes the head.
     pub fn move_up(&mut self, lead: Lead)
         ensures next { self.old.others ≡ option_to_list self.new.first ++ self.new.others }
         ensures line { self.new ≡ record self.old {
@@ -179,7 +180,8 @@ impl<A: Allocator> Line<A> {
         self.first = self.others.take_first();
     }
 
-    /// The ticket under which the first may be listed, for who takes it off the channel's list.
+    /// Takes the ticket under which the head may be listed, for a caller that takes it off the
+    /// channel's list.
     pub fn take_ticket(&mut self) -> Option<u64>
         ensures ticket { result ≡ self.old.ticket }
         ensures line { self.new ≡ record self.old { ticket = None } }
@@ -187,7 +189,7 @@ impl<A: Allocator> Line<A> {
         self.ticket.take()
     }
 
-    /// A thread spins from now on.
+    /// Counts a thread that starts to spin.
     pub fn begin_spin(&mut self) -> Spinner
         ensures counted { 0 < self.new.spinning }
         ensures line { self.new ≡ record self.old { spinning = self.new.spinning } }
@@ -196,7 +198,7 @@ impl<A: Allocator> Line<A> {
         Spinner { seal: () }
     }
 
-    /// It spins no more.
+    /// The thread has stopped spinning.
     pub fn end_spin(&mut self, spinner: Spinner)
         ensures { self.new ≡ record self.old { spinning = self.old.spinning - 1 } }
     {
@@ -204,7 +206,8 @@ impl<A: Allocator> Line<A> {
         self.spinning = self.spinning.saturating_sub(1);
     }
 
-    /// Whether there is a first that the channel has not listed, and nobody spins.
+    /// Whether nothing would wake the head: there is a head, the channel has not listed it, and no
+    /// thread spins.
     pub fn is_unattended(&self) -> bool
         ensures { IsTrue result ↔ (IsSome self.now.first × (self.now.ticket ≡ None)
             × (self.now.spinning ≡ 0)) }
@@ -212,7 +215,7 @@ impl<A: Allocator> Line<A> {
         self.first.is_some() && self.ticket.is_none() && self.spinning == 0
     }
 
-    /// Wakes the first.
+    /// Wakes the head.
     pub fn wake_first(&self) {
         if let Some((_, waiter)) = &self.first {
             waiter.unpark();
@@ -221,8 +224,8 @@ impl<A: Allocator> Line<A> {
 }
 
 impl<A: Allocator + Copy> Line<A> {
-    /// Has the channel list the first, where that has to wait: under its ticket where that is
-    /// listed still.
+    /// Has the channel list the head, if the head has to wait. It is listed under its ticket, if
+    /// that is still in the list.
     pub fn list_first<T, P: Ord>(&mut self, side: Side, core: &mut Core<T, P, A>) -> Listing
         ensures sleeps { result ≡ Listing.Listed → IsSome self.old.first × IsSome self.new.ticket }
         ensures listed { result ≡ Listing.Listed → IfSome self.old.first (λ first.

@@ -1,24 +1,25 @@
-//! Whether a thread that has to wait looks again for a while before it sleeps.
+//! Whether a thread that has to wait spins, that is, tries again for a while, before it sleeps.
 //!
-//! What it waits for often comes sooner than a sleep and a wake would take. But where it does not,
-//! as on one processor, the looks are lost. So they are made as long as enough of them find
-//! something.
+//! What the thread waits for often comes sooner than a sleep and a wake would take. If it does not,
+//! as on one processor, the time of the spin is lost. So threads spin only as long as enough of the
+//! spins succeed.
 use std::sync::atomic::{AtomicI32, Ordering};
 
-// How many waits may spin in vain at most, before no more do.
+// How many spins may fail at most before threads stop spinning.
 const MOST: i32 = 16;
 
-// By how many more each one that finds something lets them.
+// How many more spins may fail after each one that succeeds.
 const GAIN: i32 = 2;
 
-// How many waits do not spin, then, before one tries whether that has changed.
+// How many waits then skip spinning, before one wait tries whether that has changed.
 const PAUSE: i32 = 128;
 
-/// How often spinning found something of late. Threads that change it at once may lose a change,
-/// which does no harm.
+/// How often spinning succeeded recently. If threads change it at the same time, a change may be
+/// lost, which does no harm.
 #[derive(Drop)]
 pub struct Spins {
-    // Above zero so many waits may spin in vain, and else so many more do not spin.
+    // If positive: how many more failed spins are allowed. If not: minus the number of waits that
+    // skip spinning.
     credit: AtomicI32,
 }
 
@@ -29,7 +30,7 @@ impl Spins {
         }
     }
 
-    /// Whether the next wait spins. One that does tells by `note` what came of it.
+    /// Whether the next wait spins. A wait that spins reports by `note` whether it succeeded.
     pub fn are_due(&self) -> bool {
         let credit = self.credit.load(Ordering::Relaxed);
         if credit > 0 {
@@ -40,7 +41,7 @@ impl Spins {
         false
     }
 
-    /// What came of a wait that spun.
+    /// Records whether a wait that spun found something.
     pub fn note(&self, found: bool) {
         let credit = self.credit.load(Ordering::Relaxed);
         let next = if found {

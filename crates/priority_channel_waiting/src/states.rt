@@ -1,5 +1,6 @@
-//! What a future keeps between its polls: a send its pair, a bulk send the pairs that were not sent
-//! yet, and each its ticket. A poll is made on the core, in one hold of what guards it.
+//! The states of futures between polls: a send has its pair, a bulk send the pairs that were not
+//! sent yet, and each future its ticket. A poll is made on the core, under one hold of the lock
+//! that guards it.
 ghost use Rattle.std.specs.Prelude.{◌≡◌, ◌↔◌, ◌*◌, List, [], length, false, IsTrue, IfSome, MatchOption, Some, None, is_some};
 ghost use Rattle.std.specs.Option.{ForSome};
 ghost use Rattle.std.specs.Iterator.Adapters.{peekable_can};
@@ -28,7 +29,7 @@ use std::alloc::Allocator;
 use std::iter::Peekable;
 use std::marker::Model;
 
-// What is still to be done, until it is done, and the ticket of the last poll.
+// What is still to be done (None once it is done), and the ticket of the last poll.
 #[derive(Drop)]
 struct Kept<K> {
     kept: Option<K>,
@@ -70,7 +71,7 @@ impl<K> Kept<K> {
 }
 
 impl<K: Drop> Kept<K> {
-    // Takes out what was kept, with the ticket; None where it was done.
+    // Takes out the remaining work and the ticket. None if it was done.
     fn take(&mut self) -> Option<(K, Option<u64>)>
         ensures taken { MatchOption result (self.old ≡ done) (λ taken.
             self.old ≡ record { kept = Some taken.0; ticket = taken.1 }) }
@@ -81,7 +82,7 @@ impl<K: Drop> Kept<K> {
         Some((kept, ticket))
     }
 
-    // Keeps what a poll handed back, and gives the outcome.
+    // Stores what a poll handed back, and returns the result of the poll.
     fn keep<R>(&mut self, answer: CorePoll<R, K>) -> Poll<R>
         ensures told { result ≡ told_by answer }
         ensures left { self.new ≡ left_by answer }
@@ -104,8 +105,8 @@ impl<K: Drop> Kept<K> {
         }
     }
 
-    // Of a try to send, which took out what was kept: who was answered waits no more, and else what
-    // was not sent is kept on, under the ticket of before.
+    // Finishes a send attempt, for which `take` took out the remaining work. On success or an
+    // error, it gives up the ticket; on `Full`, it keeps the unsent part and the old ticket.
     fn keep_tried<T, P: Ord, W: Clone, A: Allocator + Copy>(
         &mut self,
         tried: Result<(), TrySendError<K>>,
@@ -155,7 +156,7 @@ impl<K: Drop> Kept<K> {
     }
 }
 
-// Who has this ticket, if there is one, waits no more.
+// Takes this ticket, if there is one, off the waiting list.
 fn give_up_given<T, P: Ord, W: Clone, A: Allocator + Copy>(
     ticket: Option<u64>,
     core: &mut PriorityQueueChannel<T, P, W, A>,
@@ -168,7 +169,7 @@ fn give_up_given<T, P: Ord, W: Clone, A: Allocator + Copy>(
     }
 }
 
-/// What a send keeps: its pair, until it has answered or was given up, and its ticket.
+/// The state of a send: its pair, until it has answered or was given up, and its ticket.
 #[derive(Drop)]
 pub struct SendState<T, P> {
     pair: Kept<(T, P)>,
@@ -183,7 +184,7 @@ impl<T, P> Model for SendState<T, P> {
 }
 
 impl<T, P> SendState<T, P> {
-    /// A send that was not polled yet.
+    /// A send that has not been polled yet.
     pub fn new(msg: T, priority: P) -> Self
         ensures { result ≡ unpolled (msg, priority) }
     {
@@ -192,7 +193,7 @@ impl<T, P> SendState<T, P> {
         }
     }
 
-    /// The ticket under which it waits, or waited until it was handed out.
+    /// The ticket under which it waits, or waited until it was woken.
     pub fn ticket(&self) -> Option<u64>
         ensures { result ≡ self.now.ticket }
     {
@@ -208,8 +209,8 @@ impl<T, P> SendState<T, P> {
 }
 
 impl<T: Drop, P: Ord + Drop> SendState<T, P> {
-    /// Sends the pair where it need not wait, as a poll does with whatever waker. Where the channel
-    /// is open and full it answers `Pending`, and changes nothing; so does a state that is done.
+    /// Sends the pair if it need not wait, as a poll with any waker would. If the channel is open
+    /// and full, it returns `Pending` and changes nothing. A state that is done does the same.
     pub fn try_on<W: Clone, A: Allocator + Copy>(
         &mut self,
         core: &mut PriorityQueueChannel<T, P, W, A>,
@@ -234,8 +235,8 @@ impl<T: Drop, P: Ord + Drop> SendState<T, P> {
         (self.pair.keep_tried(tried, ticket, core), wakes)
     }
 
-    /// Sends the pair, or waits for room with the waker. A state that is done answers `Pending`,
-    /// and changes nothing.
+    /// Sends the pair, or waits for room with the waker. A state that is done returns `Pending` and
+    /// changes nothing.
     pub fn poll_on<W: Clone, A: Allocator + Copy>(
         &mut self,
         core: &mut PriorityQueueChannel<T, P, W, A>,
@@ -261,8 +262,8 @@ impl<T: Drop, P: Ord + Drop> SendState<T, P> {
         (self.pair.keep(answer), wakes)
     }
 
-    /// Ends the send, which waits no more, and answers the pair that was not sent; None where it
-    /// was done.
+    /// Ends the send, which no longer waits, and returns the pair that was not sent. None if the
+    /// send was done.
     pub fn give_up_on<W: Clone, A: Allocator + Copy>(
         &mut self,
         core: &mut PriorityQueueChannel<T, P, W, A>,
@@ -277,8 +278,8 @@ impl<T: Drop, P: Ord + Drop> SendState<T, P> {
     }
 }
 
-/// What a bulk send keeps: the pairs that were not sent yet, until it has answered or was given up,
-/// and its ticket.
+/// The state of a bulk send: the pairs that were not sent yet, until it has answered or was given
+/// up, and its ticket.
 #[derive(Drop)]
 pub struct SendvState<M> {
     rest: Kept<M>,
@@ -293,7 +294,7 @@ impl<M> Model for SendvState<M> {
 }
 
 impl<M> SendvState<M> {
-    /// A bulk send that was not polled yet.
+    /// A bulk send that has not been polled yet.
     pub fn new(msgs: M) -> Self
         ensures { result ≡ unpolled msgs }
     {
@@ -302,7 +303,7 @@ impl<M> SendvState<M> {
         }
     }
 
-    /// The ticket under which it waits, or waited until it was handed out.
+    /// The ticket under which it waits, or waited until it was woken.
     pub fn ticket(&self) -> Option<u64>
         ensures { result ≡ self.now.ticket }
     {
@@ -318,8 +319,8 @@ impl<M> SendvState<M> {
 }
 
 impl<M: Drop> SendvState<M> {
-    /// Ends the bulk send, which waits no more, and answers the pairs that were not sent; None
-    /// where it was done. What was sent stays sent.
+    /// Ends the bulk send, which no longer waits, and returns the pairs that were not sent. None if
+    /// the bulk send was done. What was sent stays sent.
     pub fn give_up_on<T, P: Ord, W: Clone, A: Allocator + Copy>(
         &mut self,
         core: &mut PriorityQueueChannel<T, P, W, A>,
@@ -335,9 +336,9 @@ impl<M: Drop> SendvState<M> {
 }
 
 impl<T: Drop, P: Ord + Drop, I: Iterator<Item = (T, P)>> SendvState<Peekable<I>> {
-    /// Sends what there is room for, and nothing more where that was not all: it then answers
-    /// `Pending`, as a state that is done does, and waits on under the ticket that it had. Else it
-    /// is a poll with whatever waker.
+    /// Sends as many pairs as there is room for. If that was not all, it does nothing more: it
+    /// returns `Pending`, as a state that is done does, and waits on under the ticket that it had.
+    /// Otherwise it does what a poll with any waker would.
     pub fn try_on<W: Clone, A: Allocator + Copy>(
         &mut self,
         core: &mut PriorityQueueChannel<T, P, W, A>,
@@ -360,7 +361,7 @@ impl<T: Drop, P: Ord + Drop, I: Iterator<Item = (T, P)>> SendvState<Peekable<I>>
         ensures answered { IfReady result.0 (λ _. self.new ≡ done) }
         ensures waits { OnPending result.0 (is_some self.new.kept ≡ is_some self.old.kept) }
 
-        // Whether or not the iterator has one list.
+        // This holds whether or not the iterator has one list.
         ensures unsent_callable { IfSome (handed_back result.0) (peekable_can I.can_next) }
         ensures kept_callable { ForSome self.new.kept (peekable_can I.can_next) }
         ensures front { IfSome self.old.kept (λ _. (front : List (T × P))
@@ -376,8 +377,8 @@ impl<T: Drop, P: Ord + Drop, I: Iterator<Item = (T, P)>> SendvState<Peekable<I>>
         (self.rest.keep_tried(tried, ticket, core), wakes)
     }
 
-    /// Sends what there is room for, and waits for room with the rest and the waker. A state that
-    /// is done answers `Pending`, and changes nothing.
+    /// Sends as many pairs as there is room for, and waits for room with the rest and the waker. A
+    /// state that is done returns `Pending` and changes nothing.
     pub fn poll_on<W: Clone, A: Allocator + Copy>(
         &mut self,
         core: &mut PriorityQueueChannel<T, P, W, A>,
@@ -398,7 +399,7 @@ impl<T: Drop, P: Ord + Drop, I: Iterator<Item = (T, P)>> SendvState<Peekable<I>>
         ensures answered { IfReady result.0 (λ _. self.new ≡ done) }
         ensures waits { OnPending result.0 (is_some self.new.kept ≡ is_some self.old.kept) }
 
-        // Whether or not the iterator has one list.
+        // This holds whether or not the iterator has one list.
         ensures unsent_callable { IfSome (handed_back result.0) (peekable_can I.can_next) }
         ensures kept_callable { ForSome self.new.kept (peekable_can I.can_next) }
         ensures front { IfSome self.old.kept (λ _. (front : List (T × P))
@@ -416,7 +417,7 @@ impl<T: Drop, P: Ord + Drop, I: Iterator<Item = (T, P)>> SendvState<Peekable<I>>
     }
 }
 
-/// What a receive keeps: its ticket, and that it is not done.
+/// The state of a receive: its ticket, and whether it is done.
 #[derive(Drop)]
 pub struct RecvState {
     receive: Kept<()>,
@@ -431,7 +432,7 @@ impl Model for RecvState {
 }
 
 impl RecvState {
-    /// A receive that was not polled yet.
+    /// A receive that has not been polled yet.
     pub fn new() -> Self
         ensures { result ≡ unpolled tt }
     {
@@ -440,7 +441,7 @@ impl RecvState {
         }
     }
 
-    /// The ticket under which it waits, or waited until it was handed out.
+    /// The ticket under which it waits, or waited until it was woken.
     pub fn ticket(&self) -> Option<u64>
         ensures { result ≡ self.now.ticket }
     {
@@ -454,9 +455,8 @@ impl RecvState {
         self.receive.is_done()
     }
 
-    /// Receives a pair where it need not wait, as a poll does with whatever waker. Where the
-    /// channel is open and empty it answers `Pending`, and changes nothing; so does a state that is
-    /// done.
+    /// Receives a pair if it need not wait, as a poll with any waker would. If the channel is open
+    /// and empty, it returns `Pending` and changes nothing. A state that is done does the same.
     pub fn try_on<T, P: Ord, W: Clone, A: Allocator + Copy>(
         &mut self,
         core: &mut PriorityQueueChannel<T, P, W, A>,
@@ -489,8 +489,8 @@ impl RecvState {
         }
     }
 
-    /// Receives a pair, or waits for a message with the waker. A state that is done answers
-    /// `Pending`, and changes nothing.
+    /// Receives a pair, or waits for a message with the waker. A state that is done returns
+    /// `Pending` and changes nothing.
     pub fn poll_on<T, P: Ord, W: Clone, A: Allocator + Copy>(
         &mut self,
         core: &mut PriorityQueueChannel<T, P, W, A>,
@@ -514,7 +514,7 @@ impl RecvState {
         (self.receive.keep(answer), wakes)
     }
 
-    /// Ends the receive, which waits no more; None where it was done.
+    /// Ends the receive, which no longer waits. None if the receive was done.
     pub fn give_up_on<T, P: Ord, W: Clone, A: Allocator + Copy>(
         &mut self,
         core: &mut PriorityQueueChannel<T, P, W, A>,

@@ -1,7 +1,7 @@
-//! Why a call that waits on its thread has ended in vain.
+//! Why a call that waits on its thread has ended without success.
 //!
-//! The error of a send holds what was to be sent. `{}` and `{:?}` print nothing of that, so its
-//! type need not print.
+//! The error of a send holds what was to be sent. `{}` and `{:?}` do not print it, so its type need
+//! not be printable.
 ghost use Rattle.std.specs.Prelude.{◌≡◌, ◌↔◌, IsTrue, Some};
 ghost use Rattle.priority_channel_waiting.specs.Waits.{given_back, unsent_in_time};
 
@@ -11,7 +11,8 @@ use std::convert::Infallible;
 use std::error::Error;
 use std::fmt;
 
-/// How a wait has ended in vain, and what was to be done; `O` is evidence that its time is over.
+/// How a wait has ended without success, and the call that was not done. `O` is evidence that its
+/// time is over.
 pub enum Ended<C, O> {
     Over(C, O),
     Closed(C),
@@ -61,12 +62,12 @@ pub enum SendTimeoutError<T> {
     Timeout(T),
     /// The channel is closed.
     Closed(T),
-    /// There is no memory, for what was to be sent or for waiting.
+    /// Memory was refused, for what was to be sent or for waiting.
     Memory(T),
 }
 
 impl<T> SendTimeoutError<T> {
-    /// What was not sent.
+    /// Returns what was not sent.
     ///
     /// ```
     /// let (tx, rx) = bounded(&rt, rt.alloc(), 1)?;
@@ -99,7 +100,7 @@ impl<T> SendTimeoutError<T> {
         matches!(self, SendTimeoutError::Timeout(_))
     }
 
-    /// Whether the channel was closed, so that it takes nothing any more.
+    /// Whether the channel was closed, so that it accepts nothing more.
     ///
     /// ```
     /// let (tx, rx) = bounded(&rt, rt.alloc(), 1)?;
@@ -195,11 +196,11 @@ impl<T: Drop> Error for SendTimeoutError<T> {}
 /// ```
 #[derive(Clone, Copy, Debug, Drop, PartialEq, Eq)]
 pub enum RecvTimeoutError {
-    /// None came in time.
+    /// No message came in time.
     Timeout,
     /// The channel is closed and empty.
     Closed,
-    /// There is no memory for waiting.
+    /// Memory for waiting was refused.
     Memory,
 }
 

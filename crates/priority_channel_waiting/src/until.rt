@@ -1,4 +1,4 @@
-//! Until when a call waits, and the evidence that it has waited long enough.
+//! How long a call waits, and the evidence that it has waited long enough.
 ghost use Rattle.std.specs.Prelude.{◌≤◌};
 ghost use Rattle.std.specs.Time.{instant_nanos};
 
@@ -10,11 +10,11 @@ pub trait Until {
     /// Evidence that the time is over.
     type Over: Drop;
 
-    /// What is left of the time, which is no limit where it is None.
+    /// The time that is left. None means that there is no limit.
     fn left(&self) -> Result<Option<Duration>, Self::Over>;
 }
 
-/// A wait without an end. Of this, nothing is evidence.
+/// A wait without an end. Nothing is evidence that its time is over.
 #[derive(Drop)]
 pub struct Endless;
 
@@ -38,8 +38,8 @@ struct Late {
 #[derive(Clone, Copy)]
 struct Unreadable;
 
-/// Evidence that a deadline has passed, or that nobody can tell. Only the deadline's own reading of
-/// the clock makes it.
+/// Evidence that a deadline has passed, or that the clock could not be read. Only the deadline's
+/// own reading of the clock makes it.
 #[derive(Drop)]
 pub struct Overdue {
     reading: Result<Late, Unreadable>,
@@ -48,13 +48,13 @@ pub struct Overdue {
 #[derive(Clone, Copy)]
 enum End {
     At(Instant),
-    // Past the end of the clock's range.
+    // The deadline is past the end of the clock's range.
     Never,
-    // So much time from a now that could not be read.
+    // A timeout that began when the clock could not be read.
     Unknown(Unreadable),
 }
 
-/// Until an instant of the clock. A clock that cannot be read ends the wait.
+/// A wait until an instant of the clock. If the clock cannot be read, the wait ends.
 #[derive(Drop)]
 pub struct Deadline<'a, C: Clock> {
     clock: &'a C,
@@ -69,7 +69,7 @@ impl<'a, C: Clock> Deadline<'a, C> {
         }
     }
 
-    /// Until so much time has passed from now on.
+    /// A wait until `timeout` from now.
     pub fn after(clock: &'a C, timeout: Duration) -> Self {
         let end = match Instant::now(clock) {
             Ok(now) => match now.checked_add(timeout) {

@@ -1,4 +1,4 @@
-//! What the channel keeps of a task or a thread that waits.
+//! The waiter of a task or a thread, which the channel keeps in its lists.
 ghost use Rattle.std.specs.Prelude.{◌≡◌, IsSome, IsSomeAnd, IfSome};
 ghost use Rattle.futures.specs.Task.{Hears, IsArmed, Keeps};
 
@@ -14,12 +14,13 @@ use std::time::Duration;
 /// A channel's core, whose waiters are tasks and threads.
 pub type Core<T, P, A> = PriorityQueueChannel<T, P, Waiter<A>, A>;
 
-/// One task or one thread that waits, which a future or a blocking call shares with the channel's
-/// waiting list and keeps over its polls.
+/// One task or one thread that waits. A future or a blocking call shares it with the channel's
+/// waiting list, and keeps it over its polls.
 ///
-/// A waker wakes its task also when it is dropped. Were each poll to make a new one, then a poll of
-/// a future that is still listed would drop the listed one, wake its own task, and be polled again
-/// at once, for ever. In a shared waiter a poll finds the waker of its own task, and leaves it.
+/// A waker wakes its task also when it is dropped. Suppose that each poll made a new waker. A poll
+/// of a future that is still listed would then drop the listed waker, wake its own task, and be
+/// polled again at once, for ever. In a shared waiter a poll finds the waker of its own task, and
+/// leaves it there.
 #[derive(Drop)]
 pub struct Waiter<A: Allocator> {
     inner: Arc<Inner, A>,
@@ -34,10 +35,10 @@ impl<A: Allocator> Model for Waiter<A> {
     ghost view = { λ w. arc_value w.inner };
 }
 
-// Of a task that waits there is a waker, and a thread that waits is parked.
+// A task waits by its waker, a thread by its parker.
 #[derive(Drop)]
 struct Inner {
-    // Which waiter it is, for contracts.
+    // Identifies the waiter, for contracts.
     identity: Source,
     waker: Mutex<Option<Waker>>,
     parker: Parker,
@@ -62,8 +63,8 @@ impl<A: Allocator + Copy> Waiter<A> {
         Ok(Waiter { inner })
     }
 
-    /// The waiter of a party, which is made where the party waits for the first time. None where
-    /// memory was refused.
+    /// The waiter of a task or a thread (`party`). It is made on its first wait. None if memory was
+    /// refused.
     pub fn of_party(alloc: A, party: &mut Option<Self>) -> Option<&Self>
         ensures own { IfSome party.old (λ own. IsSomeAnd result (λ waiter. waiter.now ≡ own)) }
     {
@@ -73,7 +74,8 @@ impl<A: Allocator + Copy> Waiter<A> {
         party.as_ref()
     }
 
-    /// Leaves the task's waker in the waiter of a party. None where either was refused.
+    /// Stores the task's waker in its waiter (`party`). None if the waiter or the waker was
+    /// refused.
     pub fn register_party<'w, R: Wait>(
         rt: &R,
         alloc: A,
@@ -95,7 +97,7 @@ impl<A: Allocator + Copy> Waiter<A> {
 }
 
 impl<A: Allocator> Waiter<A> {
-    /// Leaves the task's waker here. False where none could be made: the task then yields.
+    /// Stores the task's waker here. False if no waker could be made: the task then yields.
     pub fn register<R: Wait>(&self, rt: &R, cx: &mut Context<'_>, source: &Source) -> bool
         ensures armed { IsArmed cx.new }
         ensures heard { Hears cx.new source.now.id }
@@ -106,8 +108,8 @@ impl<A: Allocator> Waiter<A> {
         slot.is_some()
     }
 
-    /// Parks the thread until it is woken, or so much time has passed. It may end early, and does
-    /// at once where a wake came since it was last parked.
+    /// Parks the thread until it is woken, or `limit` has passed. It may return early. It returns
+    /// at once if a wake came since the thread was last parked.
     pub fn park<R: Wait>(&self, rt: &R, limit: Option<Duration>) {
         match limit {
             Some(limit) => self.inner.parker.park_timeout(rt, limit),
@@ -115,12 +117,12 @@ impl<A: Allocator> Waiter<A> {
         }
     }
 
-    /// Wakes the thread that is parked here, or keeps the next one that parks from it.
+    /// Wakes the thread that is parked here. If none is parked, the next `park` returns at once.
     pub fn unpark(&self) {
         self.inner.parker.unpark();
     }
 
-    // Wakes the task, once the waiter's lock is free, and the thread.
+    // Wakes the task, after the waiter's lock is released, and the thread.
     fn wake<R: Wait>(self, rt: &R) {
         let waker = self.inner.waker.lock(rt).take();
         drop(waker);
@@ -128,7 +130,7 @@ impl<A: Allocator> Waiter<A> {
     }
 }
 
-// Dropping a clone drops no waker while another is there, so a list can let one go under the
+// Dropping a clone drops no waker while another clone exists. So a list can drop a clone under the
 // channel's lock.
 impl<A: Allocator> Clone for Waiter<A> {
     ghost use Rattle.std.specs.Prelude.{◌≡◌};
@@ -141,7 +143,8 @@ impl<A: Allocator> Clone for Waiter<A> {
     }
 }
 
-/// Wakes all who were handed out. It takes the waiters' locks, and the channel's lock must be free.
+/// Wakes all these waiters, which a call took off the waiting lists. It takes the waiters' locks,
+/// and the channel's lock must be free.
 #[inline(always)]
 pub fn wake_all<R: Wait, A: Allocator>(rt: &R, wakes: Wakes<Waiter<A>, A>) {
     let (room, message) = wakes.into_lists();

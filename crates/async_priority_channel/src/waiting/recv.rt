@@ -17,9 +17,9 @@ use std::sync::Wait;
 
 /// Receives one message once there is one. `Receiver::recv` makes it.
 ///
-/// Its fault is `Closed`, where none can come any more, or `Memory`, where memory was refused.
-/// Polled again after its answer it is pending, changes nothing, and asks to be polled once more,
-/// so it should not be polled on.
+/// The error is `Closed` if no message can come any more, or `Memory` if memory was refused. If it
+/// is polled again after its answer, it is pending, changes nothing, and asks to be polled once
+/// more. So it should not be polled any more.
 ///
 /// ```
 /// let (tx, rx) = bounded(&rt, rt.alloc(), 1)?;
@@ -106,7 +106,7 @@ impl<T: Drop, P: Ord + Drop, R: Wait + Clone, A: Allocator + Copy> Drop for Recv
         if state.ticket().is_some() {
             state.give_up_on(&mut receiver.handle.lock());
         }
-        // A waker wakes as it is dropped.
+        // A waker wakes its task when it is dropped.
         drop(waiter);
     }
 }

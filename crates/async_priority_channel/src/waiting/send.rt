@@ -17,9 +17,9 @@ use std::sync::Wait;
 
 /// Sends one message once there is room. `Sender::send` makes it.
 ///
-/// Its fault is `Closed`, or `Memory` where memory was refused, and gives the message back. Polled
-/// again after its answer it is pending, changes nothing, and asks to be polled once more, so it
-/// should not be polled on.
+/// The error is `Closed`, or `Memory` if memory was refused, and gives the message back. If it is
+/// polled again after its answer, it is pending, changes nothing, and asks to be polled once more.
+/// So it should not be polled any more.
 ///
 /// ```
 /// let (tx, rx) = bounded(&rt, rt.alloc(), 1)?;
@@ -111,7 +111,8 @@ impl<T: Drop, P: Ord + Drop, R: Wait + Clone, A: Allocator + Copy> Drop for Send
         if state.ticket().is_some() {
             unsent = state.give_up_on(&mut sender.handle.lock());
         }
-        // A message may hold a handle of this channel, and a waker wakes as it is dropped.
+        // A message may hold a handle of this channel, and a waker wakes its task when it is
+        // dropped.
         drop((unsent, state));
         drop(waiter);
     }

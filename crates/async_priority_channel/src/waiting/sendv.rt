@@ -19,12 +19,12 @@ use std::iter::Peekable;
 use std::marker::Model;
 use std::sync::Wait;
 
-/// Sends many messages, as there is room. `Sender::sendv` makes it, and `M` is what holds them: a
-/// `Peekable`.
+/// Sends many messages, as there is room. `Sender::sendv` makes it. `M` is the type that holds the
+/// messages: a `Peekable`.
 ///
-/// Its fault is `Closed`, or `Memory` where memory was refused, and gives back what was not sent.
-/// Polled again after its answer it is pending, changes nothing, and asks to be polled once more,
-/// so it should not be polled on.
+/// The error is `Closed`, or `Memory` if memory was refused, and gives back what was not sent. If
+/// it is polled again after its answer, it is pending, changes nothing, and asks to be polled once
+/// more. So it should not be polled any more.
 ///
 /// ```
 /// let (tx, rx) = bounded(&rt, rt.alloc(), 1)?;
@@ -75,7 +75,8 @@ impl<
     R: Wait + Clone,
     A: Allocator + Copy,
 > Sendv<'_, T, P, Peekable<I>, R, A> {
-    // Sends what there is room for, in one hold of the lock and without memory for waiting.
+    // Sends as many messages as there is room for, in one step under the lock and without memory
+    // for waiting.
     fn try_once(&mut self) -> Poll<Result<(), SendFault<Peekable<I>>>>
         requires { ForSome self.old.state.kept (peekable_can I.can_next) }
         ensures value { IfReady result (HandsBackTail (HasList I.next_gives)
@@ -97,7 +98,7 @@ impl<
         tried
     }
 
-    // Leaves the waker, and sends or waits.
+    // Stores the waker, and then sends or waits.
     fn wait(&mut self, cx: &mut Context<'_>) -> Poll<Result<(), SendFault<Peekable<I>>>>
         requires callable { ForSome self.old.state.kept (peekable_can I.can_next) }
         requires kept { is_some self.old.state.kept ≡ true }
@@ -184,7 +185,8 @@ impl<T: Drop, P: Ord + Drop, M: Drop, R: Wait + Clone, A: Allocator + Copy> Drop
         if state.ticket().is_some() {
             unsent = state.give_up_on(&mut sender.handle.lock());
         }
-        // A message may hold a handle of this channel, and a waker wakes as it is dropped.
+        // A message may hold a handle of this channel, and a waker wakes its task when it is
+        // dropped.
         drop((unsent, state));
         drop(waiter);
     }

@@ -1,5 +1,5 @@
-//! How an item moves through an interval heap: down one side, along the greater or the lesser
-//! child, and from the bottom up again, on the side on which it belongs.
+//! How an item moves through an interval heap. It goes down one side, along the greater or the
+//! lesser child. Then it goes up again from the bottom, on the side to which it belongs.
 ghost use Rattle.std.specs.Prelude.{◌≡◌, ℕ, ◌+◌, ◌-◌, ◌*◌, ◌/◌, ◌%◌, ◌<◌, ◌≤◌, ◌≢◌, false, length, min};
 ghost use Rattle.std.specs.BinaryHeap.Sift.{ComparesAt};
 ghost use Rattle.std.specs.List.Sorted.{IsPermutation};
@@ -10,7 +10,7 @@ ghost use Rattle.priority_channel_bag.specs.IntervalHeap.{IsOver, IsIntervalHeap
 use crate::comparisons::Comparisons;
 use crate::item::Item;
 
-/// Settles the item at `at`, where no pair lies below its own.
+/// Settles the item at `at`. No pair is below the pair of that item.
 pub(crate) fn settle_at<T, P: Ord>(
     items: &mut [Item<T, P>],
     comparisons: &mut Comparisons,
@@ -28,7 +28,7 @@ pub(crate) fn settle_at<T, P: Ord>(
     } else if at + 1 < items.len() {
         settle_high(items, comparisons, at, at + 1);
     } else if 1 < at {
-        // The last high has no low of its own, so it faces that of the pair over it.
+        // The last high has no low of its own, so it faces the low of the pair above it.
         settle_high(items, comparisons, at, high_of_parent(at) + 1);
     }
 }
@@ -51,7 +51,7 @@ fn settle_low<T, P: Ord>(items: &mut [Item<T, P>], comparisons: &mut Comparisons
     }
 }
 
-// `low` is its own low, or that of the pair over it.
+// `low` is the low of the same pair, or of the pair above.
 fn settle_high<T, P: Ord>(
     items: &mut [Item<T, P>],
     comparisons: &mut Comparisons,
@@ -113,7 +113,7 @@ fn rise_among_lows<T, P: Ord>(items: &mut [Item<T, P>], comparisons: &mut Compar
     }
 }
 
-// Where the high of the pair is that lies over the pair of `at`.
+// The place of the high in the pair above the pair of `at`.
 fn high_of_parent(at: usize) -> usize
     requires { 1 < at }
     ensures { result ≡ (at - 2) / 4 * 2 }
@@ -121,7 +121,7 @@ fn high_of_parent(at: usize) -> usize
     (at - 2) / 4 * 2
 }
 
-/// Takes the item at `at` down its side to where no pair lies below, and says where that is.
+/// Moves the item at `at` down its side to a place with no pair below, and returns that place.
 pub(crate) fn fall<T, P: Ord>(
     items: &mut [Item<T, P>],
     comparisons: &mut Comparisons,
@@ -142,7 +142,7 @@ pub(crate) fn fall<T, P: Ord>(
     }
 }
 
-// Takes the high at `at` down to a high below which no pair lies, and says where that is.
+// Moves the high at `at` down to a high with no pair below, and returns that place.
 fn fall_among_highs<T, P: Ord>(
     items: &mut [Item<T, P>],
     comparisons: &mut Comparisons,
@@ -166,8 +166,8 @@ fn fall_among_highs<T, P: Ord>(
     at
 }
 
-// Takes the low at `at` down to a low below which no pair lies, or to the last high, and says where
-// that is.
+// Moves the low at `at` down to a low with no pair below, or to the last high, and returns that
+// place.
 fn fall_among_lows<T, P: Ord>(
     items: &mut [Item<T, P>],
     comparisons: &mut Comparisons,
@@ -191,7 +191,7 @@ fn fall_among_lows<T, P: Ord>(
     at
 }
 
-// Of the highs of the two pairs below that of `at`, where the greater is.
+// The place of the greater high of the two pairs below the pair of `at`.
 fn greater_child<T, P: Ord>(items: &[Item<T, P>], comparisons: &mut Comparisons, at: usize) -> usize
     requires { at * 2 + 2 < length items.now }
     ensures child { (at * 2 + 2 ≤ result) × (result ≤ at * 2 + 4) × (result % 2 ≡ 0) }
@@ -210,8 +210,8 @@ fn greater_child<T, P: Ord>(items: &[Item<T, P>], comparisons: &mut Comparisons,
     }
 }
 
-// Of the lows of the two pairs below that of `at`, where the lesser is. The last high stands for
-// its low, where it has none.
+// The place of the lesser low of the two pairs below the pair of `at`. If the last high has no low,
+// it stands for its low.
 fn lesser_child<T, P: Ord>(items: &[Item<T, P>], comparisons: &mut Comparisons, at: usize) -> usize
     requires { at * 2 < length items.now }
     ensures child { (at * 2 ≤ result) × (result ≤ at * 2 + 3) }

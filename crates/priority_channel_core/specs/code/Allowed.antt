@@ -1,4 +1,4 @@
--- Which calls may be made: a drop finds a handle to drop.
+-- Which calls may be made: a drop must find a handle to drop.
 use Rattle.std.specs.Prelude.{◌≡◌, ℕ, ◌+◌, ◌-◌, ◌<◌, ◌≤◌, ◌^◌, ◌⊎◌, Bool, true, false, if◌then◌else◌, List, [], ◌∷◌, ⊤, count_by}
 use Rattle.std.specs.List.{list_any}
 use Rattle.priority_channel_core.specs.declared.calls.Call.{Call}
@@ -27,31 +27,31 @@ module _ {T P W M : Type 0} where
   is_receiver_drop DropReceiver = true
   is_receiver_drop made = false
 
--- one side of a run, of which these calls are the clones and those the drops
+-- one side of a run, with the calls that are clones and the calls that are drops
 module _ {C : Type 0} (is_clone is_drop : C → Bool) where
-  -- how many handles there are after the call, where no clone is refused
+  -- the number of handles after the call, if no clone is refused
   abbrev pub count_after : ℕ → C → ℕ
   count_after count made =
       if is_clone made then count + 1 else if is_drop made then count - 1 else count
 
-  -- what a call does to the number of handles: as much as it asks, or nothing, where a clone was
-  -- refused
+  -- the change of the number of handles by a call: as much as the call asks, or nothing if a clone
+  -- was refused
   abbrev pub ChangesCount : ℕ → C → ℕ → Type 0
   ChangesCount old made new =
       (new ≡ count_after old made) ⊎ ((2 ^ 63 ≤ old) × (new ≡ old) × (is_clone made ≡ true))
 
-  -- at each front of the calls there are at most as many drops as handles and clones
+  -- in each prefix of the calls there are at most as many drops as handles and clones
   abbrev pub DropsFindHandles : ℕ → List C → Type 0
   DropsFindHandles count [] = ⊤
   DropsFindHandles count (made ∷ calls) =
       (is_drop made ≡ true → 0 < count) × DropsFindHandles (count_after count made) calls
 
-  -- and, where there is a drop, no clone is refused
+  -- and, if there is a drop, no clone is refused
   pub record AllowsSide (count : ℕ) (calls : List C) : Type 0 where
     pub drops : DropsFindHandles count calls
     pub clones : list_any is_drop calls ≡ true → count + count_by is_clone calls < 2 ^ 63
 
--- what a call does to the numbers of senders and of receivers
+-- the change of the numbers of senders and receivers by a call
 pub record ChangesHandles {T P W M : Type 0} (old : State T P W) (made : Call T P W M)
     (new : State T P W) : Type 0 where
   pub senders : ChangesCount is_sender_clone is_sender_drop old.sender_count made new.sender_count

@@ -1,5 +1,5 @@
--- The code's calls and the machine's. A bulk send of the code is given what holds a list, as an
--- iterator does; that of the machine is given the list.
+-- The calls of the code and of the machine. A bulk send of the code is given something that holds a
+-- list, such as an iterator. A bulk send of the machine is given the list.
 use Rattle.std.specs.Prelude.{◌≡◌, List, ◌++◌, map, ⊤, Result, Ok, Err}
 use Rattle.std.specs.List.{AllZip}
 use Rattle.std.specs.declared.cmp.Ordering.{Ordering}
@@ -17,22 +17,22 @@ use Rattle.priority_channel_core.specs.machine.State.{State, Handed}
 use Rattle.priority_channel_core.specs.machine.Step.{Step, Calls, Answers}
 use Rattle.priority_channel_core.specs.machine.Run.{Operation, Run}
 
--- what a call gave: its answer, and those whom it handed out
+-- the result of a call: its answer, and the waiters that it wakes
 pub record Response (T P W M : Type 0) : Type 0 where
   pub answer : Answer T P M
   pub handed : Handed W
 
--- a call may be made where the iterator of a bulk send may be called; of a `take_where` the code
--- has the test, and no place
+-- a call may be made if the iterator of a bulk send may be called; a `take_where` may not, since
+-- the code has the test, and not the place
 abbrev pub MayCall : {T P W M : Type 0} → (M → Type 0) → Call T P W M → Type 0
 MayCall can (call.TrySendv msgs) = can msgs
 MayCall can (call.PollSendv msgs given waker) = can msgs
 MayCall can (call.TakeWhere place) = ⊥
 MayCall can made = ⊤
 
--- `holds m list` says that m holds the list
+-- `holds m list`: m holds the list
 module _ {T P M : Type 0} (holds : M → List (T × P) → Type 0) where
-  -- the same reply to a bulk send: what comes back holds what comes back in the machine
+  -- the same reply to a bulk send: what comes back in the code holds what comes back in the machine
   abbrev pub SameReply : Result (Unit {0}) (TrySendError M)
       → Result (Unit {0}) (TrySendError (List (T × P))) → Type 0
   SameReply (Ok done) told = told ≡ Ok tt
@@ -110,12 +110,12 @@ module _ {T P M : Type 0} (holds : M → List (T × P) → Type 0) where
     SameCall (call.PollRecv given waker) meant = meant ≡ call.PollRecv given waker
     SameCall (call.GiveUp ticket) meant = meant ≡ call.GiveUp ticket
 
-    -- the same answer, and the same parties handed out
+    -- the same answer, and the same waiters woken
     abbrev pub SameOperation : Response T P W M → Operation T P W → Type 0
     SameOperation done made = SameAnswer done.answer made.answer × (made.handed ≡ done.handed)
 
     module _ (cmp : P → P → Ordering) (is_clone : W → W → Type 0) where
-      -- a call of the code is a step, whatever list a bulk send holds
+      -- a call of the code is a step, for every list that a bulk send holds
       pub record Performs (old : State T P W) (made : Call T P W M) (reply : Answer T P M)
           (handed : Handed W)
           (new : State T P W) : Type 0 where
@@ -123,7 +123,7 @@ module _ {T P M : Type 0} (holds : M → List (T × P) → Type 0) where
             → (told : Answers T P) × SameAnswer reply told
             × Step cmp is_clone old meant told handed new
 
-      -- a front of the calls was made, in a run, and the others are left
+      -- a prefix of the calls was made, in a run, and the others are left
       pub record RunsFront (old : State T P W) (calls : List (Call T P W M))
           (done : List (Response T P W M))
           (left : List (Call T P W M)) (new : State T P W) : Type 0 where

@@ -9,7 +9,7 @@ use Rattle.priority_channel_bag.specs.Bag.{Contents}
 use Rattle.priority_channel_core.specs.Word.{Word}
 
 -- a state, how many comparisons of two priorities and of two tickets were made, and whether the
--- least urgent pair is known without a search
+-- least pair is known without a search
 pub record CountedState (T P W : Type 0) : Type 0 where
   pub state : State T P W
   pub priority_comparisons : ℕ
@@ -36,8 +36,8 @@ pub record IsSound {T P W : Type 0} (bag : Contents T P) (word : Word W)
   pub slots_kept : state.is_reserved ≡ true → state.capacity ≤ bag.slots
   pub good : IsGood state
 
--- a call made at most so many comparisons of priorities, and of tickets, and the least urgent pair
--- is known after it if it was known before
+-- a call made at most this many comparisons of priorities, and of tickets; and if the least pair
+-- was known before, it is known after the call
 abbrev pub ComparesAtMost : {T P W : Type 0} → ℕ → ℕ → CountedState T P W → CountedState T P W
     → Type 0
 ComparesAtMost priorities tickets old new =
@@ -45,7 +45,7 @@ ComparesAtMost priorities tickets old new =
     × (new.ticket_comparisons ≤ old.ticket_comparisons + tickets)
     × (old.knows_least ≡ true → new.knows_least ≡ true)
 
--- how many comparisons of priorities it takes at most until the least urgent pair is known
+-- the greatest number of comparisons of priorities until the least pair is known
 abbrev pub search_for_least : {T P W : Type 0} → CountedState T P W → ℕ
 search_for_least channel =
     if channel.knows_least then 0

@@ -1,4 +1,4 @@
--- What the loop of a bulk send does, whatever list the iterator has.
+-- What the loop of a bulk send does, for every list that the iterator has.
 use Rattle.std.specs.Prelude.{◌≡◌, ℕ, ◌<◌, List, [], ◌++◌, length, Option}
 use Rattle.std.specs.declared.iter.Ahead.{Ahead}
 use Rattle.priority_channel_core.specs.declared.channel.bulk.Stop.{Stop}
@@ -17,27 +17,27 @@ sent_before (Filled n) = n
 sent_before (Memory n) = n
 
 module _ {S X : Type 0} (steps : S → Option X → S → Type 0) where
-  -- whatever list `old` has, `front` was taken from it, and `new` has the rest
+  -- for every list that `old` has, the prefix `front` was taken from it, and `new` has the rest
   pub record Takes (old : Ahead S X) (front : List X) (new : Ahead S X) : Type 0 where
     pub at : (list : List X) → HasList steps old list
         → (rest : List X) × (list ≡ front ++ rest) × HasList steps new rest
 
-  -- whatever list it has, an item is left in it
+  -- for every list that it has, an item is left in it
   pub record HasMore (msgs : Ahead S X) : Type 0 where
     pub at : (list : List X) → HasList steps msgs list → 0 < length list
 
-  -- whatever list it has, none is left in it
+  -- for every list that it has, no item is left in it
   pub record HasEnded (msgs : Ahead S X) : Type 0 where
     pub at : (list : List X) → HasList steps msgs list → list ≡ []
 
-  -- why the loop stopped before it had sent `room` items, or that it had
+  -- why the loop stopped before it had sent `room` items, or that it has sent them
   abbrev pub StopsFor : (ℕ → Type 0) → ℕ → Stop → Ahead S X → Type 0
   StopsFor is_refused room (Ended n) left = (n < room) × HasEnded left
   StopsFor is_refused room (Filled n) left = n ≡ room
   StopsFor is_refused room (Memory n) left = (n < room) × HasMore left × is_refused n
 
 module _ {S T P : Type 0} (steps : S → Option (T × P) → S → Type 0) where
-  -- `count` pairs went from the iterator into the bag
+  -- `count` pairs were moved from the iterator into the bag
   pub record MovesFront (old : Contents T P) (msgs : Ahead S (T × P)) (count : ℕ)
       (new : Contents T P)
       (left : Ahead S (T × P)) : Type 0 where
@@ -46,7 +46,7 @@ module _ {S T P : Type 0} (steps : S → Option (T × P) → S → Type 0) where
     pub takes : Takes steps msgs front left
     pub pending : new.pending ≡ old.pending ++ front
 
-  -- `count` pairs went from the iterator into the channel
+  -- `count` pairs were moved from the iterator into the channel
   pub record SendsFront {W : Type 0} (old : State T P W) (msgs : Ahead S (T × P)) (count : ℕ)
       (handed : Handed W)
       (new : State T P W) (left : Ahead S (T × P)) : Type 0 where
@@ -55,8 +55,8 @@ module _ {S T P : Type 0} (steps : S → Option (T × P) → S → Type 0) where
     pub takes : Takes steps msgs front left
     pub adds : AddsFront old front handed new
 
--- a poll sent these pairs, whatever it answers: nothing else happened but that its party waits for
--- room, or on no side
+-- a poll sent these pairs, whatever it answers; nothing else happened, except that its caller now
+-- waits on the send side, or on no side
 pub record PollsFront {T P W : Type 0} (is_clone : W → W → Type 0) (old : State T P W)
     (given : Option ℕ) (waker : W)
     (front : List (T × P)) (handed : Handed W) (new : State T P W) : Type 0 where

@@ -13,7 +13,7 @@ module _ {T P W : Type 0} where
   abbrev pub IsFull : State T P W → Type 0
   IsFull s = (s.is_closed ≡ false) × (length s.pending ≡ s.capacity)
 
-  -- one more pair can have a number
+  -- a number is left for one more pair
   abbrev pub HasNumber : State T P W → Type 0
   HasNumber s = s.accepted + 1 < 2 ^ 64
 

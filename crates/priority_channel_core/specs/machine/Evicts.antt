@@ -1,4 +1,5 @@
--- A send that makes room in a full channel: a removal and a send, between which nobody looks.
+-- A send that makes room in a full channel: a removal and then a send, with no other call in
+-- between.
 use Rattle.std.specs.Prelude.{◌≡◌, ◌-◌, ◌^◌, ◌⊎◌, false, [], ◌∷◌, Option, Some, None, Result, Ok, Err}
 use Rattle.std.specs.declared.cmp.Ordering.{Ordering}
 use Rattle.std.specs.declared.cmp.Ordering.TheVariants.{Less}
@@ -9,8 +10,8 @@ use Rattle.priority_channel_core.specs.machine.State.{State, Handed, room}
 use Rattle.priority_channel_core.specs.machine.Sends.{Refuses, Sends}
 
 module _ {T P W : Type 0} (cmp : P → P → Ordering) where
-  -- of a full channel the last of the least pairs is taken out, which is less urgent than the new
-  -- one
+  -- the last of the least pairs is taken out of a full channel; its priority is less than that of
+  -- the new pair
   pub record MakesRoom (old : State T P W) (pair out : T × P) (new : State T P W) : Type 0 where
     pub full : room old ≡ 0
     pub less : cmp out.1 pair.1 ≡ Less
@@ -24,10 +25,10 @@ module _ {T P W : Type 0} (cmp : P → P → Ordering) where
       (mid : State T P W) × MakesRoom old pair out mid × Sends mid (pair ∷ []) (Ok tt) handed new
   Evicts old pair (Err (Closed held)) handed new =
       Sends old (pair ∷ []) (Err (Closed (held ∷ []))) handed new
-  -- where no pending pair is less urgent
+  -- if no pending pair has a lesser priority
   Evicts old pair (Err (Full held)) handed new =
       NoneBelow cmp old.pending pair.1 × Sends old (pair ∷ []) (Err (Full (held ∷ []))) handed new
-  -- as of a send, or where the last number of a pair was used
+  -- as for a send, or if the last number of a pair was used
   Evicts old pair (Err (Memory held)) handed new =
       Sends old (pair ∷ []) (Err (Memory (held ∷ []))) handed new
       ⊎ ((old.is_closed ≡ false) × (room old ≡ 0) × (old.accepted ≡ 2 ^ 64 - 1) × (held ≡ pair)

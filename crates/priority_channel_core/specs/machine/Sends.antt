@@ -13,12 +13,12 @@ as_list (Err (Full pair)) = Err (Full (pair ∷ []))
 as_list (Err (Memory pair)) = Err (Memory (pair ∷ []))
 
 module _ {T P W : Type 0} (old : State T P W) where
-  -- nothing changes, and nobody is handed out
+  -- nothing changes, and no waiter is woken
   abbrev pub Refuses : Handed W → State T P W → Type 0
   Refuses handed new = (handed ≡ nobody) × (new ≡ old)
 
-  -- nothing happened but that these pairs were added; where there are any, all who wait for a
-  -- message are handed out
+  -- nothing happened, except that these pairs were added; if there are any, all waiting receivers
+  -- are woken
   pub record AddsFront (front : List (T × P)) (handed : Handed W) (new : State T P W) : Type 0 where
     pub handed_is : handed
         ≡ (if length front == 0 then nobody
@@ -42,11 +42,11 @@ module _ {T P W : Type 0} (old : State T P W) where
       (0 < room old) × (length pairs ≤ room old) × Accepts pairs handed new
   Sends pairs (Err (Closed rest)) handed new =
       (old.is_closed ≡ true) × (rest ≡ pairs) × Refuses handed new
-  -- as many as there was room for, and there was no room for all
+  -- as many as there was room for; there was no room for all
   Sends pairs (Err (Full rest)) handed new =
       (front : List (T × P)) × (pairs ≡ front ++ rest) × (length front ≡ room old)
       × ((room old ≡ 0) ⊎ (0 < length rest)) × Accepts front handed new
-  -- cut short before a pair that was there and had room
+  -- stopped before a pair that was there and had room
   Sends pairs (Err (Memory rest)) handed new =
       (front : List (T × P)) × (pairs ≡ front ++ rest) × (length front < room old)
       × (0 < length rest) × Accepts front handed new

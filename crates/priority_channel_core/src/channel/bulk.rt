@@ -13,14 +13,14 @@ use crate::errors::TrySendError;
 use std::alloc::Allocator;
 use std::iter::Peekable;
 
-/// Why a bulk send stopped, after so many pairs.
+/// Why a bulk send stopped, and how many pairs it had sent.
 #[derive(Drop)]
 pub enum Stop {
     /// The list ended.
     Ended(u64),
     /// There was no more room.
     Filled(u64),
-    /// Memory or a number was refused to a pair that was there.
+    /// Memory or a number was refused for a pair that was there.
     Memory(u64),
 }
 
@@ -34,7 +34,7 @@ impl Stop {
     }
 }
 
-/// Whether there is another item, which is then peeked.
+/// Whether there is another item. If so, it has been peeked.
 #[tactic(auto, using(crate::proofs::Lists::list_after_peek))]
 pub(crate) fn has_next<I: Iterator>(msgs: &mut Peekable<I>) -> bool
 where
@@ -51,8 +51,8 @@ where
     msgs.peek().is_some()
 }
 
-// Moves pairs into the bag, until `room` of them are there or something stops it. The memory for a
-// pair is had before the pair is taken, so none is lost.
+// Moves pairs into the bag, until `room` pairs were moved or something stops it. The memory for a
+// pair is reserved before the pair is taken, so no pair is lost.
 fn send_front<T: Drop, P: Ord + Drop, A: Allocator, I: Iterator<Item = (T, P)>>(
     bag: &mut Bag<T, P, A>,
     room: u64,
@@ -96,8 +96,8 @@ impl<T: Drop, P: Ord + Drop, W: Clone, A: Allocator + Copy> PriorityQueueChannel
     ghost use Rattle.priority_channel_core.specs.code.Calls.{Performs};
     ghost use Rattle.priority_channel_core.specs.code.Channel.{ComparesAtMost};
 
-    // Sends a front of the list, of at least one pair if there is one, and hands out those who wait
-    // for a message.
+    // Sends a prefix of the list, of at least one pair if there is one, and wakes the waiting
+    // receivers.
     fn send_while_room<I: Iterator<Item = (T, P)>>(
         &mut self,
         room: u64,
@@ -126,13 +126,13 @@ impl<T: Drop, P: Ord + Drop, W: Clone, A: Allocator + Copy> PriorityQueueChannel
     /// Sends the pairs of an iterator, up to its first `None`, as far as there is room, in one
     /// step.
     ///
-    /// What was accepted stays. What was not comes back in order, and can be sent again: with
-    /// `Closed` or with `Full` from the start all of it, and the iterator was not called; with
-    /// `Full` later what there was no room for; with `Memory` the rest from the pair for which
-    /// memory was refused. An empty list is refused by a closed channel and by a full one, and asks
-    /// for no memory.
+    /// What was accepted stays. What was not comes back in order, and can be sent again. With
+    /// `Closed`, and with `Full` if there was no room from the start, that is the whole list, and
+    /// the iterator was not called. With a later `Full` it is the part for which there was no room.
+    /// With `Memory` it is the rest from the pair for which memory was refused. An empty list is
+    /// refused by a closed channel and by a full one, and asks for no memory.
     ///
-    /// Each turn peeks, makes a slot, and only then takes the pair.
+    /// For each pair it peeks, makes a slot, and only then takes the pair.
     pub fn try_sendv<I: Iterator<Item = (T, P)>>(
         &mut self,
         mut msgs: Peekable<I>,
@@ -146,7 +146,7 @@ impl<T: Drop, P: Ord + Drop, W: Clone, A: Allocator + Copy> PriorityQueueChannel
             → (result.0 ≡ Err (TrySendError.Full msgs)) × (self.new.state ≡ self.old.state) }
         ensures callable { IfErr result.0 (λ error. peekable_can I.can_next (rest_of error)) }
 
-        // Whether or not the iterator has one list.
+        // This holds whether or not the iterator has one list.
         ensures full { OnFull result.0 ((self.new.state.is_closed ≡ false)
             × (room_of self.new.state ≡ 0)) }
         ensures memory { OnMemory result.0 ((self.old.state.is_reserved ≡ false)

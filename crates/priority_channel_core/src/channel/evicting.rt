@@ -17,17 +17,17 @@ impl<T, P: Ord, W: Clone, A: Allocator + Copy> PriorityQueueChannel<T, P, W, A> 
     ghost use Rattle.priority_channel_core.specs.code.Channel.{ComparesAtMost, search_for_least};
     ghost use Rattle.priority_channel_core.specs.code.Room.{HasRoom, HasNumber, HasMemory, IsFull, SomeBelow};
 
-    /// Sends a pair, and into a full channel in place of the least urgent one that is pending, the
-    /// last accepted among those of the least priority, if the new pair is more urgent. What is
-    /// displaced comes back. Where nothing that is pending is less urgent the new pair comes back,
-    /// as `Full`.
+    /// Sends a pair. If the channel is full, the pair takes the place of the pending pair of least
+    /// priority (among equals the one accepted last), if its own priority is greater. The displaced
+    /// pair comes back. If no pending pair has a lesser priority, the new pair comes back, as
+    /// `Full`.
     ///
-    /// Into a full channel it takes no memory, and passes those who wait for room. `Memory` comes
-    /// as of `try_send`, and where the last number of a pair was used.
+    /// If the channel is full, it takes no memory, and goes ahead of waiting senders. `Memory` is
+    /// returned as by `try_send`, and if the last number of a pair was used.
     ///
-    /// The first such call into a full channel makes the least urgent pair known; from then on each
-    /// send keeps it so, which costs a send of a pair that is less urgent than all others what it
-    /// costs a pair that is more urgent.
+    /// The first such call into a full channel makes the least pair known. From then on each send
+    /// keeps it known. So a send of a pair of lesser priority than all others then costs as much as
+    /// one of greater priority.
     pub fn try_send_evicting(
         &mut self,
         msg: T,

@@ -1,4 +1,4 @@
-//! Receiving many pairs in one hold of what guards the channel.
+//! Receiving many pairs under one hold of the lock that guards the channel.
 ghost use Rattle.std.specs.Prelude.{◌≡◌, ◌↔◌, ◌+◌, ◌*◌, ◌<◌, ◌≤◌, List, ◌++◌, [], length, min, IfOk, IfErr, OnErr, IsOk, Err, vec_capacity};
 ghost use Rattle.priority_channel_bag.specs.Digits.{digits};
 ghost use Rattle.priority_channel_core.specs.code.Many.{ReceivesInTurn};
@@ -15,11 +15,11 @@ impl<T, P: Ord, W: Clone, A: Allocator + Copy> PriorityQueueChannel<T, P, W, A> 
     ghost use Rattle.priority_channel_core.specs.machine.Step.{Step};
     ghost use Rattle.priority_channel_core.specs.code.Channel.{ComparesAtMost};
 
-    /// Receives up to `limit` pairs, the greatest first, as so many receives in a row, and answers
-    /// how many came. The error is that of one receive, and comes where nothing is pending, also
-    /// with a `limit` of 0.
+    /// Receives up to `limit` pairs, the greatest first, like that many receives in a row, and
+    /// returns how many came. The error is that of one receive, and is returned if nothing is
+    /// pending, also with a `limit` of 0.
     ///
-    /// It takes no memory: that of `batch` is the caller's to reserve.
+    /// It takes no memory: the caller reserves that of `batch`.
     pub fn try_recv_many<B: Allocator>(
         &mut self,
         batch: &mut Vec<(T, P), B>,
@@ -55,7 +55,7 @@ impl<T, P: Ord, W: Clone, A: Allocator + Copy> PriorityQueueChannel<T, P, W, A> 
         }
     }
 
-    // Where nobody waits for room.
+    // For a channel without waiting senders.
     fn receive_more<B: Allocator>(&mut self, batch: &mut Vec<(T, P), B>, limit: usize) -> usize
         requires nobody_waits { self.old.state.waiters.room ≡ [] }
         requires fits { length batch.old.items + limit ≤ vec_capacity batch.old }
@@ -68,7 +68,7 @@ impl<T, P: Ord, W: Clone, A: Allocator + Copy> PriorityQueueChannel<T, P, W, A> 
         ensures cost { ComparesAtMost (result * (2 * digits (length self.old.state.pending))) 0
             self.old self.new }
     {
-        // For the proof, which needs what holds of the parts.
+        // Reads the field so that the prover learns its invariant.
         let _ = &self.word;
         for received in 0..limit {
             let (next, wakes) = self.try_recv();

@@ -1,5 +1,5 @@
-//! The calls that wait: a try to send or to receive, and then, where the channel was full or empty,
-//! a ticket among those who wait.
+//! The calls that wait: a try to send or to receive, and then, if the channel was full or empty, a
+//! ticket in a waiting list.
 ghost use Rattle.std.specs.Prelude.{◌≡◌, ◌≢◌, ◌⊎◌, ◌+◌, ◌-◌, ◌*◌, ◌^◌, ℕ, List, [], length, false, true, Option, Some, IfSome, IsSome, Result, Err};
 ghost use Rattle.std.specs.Iterator.Adapters.{peekable_can};
 ghost use Rattle.std.specs.declared.iter.Ahead.{Ahead};
@@ -26,7 +26,7 @@ impl<T, P: Ord, W: Clone, A: Allocator + Copy> PriorityQueueChannel<T, P, W, A> 
     ghost use Rattle.priority_channel_core.specs.machine.Step.{Step};
     ghost use Rattle.priority_channel_core.specs.code.Channel.{ComparesAtMost};
 
-    /// The party of this ticket waits no more. A ticket that is not listed changes nothing. It
+    /// Takes this ticket off the waiting lists. A ticket that is not listed changes nothing. It
     /// takes no memory.
     pub fn give_up(&mut self, ticket: u64)
         ensures step { Step P.cmp W.is_clone self.old.state (Call.GiveUp ticket) Answer.GiveUp
@@ -42,19 +42,19 @@ impl<T, P: Ord, W: Clone, A: Allocator + Copy> PriorityQueueChannel<T, P, W, A> 
         ensures good { IsGood self.new.state }
         ensures cost { ComparesAtMost 0 (search_bound self.old.state.waiters) self.old self.new }
     {
-        // Also where no ticket is given, the proof needs what holds of the parts.
+        // Reads the field so that the prover learns its invariant, also if no ticket is given.
         let _ = &self.word;
         if let Some(ticket) = ticket {
             self.give_up(ticket);
         }
     }
 
-    /// Lists a party that has to wait: the poll of a send of any pair into a full channel, or of a
-    /// receive from an empty one. The answer is its ticket, under which a later poll finds it; None
-    /// where that poll would answer `Memory`.
+    /// Lists a waiter that has to wait. This is the poll of a send of any pair into a full channel,
+    /// or of a receive from an empty one. It returns the ticket under which a later poll finds the
+    /// waiter; None if that poll would answer `Memory`.
     ///
-    /// It is for a caller that has the party's waker and not its turn, such as one that makes
-    /// the next of a line its first.
+    /// It is for a caller that has the waker of a waiter and not its call, such as one that
+    /// promotes the next thread of a queue to its head.
     pub fn list(&mut self, side: Side, ticket: Option<u64>, waker: &W) -> Option<u64>
         requires { IsBlocked side self.old.state }
         ensures ends { Ends W.is_clone side ticket waker.now result self.old.state self.new.state }
@@ -76,9 +76,9 @@ impl<T, P: Ord, W: Clone, A: Allocator + Copy> PriorityQueueChannel<T, P, W, A> 
         self.word.listen(side, ticket, waker)
     }
 
-    /// Receives, or waits for a message under the answered ticket. The first poll gives no ticket,
-    /// and each further one that of the poll before, which stays listed with a clone of the newest
-    /// waker.
+    /// Receives, or waits for a message under the returned ticket. The first poll gives no ticket.
+    /// Each further poll gives the ticket of the poll before, which stays listed with a clone of
+    /// the newest waker.
     ///
     /// ```
     /// let (received, wakes) = channel.poll_recv(ticket, &waker);
@@ -90,8 +90,8 @@ impl<T, P: Ord, W: Clone, A: Allocator + Copy> PriorityQueueChannel<T, P, W, A> 
     /// }
     /// ```
     ///
-    /// A ready answer leaves the given ticket in neither waiting list. `Memory` is answered where
-    /// the channel is open and empty and the clone of the waker, memory for its entry or the
+    /// A ready answer leaves the given ticket in neither waiting list. The answer is `Memory` if
+    /// the channel is open and empty, and the clone of the waker, memory for its entry or the
     /// ticket's number was refused.
     pub fn poll_recv(
         &mut self,
@@ -120,7 +120,7 @@ impl<T, P: Ord, W: Clone, A: Allocator + Copy> PriorityQueueChannel<T, P, W, A> 
         (CorePoll::Ready(answer), wakes)
     }
 
-    // Ends the poll of a send whose try gave this reply.
+    // Ends the poll of a send whose try returned this reply.
     fn end_send<K>(
         &mut self,
         reply: Result<(), TrySendError<K>>,
@@ -151,7 +151,7 @@ impl<T, P: Ord, W: Clone, A: Allocator + Copy> PriorityQueueChannel<T, P, W, A> 
         CorePoll::Ready(answer)
     }
 
-    /// Sends a pair, or waits for room under the answered ticket and hands the pair back for the
+    /// Sends a pair, or waits for room under the returned ticket and hands the pair back for the
     /// next poll. Tickets and wakers are treated as by `poll_recv`.
     pub fn poll_send(
         &mut self,
@@ -180,9 +180,9 @@ impl<T: Drop, P: Ord + Drop, W: Clone, A: Allocator + Copy> PriorityQueueChannel
     ghost use Rattle.priority_channel_core.specs.code.Calls.{Performs};
     ghost use Rattle.priority_channel_core.specs.code.Channel.{ComparesAtMost};
 
-    /// Sends what there is room for, and waits for room with the rest, which is handed back for the
-    /// next poll. What was sent stays sent, also where the answer is `Memory`. Tickets and wakers
-    /// are treated as by `poll_recv`.
+    /// Sends as many pairs as there is room for, and waits for room with the rest, which is handed
+    /// back for the next poll. What was sent stays sent, also if the answer is `Memory`. Tickets
+    /// and wakers are treated as by `poll_recv`.
     pub fn poll_sendv<I: Iterator<Item = (T, P)>>(
         &mut self,
         msgs: Peekable<I>,
@@ -203,7 +203,7 @@ impl<T: Drop, P: Ord + Drop, W: Clone, A: Allocator + Copy> PriorityQueueChannel
             → W.is_infallible waker.now → (rest : Ahead I (T × P))
             → result.0 ≢ CorePoll.Ready (Err (SendFault.Memory rest)) }
 
-        // Whether or not the iterator has one list.
+        // This holds whether or not the iterator has one list.
         ensures front { (front : List (T × P))
             × PollsFront W.is_clone self.old.state ticket waker.now front result.1 self.new.state
             × ComparesAtMost (length front * digits (length self.new.state.pending))
@@ -212,7 +212,7 @@ impl<T: Drop, P: Ord + Drop, W: Clone, A: Allocator + Copy> PriorityQueueChannel
             ⊎ (self.new.state.accepted ≡ 2 ^ 64 - 1) ⊎ (room self.new.state ≡ 0)) }
         ensures good { IsGood self.new.state }
     {
-        // For the proof, which needs what holds of the parts.
+        // Reads the field so that the prover learns its invariant.
         let _ = &self.word;
         let (reply, wakes) = self.try_sendv(msgs);
         (self.end_send(reply, ticket, waker), wakes)

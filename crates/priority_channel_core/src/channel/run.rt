@@ -13,7 +13,7 @@ use std::alloc::{Allocator, Global};
 use std::iter::Peekable;
 use std::marker::Model;
 
-/// What a call of a run gave: its answer, and those whom it handed out, each under its ticket.
+/// The result of one call of a run: its answer, and the waiters to wake, each under its ticket.
 #[derive(Drop)]
 pub struct Response<T, P, W, M, A: Allocator = Global> {
     pub answer: Answer<T, P, M>,
@@ -46,7 +46,8 @@ impl<T, P, W, M, A: Allocator> Response<T, P, W, M, A> {
     }
 }
 
-/// What a run gave for the calls that it made, and the calls that it did not make, both in order.
+/// The result of a run: the responses to the calls that it made, and the calls that it did not
+/// make, both in order.
 #[derive(Drop)]
 pub struct Progress<T, P, W, M, A: Allocator = Global> {
     pub done: Vec<Response<T, P, W, M, A>, A>,
@@ -54,9 +55,9 @@ pub struct Progress<T, P, W, M, A: Allocator = Global> {
 }
 
 impl<T: Drop, P: Ord + Drop, W: Clone, A: Allocator + Copy> PriorityQueueChannel<T, P, W, A> {
-    /// Makes the calls in order. Where there is no memory to keep a further answer it stops before
-    /// that call: the channel is then as after the last call that was made, and the other calls
-    /// come back, to be run again.
+    /// Makes the calls in order. If there is no memory to keep another answer, it stops before that
+    /// call. The channel is then as after the last call that was made, and the other calls come
+    /// back, to be run again.
     ///
     /// ```
     /// type Pairs = array::IntoIter<(&str, i64), 2>;
@@ -71,8 +72,8 @@ impl<T: Drop, P: Ord + Drop, W: Clone, A: Allocator + Copy> PriorityQueueChannel
         ensures run { RunsFront (HasList I.next_gives) P.cmp W.is_clone self.old.state calls.items
             result.done.items result.left.items self.new.state }
 
-        // Whether or not each iterator has one list: the calls that were not made are left, and can
-        // be run from here.
+        // This holds whether or not each iterator has one list: the calls that were not made are
+        // left, and can be run from here.
         ensures left { result.left.items ≡ drop (length result.done.items) calls.items }
         ensures good { IsGood self.new.state }
         ensures allowed { AllowsRun self.new.state result.left.items }
@@ -87,7 +88,7 @@ impl<T: Drop, P: Ord + Drop, W: Clone, A: Allocator + Copy> PriorityQueueChannel
             done.push_reserved(self.make(call));
         }
         calls.reverse();
-        // For the proof, which needs what holds of the parts.
+        // Reads the field so that the prover learns its invariant.
         let _ = &self.word;
         Progress { done, left: calls }
     }

@@ -1,4 +1,4 @@
-//! Taking out what a test chooses.
+//! Taking out the pairs that a test chooses.
 ghost use Rattle.std.specs.Prelude.{◌≡◌, ℕ, List, ◌+◌, ◌*◌, ◌++◌, ◌≤◌, true, false, length, All, IfNone, IfSome, vec_capacity};
 ghost use Rattle.priority_channel_bag.specs.Digits.{digits};
 ghost use Rattle.priority_channel_core.specs.code.Many.{TakesInTurn};
@@ -14,9 +14,10 @@ impl<T, P: Ord, W: Clone, A: Allocator + Copy> PriorityQueueChannel<T, P, W, A> 
     ghost use Rattle.priority_channel_bag.specs.Least.{Tells};
     ghost use Rattle.priority_channel_core.specs.code.Channel.{ComparesAtMost};
 
-    /// Takes out a pending pair of which the test tells true, also from a closed channel; None
-    /// where there is none. Which one, where there are several, is not said. The test is asked of
-    /// the pairs in no order that is said, and of none once it has told true. It takes no memory.
+    /// Takes out a pending pair for which the test returns true, also from a closed channel. None
+    /// if there is none. If there are several, it is not specified which one is taken. The test is
+    /// called on pairs in no specified order, and on none after it has returned true. It takes no
+    /// memory.
     pub fn take_where<F: Fn(&T, &P) -> bool>(&mut self, test: &F) -> (Option<(T, P)>, Wakes<W, A>)
         requires { F.IsAlwaysCallable test.now }
         ensures step { (place : ℕ) × Step P.cmp W.is_clone self.old.state (Call.TakeWhere place)
@@ -37,11 +38,11 @@ impl<T, P: Ord, W: Clone, A: Allocator + Copy> PriorityQueueChannel<T, P, W, A> 
         }
     }
 
-    /// Keeps the pending pairs of which the test tells true, and takes out all others, also from a
-    /// closed channel, as so many takings in a row. They go to the end of `out`, in no order that
-    /// is said. The test is asked once of each pair, in no order that is said.
+    /// Keeps the pending pairs for which the test returns true, and takes out all others, also from
+    /// a closed channel, like that many takings in a row. They go to the end of `out`, in no
+    /// specified order. The test is called once on each pair, in no specified order.
     ///
-    /// It takes no memory: that of `out` is the caller's to reserve.
+    /// It takes no memory: the caller reserves that of `out`.
     pub fn retain<F: Fn(&T, &P) -> bool, B: Allocator>(
         &mut self,
         test: &F,

@@ -1,5 +1,5 @@
-//! The entries of a waiting list. Their tickets are seen in this file alone, so who looks for one
-//! has to count.
+//! The entries of a waiting list. Their tickets are visible in this file alone, so a search for a
+//! ticket must count its comparisons.
 ghost use Rattle.std.specs.Prelude.{◌≡◌, ◌+◌, ◌<◌, OnErr, OnOk, IfNone, [], ◌∷◌, ◌++◌, length, set, option_to_list};
 ghost use Rattle.std.specs.List.{HoldsAt, remove};
 ghost use Rattle.std.specs.Ordering.{nat_cmp};
@@ -10,7 +10,7 @@ use std::cmp::Ordering;
 use std::marker::Model;
 use std::mem;
 
-/// Tickets, each with the waker kept under it. `compare` alone tells anything of a listed ticket.
+/// Tickets, each with its waker. Only `compare` reveals anything of a listed ticket.
 #[derive(Drop)]
 pub struct Entries<W, A: Allocator = Global> {
     listed: Vec<(u64, W), A>,
@@ -39,7 +39,7 @@ impl<W, A: Allocator> Entries<W, A> {
         self.listed.len()
     }
 
-    /// Compares the ticket that is listed at a position with the given one, and counts that.
+    /// Compares the ticket at a position with the given one, and counts that.
     pub fn compare(&self, position: usize, ticket: u64, comparisons: &mut Comparisons) -> Ordering
         requires { position < length self.now }
         ensures order { HoldsAt (λ a. result ≡ nat_cmp a.0 ticket) self.now position }
@@ -59,7 +59,7 @@ impl<W, A: Allocator> Entries<W, A> {
         Ok(())
     }
 
-    /// Lists this ticket and this waker in place of those at a place.
+    /// Replaces the ticket and the waker at a position.
     pub fn set(&mut self, position: usize, ticket: u64, waker: W)
     where
         W: Drop,
@@ -69,7 +69,7 @@ impl<W, A: Allocator> Entries<W, A> {
         self.listed[position] = (ticket, waker);
     }
 
-    /// Takes off what is listed at a position.
+    /// Removes the entry at a position.
     pub fn remove(&mut self, position: usize)
     where
         W: Drop,
@@ -79,7 +79,7 @@ impl<W, A: Allocator> Entries<W, A> {
         let _entry = self.listed.remove(position);
     }
 
-    /// Takes off what is listed first.
+    /// Removes the first entry.
     pub fn take_first(&mut self) -> Option<(u64, W)>
     where
         W: Drop,
@@ -92,13 +92,13 @@ impl<W, A: Allocator> Entries<W, A> {
         Some(self.listed.remove(0))
     }
 
-    /// Takes the whole list. Takes no memory.
+    /// Takes the whole list. It takes no memory.
     #[inline(always)]
     pub fn take(&mut self, alloc: A) -> Vec<(u64, W), A>
         ensures taken { result.items ≡ self.old }
         ensures empty { self.new ≡ [] }
     {
-        // Mostly nobody is listed.
+        // Mostly the list is empty.
         if self.listed.is_empty() {
             return Vec::new(alloc);
         }

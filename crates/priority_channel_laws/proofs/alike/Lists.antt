@@ -1,4 +1,4 @@
--- Waiting lists and states that are the same but for clones of wakers.
+-- Waiting lists and states that are the same except for clones of wakers.
 use Rattle.std.proofs.Common.{◌≡◌, ℕ, Bool, true, false, not, List, [], ◌∷◌, refl, sym, ap, ◌∙◌, subst, inl, inr, is_some}
 use Rattle.std.specs.Prelude.{Option, Some, None, ◌==◌, if◌then◌else◌}
 use Rattle.std.specs.List.{AllZip}
@@ -52,7 +52,7 @@ module _ {W : Type 0} (is_clone : W → W → Type 0) where
       either true = (refl, inr (w, c, d))
       either false = h.0
 
-  -- the same ticket, in lists of the same parties
+  -- the same ticket, in lists of the same waiters
   pub record SameListing (one other : Listing W) : Type 0 where
     pub ticket : other.ticket ≡ one.ticket
     pub waiters : SameList one.waiters other.waiters
@@ -97,7 +97,7 @@ module _ {W : Type 0} (is_clone : W → W → Type 0) where
   pub waiters_after : (u v w x : Waiters W) → u ≡ w → v ≡ x → SameWaiters is_clone w x → SameWaiters is_clone u v
   waiters_after u v w x e f h = subst (λ z. SameWaiters is_clone z v) (sym e) (subst (λ z. SameWaiters is_clone w z) (sym f) h)
 
-  -- parties that are listed on the same side, or both on none
+  -- waiters that are listed on the same side, or both on none
   pub same_enlists : (side : Side) (given t u : Option ℕ) (waker : W) (old new old' new' : Waiters W) → SameWaiters is_clone old old'
       → is_some u ≡ is_some t → Enlists is_clone side given waker t old new → Enlists is_clone side given waker u old' new'
       → (u ≡ t) × SameWaiters is_clone new new'
@@ -123,7 +123,7 @@ module _ {W : Type 0} (is_clone : W → W → Type 0) where
     pub same_after : (k l s r : State T P W) → k ≡ s → l ≡ r → SameState is_clone s r → SameState is_clone k l
     same_after k l s r e f h = subst (λ z. SameState is_clone z l) (sym e) (subst (λ z. SameState is_clone s z) (sym f) h)
 
-    -- states that were the same, and in which the same parties wait now
+    -- states that were the same, and that have the same waiters now
     pub same_waiting : (k l s r : State T P W) → k ≡ record s { waiters = k.waiters } → l ≡ record r { waiters = l.waiters }
         → SameState is_clone s r → SameWaiters is_clone k.waiters l.waiters → SameState is_clone k l
     same_waiting k l s r e f same waiters = record {
@@ -135,7 +135,7 @@ module _ {W : Type 0} (is_clone : W → W → Type 0) where
         → SameState is_clone (record s { waiters = unlist given s.waiters }) (record r { waiters = unlist given r.waiters })
     same_unlisted given s r h = same_waiting _ _ s r refl refl h (same_unlist given s.waiters r.waiters h.waiters)
 
-    -- what two states that are the same agree in
+    -- what two states that are the same have in common
     pub same_pending : {s r : State T P W} → SameState is_clone s r → r.pending ≡ s.pending
     same_pending h = ap (λ (x : State T P W). x.pending) h.others
 

@@ -1,5 +1,5 @@
--- Two polls from states that are the same, with as many pairs accepted and both or neither answered
--- by Memory.
+-- Two polls from states that are the same, with as many pairs accepted, where both or neither
+-- answered Memory.
 use Rattle.std.proofs.Common.{◌≡◌, ℕ, Bool, true, false, List, [], ◌∷◌, length, refl, sym, ap, ◌∙◌, is_some}
 use Rattle.std.specs.Prelude.{Option, None, Some, Result, Ok, Err}
 use Rattle.std.specs.Cmp.{IsTotalOrder}
@@ -67,7 +67,7 @@ as_list_one (Err (send_error.Memory p)) (Err (send_error.Closed q)) h = cc
 as_list_one (Err (send_error.Memory p)) (Err (send_error.Full q)) h = cc
 as_list_one (Err (send_error.Memory p)) (Err (send_error.Memory q)) h = cc
 
--- one that waits, and one that was refused memory, do not answer alike
+-- a poll that waits, and one that was refused memory, do not answer alike
 only_one : {K : Type 0} (reply : Result (Unit {0}) (TrySendError K)) (u : ℕ) (x y : CorePoll (Result (Unit {0}) (SendFault K)) K)
     → send_answer reply None ≡ Some x → send_answer reply (Some u) ≡ Some y → poll_memory y ≡ poll_memory x → ⊥
 unfolding poll_memory
@@ -80,8 +80,8 @@ only_one (Err (send_error.Full rest)) u x y a b memory =
     let m : poll_memory (Pending rest u) ≡ poll_memory (Ready (Err (send_fault.Memory rest))) = rw (e, f) at memory in
     absurd (cc)
 
--- of two polls whose tries replied alike, both wait or neither does, where both or neither answered
--- Memory
+-- of two polls whose tries had the same reply, both wait or neither does, if both or neither
+-- answered Memory
 sends_wait_alike : {K : Type 0} (reply : Result (Unit {0}) (TrySendError K)) (t u : Option ℕ) (x y : CorePoll (Result (Unit {0}) (SendFault K)) K)
     → send_answer reply t ≡ Some x → send_answer reply u ≡ Some y → poll_memory y ≡ poll_memory x → is_some u ≡ is_some t
 sends_wait_alike reply None None x y a b memory = refl
@@ -109,14 +109,14 @@ recvs_wait_alike {T} {P} reply None (Some u) x y a b memory = absurd (only_one_r
 recvs_wait_alike {T} {P} reply (Some t) None x y a b memory = absurd (only_one_receives {T = T} {P = P} reply t y x b a (sym memory))
 
 module _ {T P W : Type 0} (is_clone : W → W → Type 0) {cmp : P → P → Ordering} (o : IsTotalOrder cmp) (s r k k' : State T P W) (h h' : Handed W) (same : SameState is_clone s r) where
-  -- two polls of which both wait or neither does
+  -- two polls, of which both wait or neither does
   ends_same : (side : Side) (given t u : Option ℕ) (waker : W) (m m' : State T P W) → Both is_clone h h' m m' → is_some u ≡ is_some t
       → Ends is_clone side given waker t m k → Ends is_clone side given waker u m' k' → (u ≡ t) × Both is_clone h h' k k'
   ends_same side given t u waker m m' both alike a b =
       let listed = same_enlists is_clone side given t u waker m.waiters k.waiters m'.waiters k'.waiters both.state.waiters alike a.0 b.0 in
       (listed.0, record { handed = both.handed; state = same_waiting is_clone k k' m m' a.1 b.1 both.state listed.1 })
 
-  -- two polls whose tries went alike
+  -- two polls whose tries had the same outcome
   polls_same : {R A : Type 0} {tries others : R → Handed W → State T P W → Type 0} {answer_by : R → Option ℕ → Option A} {side : Side} {given : Option ℕ}
       {waker : W} {x y : A} (a : Polls is_clone tries answer_by side given waker x h k) (b : Polls is_clone others answer_by side given waker y h' k')
       → b.reply ≡ a.reply → Both is_clone h h' a.mid b.mid

@@ -1,5 +1,5 @@
--- Two steps, and two runs, over the same calls that accept as many pairs and answer Memory or not
--- alike.
+-- Two steps, and two runs, over the same calls that accept as many pairs, and answer Memory in both
+-- or in neither.
 use Rattle.std.proofs.Common.{◌≡◌, ℕ, ◌+◌, ◌-◌, List, [], ◌∷◌, length, refl, sym, ap, ◌∙◌, subst, arith}
 use Rattle.std.specs.Prelude.{Some, ◌==◌}
 use Rattle.std.specs.Cmp.{IsTotalOrder}
@@ -20,7 +20,7 @@ use Rattle.priority_channel_laws.proofs.alike.Evicting.{evicts_same}
 use Rattle.priority_channel_laws.proofs.alike.Polls.{is_memory-poll_send, is_memory-poll_sendv, as_list_one, polls_send_same, polls_sendv_same, polls_receive_same}
 
 module _ {T P W : Type 0} (is_clone : W → W → Type 0) {cmp : P → P → Ordering} (o : IsTotalOrder cmp) where
-  -- a state changed in one count
+  -- a state that differs in one count
   more_senders : (s r : State T P W) (n m : ℕ) → m ≡ n → SameState is_clone s r → SameState is_clone (record s { sender_count = n }) (record r { sender_count = m })
   more_senders s r n m e h = rw e (record { waiters = h.waiters; others = ap (λ (x : State T P W). record x { sender_count = n }) h.others })
 

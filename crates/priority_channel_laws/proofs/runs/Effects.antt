@@ -36,7 +36,7 @@ all_but-front front rest =
     let l = length-append front rest in let e : length (front ++ rest) - length rest ≡ length front = omega (arith, l) in
     rw e (take-append_seam front rest)
 
--- a poll accepts what its try does
+-- a poll accepts the pairs that its try accepts
 pub poll_sent-is : {A : Type 0} (pairs : List A) (reply : Result (Unit {0}) (TrySendError (List A))) (listed : Option ℕ)
     (poll : CorePoll (Result (Unit {0}) (SendFault (List A))) (List A)) → send_answer reply listed ≡ Some poll → poll_sent pairs poll ≡ sent pairs reply
 poll_sent-is pairs (Ok done) None poll h = let e : poll ≡ Ready (Ok done) = cc in rw e refl
@@ -60,7 +60,7 @@ accepted_one-is msg priority given waker (Ok done) (Some ticket) poll h = absurd
 accepted_one-is msg priority given waker (Err (send_error.Closed rest)) (Some ticket) poll h = absurd (cc)
 accepted_one-is msg priority given waker (Err (send_error.Memory rest)) (Some ticket) poll h = absurd (cc)
 
--- and receives what its try does
+-- and receives the pair that its try receives
 poll_received-is : {T P : Type 0} (reply : Result (T × P) TryRecvError) (listed : Option ℕ) (poll : CorePoll (Result (T × P) RecvFault) (Unit {0}))
     → recv_answer reply listed ≡ Some poll → received_by {T = T} {P = P} (answer.PollRecv poll) ≡ received_by (answer.TryRecv reply)
 poll_received-is (Ok pair) None poll h = let e : poll ≡ Ready (Ok pair) = cc in rw e refl
@@ -75,7 +75,7 @@ abbrev pub NoneAbove : {T P : Type 0} → (P → P → Ordering) → T × P → 
 NoneAbove cmp pair others = All (λ other. is_gt (cmp other.1 pair.1) ≡ false) others
 
 module _ {T P W : Type 0} (cmp : P → P → Ordering) where
-  -- the pairs that came in, and those that went out each way
+  -- the pairs that came in, and the pairs that went out each way
   pub record Effect (old : State T P W) (accepted received displaced taken : List (T × P)) (new : State T P W) : Type 0 where
     pub moves : IsPermutation (old.pending ++ accepted) (received ++ displaced ++ taken ++ new.pending)
     pub closed : old.is_closed ≡ true → (new.is_closed ≡ true) × (accepted ≡ [])
@@ -155,7 +155,7 @@ module _ {T P W : Type 0} (cmp : P → P → Ordering) where
     effect_drops (suc zero) fewer p c h = effect_same _ h.1 p (λ k. refl)
     effect_drops (suc (suc others)) fewer p c h = effect_same _ h.1 p (λ k. c ∙ k)
 
-  -- what follows a send or a receive in a poll changes no pairs
+  -- the end of a poll, after its send or receive, changes no pairs
   pub effect_then : (old mid new s : State T P W) (accepted received : List (T × P)) → Effect old accepted received [] [] mid
       → new ≡ s → s.pending ≡ mid.pending → s.is_closed ≡ mid.is_closed → Effect old accepted received [] [] new
   effect_then old mid new s accepted received e is p c =

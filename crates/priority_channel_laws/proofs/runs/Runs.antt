@@ -30,7 +30,7 @@ map_none : {A B : Type 0} (f : A → B) (xs : List A) → map f xs ≡ [] → xs
 map_none f [] h = refl
 map_none f (x ∷ xs) h = absurd (cc)
 
--- the first parts of both, and then the others
+-- the first parts of both, and then the other parts
 sorted_out : {A : Type 0} (a b c d : List A) → IsPermutation ((a ++ b) ++ (c ++ d)) ((a ++ c) ++ (b ++ d))
 sorted_out a b c d =
     rw (append_assoc a b (c ++ d), append_assoc a c (b ++ d), ← append_assoc b c d, ← append_assoc c b d)
@@ -119,7 +119,7 @@ module _ {T P W : Type 0} (cmp : P → P → Ordering) (is_clone : W → W → T
   answered old new handed (answer.TryRecv told) h = (told, refl, h)
   answered old new handed reply h = absurd h
 
-  -- what n pending pairs and n + 1 receives of a closed channel give
+  -- what n pending pairs and n + 1 receives from a closed channel give
   record Drained (pending : List (T × P)) (run : List (Operation T P W)) : Type 0 where
     pairs : List (T × P)
     all : IsPermutation pending pairs
@@ -165,7 +165,7 @@ module _ {T P W : Type 0} (cmp : P → P → Ordering) (is_clone : W → W → T
             answers = rw (is, r.answers) refl;
           }
 
-  -- a closed channel gives what is pending, and then nothing
+  -- a closed channel gives its pending pairs, and then nothing
   pub run_drains : (old new : State T P W) (run : List (Operation T P W)) → Run cmp is_clone old run new → old.is_closed ≡ true
       → map (λ (made : Operation T P W). made.call) run ≡ replicate (length old.pending + 1) call.TryRecv
       → (pairs : List (T × P)) × IsPermutation old.pending pairs × NeverRise cmp pairs

@@ -1,4 +1,4 @@
--- How the futures stand once some tickets are handed out.
+-- The standings of futures after some tickets were woken.
 use Rattle.std.proofs.Common.{◌≡◌, ℕ, ◌⊎◌, Bool, true, false, refl, sym, inl, inr}
 use Rattle.std.specs.Prelude.{Some, if◌then◌else◌}
 use Rattle.priority_channel_core.specs.machine.State.{Handed}
@@ -6,7 +6,7 @@ use Rattle.priority_channel_waiting.specs.Future.{Standing, ticket_of}
 use Rattle.priority_channel_laws.specs.World.{is_handed, standing_after}
 use Rattle.priority_channel_waiting.specs.Future.Standing.{New, Waiting, Called, Done}
 
--- a called standing keeps its ticket
+-- a woken future keeps its ticket
 pub called-ticket : {W : Type 0} (handed : Handed W) (s : Standing W) → ticket_of (standing_after handed s) ≡ ticket_of s
 called-ticket handed New = refl
 called-ticket handed (Waiting t w) = either (is_handed t handed) where
@@ -16,7 +16,7 @@ called-ticket handed (Waiting t w) = either (is_handed t handed) where
 called-ticket handed (Called t w) = refl
 called-ticket handed Done = refl
 
--- who still waits was not handed out
+-- a future that still waits was not woken
 pub called-waiting : {W : Type 0} (handed : Handed W) (s : Standing W) (t : ℕ) (w : W) → standing_after handed s ≡ Waiting t w → (s ≡ Waiting t w) × (is_handed t handed ≡ false)
 called-waiting handed New t w h = absurd (cc)
 called-waiting {W} handed (Waiting u v) t w h = either (is_handed u handed) refl h where
@@ -29,7 +29,7 @@ called-waiting handed Done t w h = absurd (cc)
 pub called-stays : {W : Type 0} (handed : Handed W) (t : ℕ) (w : W) → is_handed t handed ≡ false → standing_after handed (Waiting t w) ≡ Waiting t w
 called-stays handed t w h = rw h refl
 
--- who is called now was called before, or waited and was handed out
+-- a future that is `Called` now was so before, or it waited and was woken
 pub called-called : {W : Type 0} (handed : Handed W) (s : Standing W) (t : ℕ) (w : W) → standing_after handed s ≡ Called t w → (s ≡ Called t w) ⊎ ((s ≡ Waiting t w) × (is_handed t handed ≡ true))
 called-called handed New t w h = absurd (cc)
 called-called {W} handed (Waiting u v) t w h = either (is_handed u handed) refl h where

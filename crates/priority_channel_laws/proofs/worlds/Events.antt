@@ -34,7 +34,7 @@ some_pending [] ne = absurd (ne refl)
 some_pending (x ∷ xs) ne = omega arith
 
 module _ {T P W : Type 0} where
-  -- next does not fall, and a ticket given before is held by whoever held it
+  -- the next ticket does not fall, and a ticket given before is still held by the same future
   record Passes (old new : World T P W) : Type 0 where
     grows : old.state.waiters.next_ticket ≤ new.state.waiters.next_ticket
     held : GivenOnce old new
@@ -44,7 +44,7 @@ module _ {T P W : Type 0} where
       good : IsGood world.state
       keeps : Keeps is_clone (lists_of world.state) world.state.waiters.next_ticket world.futures
 
-    -- the world once those who are handed out are called
+    -- the world after the woken futures are `Called`
     called_world : (old : World T P W) (mid : State T P W) (handed : Handed W) → Hands old.state mid handed → IsKept old
         → Keeps is_clone (lists_of mid) mid.waiters.next_ticket (call_out handed old.futures)
     called_world old mid handed h k =
@@ -70,7 +70,7 @@ module _ {T P W : Type 0} where
           p.held i later.0 t later.1 later.2 lt;
     }
 
-    -- one future is changed, after those who are handed out were called
+    -- one future is changed, after the woken futures are `Called`
     changed_world : (old new : World T P W) (mid : State T P W) (handed : Handed W) (h : Hands old.state mid handed) (k : IsKept old)
         (i : ℕ) (f g : Futures T P W) (at : slice_get old.futures i ≡ Some f)
         (at' : slice_get (call_out handed old.futures) i ≡ Some (record { task = f.task; standing = standing_after handed f.standing }))
@@ -234,7 +234,7 @@ module _ {T P W : Type 0} where
         let first = (leads_kept cmp opening earlier before h (opening_kept opening o)).0 in
         (leads_kept cmp earlier later after k first).1.grows
 
-    -- the event's own future is not called
+    -- the event's own future is not woken
     changed_called : (old new : World T P W) (mid : State T P W) (handed : Handed W) → Hands old.state mid handed → IsKept old → (i : ℕ) (g : Futures T P W)
         → ((t : ℕ) (w : W) → g.standing ≡ Called t w → ⊥) → new.futures ≡ set (call_out handed old.futures) i g → CalledBy is_clone old handed new
     changed_called old new mid handed h k i g not_called futures = λ j f t w at is.

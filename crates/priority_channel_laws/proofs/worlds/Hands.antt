@@ -1,4 +1,4 @@
--- Each waiting list stays as it was, or is handed out whole.
+-- Each waiting list stays as it was, or all of its waiters are woken.
 use Rattle.std.proofs.Common.{◌≡◌, ℕ, ◌⊎◌, Bool, true, false, List, [], ◌∷◌, refl, ap, ◌∙◌, inl, inr, zero, suc, length}
 use Rattle.std.specs.Prelude.{Option, Some, None, Result, Ok, Err, ◌==◌, if◌then◌else◌}
 use Rattle.std.specs.declared.cmp.Ordering.{Ordering}
@@ -17,12 +17,12 @@ use Rattle.priority_channel_laws.specs.World.{IsDirect}
 use Rattle.priority_channel_core.specs.declared.side.Side.{Side}
 use Rattle.priority_channel_core.specs.declared.side.Side.TheVariants.{Room, Message}
 
--- those who waited on a side
+-- the waiters that were on a side
 abbrev pub handed_of : {W : Type 0} → Side → Handed W → List (ℕ × W)
 handed_of Room handed = handed.room
 handed_of Message handed = handed.message
 
--- a list that stayed, or was handed out
+-- a list that stayed, or whose waiters were all woken
 abbrev pub StaysOrLeaves : {W : Type 0} → List (ℕ × W) → List (ℕ × W) → List (ℕ × W) → Type 0
 StaysOrLeaves old out new = ((new ≡ old) × (out ≡ [])) ⊎ ((new ≡ []) × (out ≡ old))
 
@@ -32,7 +32,7 @@ module _ {T P W : Type 0} (old new : State T P W) (handed : Handed W) where
     pub message : StaysOrLeaves old.waiters.message handed.message new.waiters.message
     pub next : new.waiters.next_ticket ≡ old.waiters.next_ticket
 
-  -- nobody is handed out, and the state is one where the same parties wait
+  -- no waiter is woken, and the state has the same waiters
   hands_nobody : (s : State T P W) → handed ≡ nobody → new ≡ s → s.waiters ≡ old.waiters → Hands
   hands_nobody s h e w =
       let same : new.waiters ≡ old.waiters = ap (λ (x : State T P W). x.waiters) e ∙ w in
@@ -81,7 +81,7 @@ module _ {T P W : Type 0} (old new : State T P W) (handed : Handed W) where
   hands_receives cmp (Err recv_error.Closed) h = hands_refuses h.2
   hands_receives cmp (Err recv_error.Empty) h = hands_refuses h.2
 
-  -- a close of a state where the same parties wait
+  -- a close of a state that has the same waiters
   hands_shuts : (s : State T P W) → Shuts s handed new → s.waiters ≡ old.waiters → Hands
   hands_shuts s h w =
       record {
@@ -99,7 +99,7 @@ module _ {T P W : Type 0} (old new : State T P W) (handed : Handed W) where
   hands_drops (suc zero) fewer h w = hands_shuts fewer h w
   hands_drops (suc (suc others)) fewer h w = hands_nobody fewer h.0 h.1 w
 
--- of states where the same parties wait
+-- for states that have the same waiters
 hands_same : {T P W : Type 0} (old mid new : State T P W) (handed : Handed W) → mid.waiters ≡ old.waiters → Hands mid new handed → Hands old new handed
 hands_same old mid new handed same h = record {
   room = rw (← same) h.room;

@@ -1,4 +1,4 @@
--- What is kept under a ticket, once a list has changed.
+-- The waker under a ticket, after a list has changed.
 use Rattle.std.proofs.Common.{◌≡◌, ℕ, ◌<◌, ◌≢◌, true, false, ◌||◌, ◌∙◌, List, [], ◌∷◌, ◌++◌, refl, sym, arith, inl, inr, ◌+◌, ◌⊎◌, Bool}
 use Rattle.std.specs.Prelude.{◌==◌, if◌then◌else◌, Option, Some, None}
 use Rattle.std.specs.List.{All}
@@ -10,7 +10,7 @@ use Rattle.priority_channel_laws.specs.WaitingLaw.{waker_of}
 use Rattle.priority_channel_core.proofs.Tickets.{unlisted_above}
 
 module _ {W : Type 0} where
-  -- what a map is once it has this value at u
+  -- the map after its value at u was set
   abbrev pub put : ℕ → ℕ → Option W → Option W → Option W
   put u t new old = if u == t then new else old
 
@@ -74,7 +74,7 @@ module _ {W : Type 0} where
             ]
       ]
 
-  -- The listed party's ticket has its waker, and the others keep theirs.
+  -- The ticket of the listed waiter has its waker, and the others keep theirs.
   pub waker_of-listing : (xs : List (ℕ × W)) (given : Option ℕ) (w : W) (n t : ℕ) → All (λ a. a.0 < n) xs
       → waker_of t (listing given w xs n).waiters ≡ put (listing given w xs n).ticket t (Some w) (waker_of t xs)
   waker_of-listing xs None w n t below = waker_of-push xs n t w (unlisted_above xs n n below (omega arith))
@@ -93,7 +93,7 @@ module _ {W : Type 0} where
         | false ↦ λ e. let n = waker_of-unlisted xs t (sym e) in absurd (cc)
       ] refl
 
-  -- the ticket under which a party is listed: its own, which stands in the list, or the next one
+  -- the ticket under which a waiter is listed: its own, which is in the list, or the next one
   pub record OwnOrNext (xs : List (ℕ × W)) (given : Option ℕ) (w : W) (n : ℕ) : Type 0 where
     pub own_or_next : ((given ≡ Some (listing given w xs n).ticket) × ((listing given w xs n).next_ticket ≡ n))
         ⊎ (((listing given w xs n).ticket ≡ n) × ((listing given w xs n).next_ticket ≡ n + 1) × ((u : ℕ) → given ≡ Some u → is_listed u xs ≡ false))

@@ -1,4 +1,4 @@
--- Each poll hands out some tickets, and then ends its future or leaves it waiting.
+-- Each poll wakes some waiters, and then ends its future or leaves it waiting.
 use Rattle.std.proofs.Common.{◌≡◌, ◌≢◌, ℕ, ◌<◌, ◌⊎◌, List, [], ◌∷◌, refl, ap, ◌∙◌, inl, inr}
 use Rattle.std.specs.Prelude.{Option, None, Some, Result}
 use Rattle.std.specs.List.{All}
@@ -27,7 +27,7 @@ use Rattle.priority_channel_laws.specs.WaitingLaw.{side_of}
 use Rattle.priority_channel_laws.proofs.worlds.Hands.{handed_of, StaysOrLeaves, Hands, hands_sends, hands_receives}
 
 module _ {W : Type 0} where
-  -- a party's listed is on its own side
+  -- a listed waiter is on its own side
   enlisted_mine : (side : Side) (listed : Listing W) (w : Waiters W) → on_side side (enlist side listed w) ≡ listed.waiters
   enlisted_mine Room listed w = refl
   enlisted_mine Message listed w = refl
@@ -82,7 +82,7 @@ module _ {T P W : Type 0} where
     pub goes_on : side_of future.task ≡ side
     pub stands : future.standing ≡ Waiting (listing given kept (lists_of mid side) mid.waiters.next_ticket).ticket waker
 
-  -- how a future stands that waits on a side under this ticket, or is done
+  -- the standing of a future that waits on a side under this ticket, or is done
   abbrev Stands : Side → W → Option ℕ → Futures T P W → Type 0
   Stands side waker None future = future.standing ≡ Done
   Stands side waker (Some ticket) future = (side_of future.task ≡ side) × (future.standing ≡ Waiting ticket waker)

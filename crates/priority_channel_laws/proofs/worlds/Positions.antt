@@ -1,4 +1,4 @@
--- What stands at a position of a list that was mapped, or changed at one position.
+-- The element at a position of a list that was mapped, or changed at one position.
 use Rattle.std.proofs.Common.{◌≡◌, ◌≢◌, ℕ, ◌⊎◌, List, [], ◌∷◌, map, set, refl, ap, inl, inr, zero, suc}
 use Rattle.std.specs.Prelude.{Option, Some, slice_get}
 

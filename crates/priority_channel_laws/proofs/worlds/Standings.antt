@@ -1,4 +1,4 @@
--- A future ends, or waits: what this changes in a world.
+-- A future ends, or waits: the changes that this makes in a world.
 use Rattle.std.proofs.Common.{eq-eqb, ◌≡◌, ◌≢◌, ℕ, ◌<◌, ◌⊎◌, true, false, List, refl, ap, sym, ◌∙◌, inl, inr, arith}
 use Rattle.std.specs.Prelude.{Option, Some, None, slice_get, ◌==◌}
 use Rattle.std.specs.List.{All}
@@ -15,7 +15,7 @@ use Rattle.priority_channel_laws.proofs.worlds.Positions.{Some-same}
 use Rattle.priority_channel_laws.proofs.worlds.Lookups.{put, waker_of-without, waker_of-listing, waker_of-listed, ticket_listed}
 use Rattle.priority_channel_laws.proofs.worlds.Worlds.{Keeps, Changes}
 
--- the list of a side, once a given ticket has left it
+-- the list of a side, after a given ticket has left it
 gone : {W : Type 0} (xs : List (ℕ × W)) (given : Option ℕ) (t : ℕ) → given ≢ Some t → waker_of t (without_given given xs) ≡ waker_of t xs
 gone xs None t ne = refl
 gone xs (Some u) t ne = let n : (u == t) ≡ false = ne_eqb u t (λ e. ne (ap Some e)) in waker_of-without xs u t ∙ rw n refl

@@ -1,4 +1,4 @@
--- What each event keeps of the futures and the two waiting lists.
+-- What each event preserves of the futures and the two waiting lists.
 use Rattle.std.proofs.Common.{◌≡◌, ◌≢◌, ℕ, ◌<◌, ◌≤◌, ◌⊎◌, ◌||◌, Bool, true, false, List, [], ◌∷◌, set, refl, ap, sym, ◌∙◌, inl, inr, arith}
 use Rattle.std.specs.Prelude.{Some, None, slice_get}
 use Rattle.std.proofs.lemmas.Bool.Decides.{eqb_tells}
@@ -38,7 +38,7 @@ module _ {T P W : Type 0} (is_clone : W → W → Type 0) where
         → ticket_of f.standing ≡ Some t → ticket_of g.standing ≡ Some t → i ≡ j
 
   module _ (lists : Side → List (ℕ × W)) (next : ℕ) (futures : List (Futures T P W)) (keeps : Keeps lists next futures) where
-    -- a ticket that is listed on one side isn't listed on the other
+    -- a ticket that is listed on one side is not listed on the other
     other_side : (t : ℕ) (k l : W) → waker_of t (lists Room) ≡ Some k → waker_of t (lists Message) ≡ Some l → ⊥
     other_side t k l h j =
         let a = keeps.listed Room t k h in
@@ -58,7 +58,7 @@ module _ {T P W : Type 0} (is_clone : W → W → Type 0) where
           | inr e ↦ let r = e.0 in rw r (unlisted_by t xs (λ k j. h k (rw r j)))
         ]
 
-    -- those who are handed out are called
+    -- the woken futures are `Called`
     pub keeps-call_out : (handed : Handed W) (lists' : Side → List (ℕ × W)) → ((side : Side) → StaysOrLeaves (lists side) (handed_of side handed) (lists' side))
         → Keeps lists' next (call_out handed futures)
     keeps-call_out handed lists' stays = record {
@@ -115,7 +115,7 @@ module _ {T P W : Type 0} (is_clone : W → W → Type 0) where
               | inr s ↦ let n : None ≡ Some k = rw s.0 at here in absurd (cc)
             ]
 
-        -- a side whose list stays hands out nobody
+        -- a side whose list stays wakes no waiter
         stays_unlisted : (side : Side) (t : ℕ) (k : W) → waker_of t (lists' side) ≡ Some k → is_listed t (handed_of side handed) ≡ false
         stays_unlisted side t k here =
             elim (stays side) [
@@ -134,7 +134,7 @@ module _ {T P W : Type 0} (is_clone : W → W → Type 0) where
         not_handed Room t k here was = or-false _ _ (stays_unlisted Room t k here) (other_unlisted Message t (λ l h. other_side t k l was h))
         not_handed Message t k here was = or-false _ _ (other_unlisted Room t (λ l h. other_side t l k h was)) (stays_unlisted Message t k here)
 
-    -- who was handed out, on whichever side, was handed out with the clone of its waker
+    -- a waiter that was woken, on either side, was woken with the clone of its waker
     pub handed_kept : (handed : Handed W) (lists' : Side → List (ℕ × W)) → ((side : Side) → StaysOrLeaves (lists side) (handed_of side handed) (lists' side))
         → (side : Side) (t : ℕ) (k : W) → waker_of t (lists side) ≡ Some k → is_handed t handed ≡ true
         → (waker_of t handed.room ≡ Some k) ⊎ (waker_of t handed.message ≡ Some k)
@@ -159,7 +159,7 @@ module _ {T P W : Type 0} (is_clone : W → W → Type 0) where
           ]
         ]
 
-    -- where a called future stood before
+    -- the standing of a `Called` future before
     pub called_from : (handed : Handed W) (lists' : Side → List (ℕ × W)) → ((side : Side) → StaysOrLeaves (lists side) (handed_of side handed) (lists' side))
         → (i : ℕ) (g : Futures T P W) (t : ℕ) (w : W) → slice_get (call_out handed futures) i ≡ Some g → g.standing ≡ Called t w
         → (f : Futures T P W) × (slice_get futures i ≡ Some f)
@@ -174,7 +174,7 @@ module _ {T P W : Type 0} (is_clone : W → W → Type 0) where
           ],
         )
 
-    -- one future gets a new standing, and the lists change at its tickets alone
+    -- one future gets a new standing, and the lists change only at its tickets
     module _ (i : ℕ) (f g : Futures T P W) (at : slice_get futures i ≡ Some f) (lists' : Side → List (ℕ × W)) (next' : ℕ) where
       pub record Changes : Type 0 where
         pub grows : next ≤ next'
@@ -185,7 +185,7 @@ module _ {T P W : Type 0} (is_clone : W → W → Type 0) where
             ⊎ ((w : W) × (side_of g.task ≡ side) × (g.standing ≡ Waiting t w) × is_clone w k)
         pub ticket : (t : ℕ) → ticket_of g.standing ≡ Some t → (t < next') × ((ticket_of f.standing ≡ Some t) ⊎ (next ≤ t))
 
-      -- another future doesn't have the changed one's ticket
+      -- another future does not have the ticket of the changed one
       not_own : (j : ℕ) (h : Futures T P W) (t : ℕ) → i ≢ j → slice_get futures j ≡ Some h → ticket_of h.standing ≡ Some t → ticket_of f.standing ≢ Some t
       not_own j h t ne there has = λ mine. ne (keeps.differ i j f h t at there mine has)
 

@@ -1,5 +1,5 @@
 use Rattle.async_priority_channel.proofs.shared.Handle.wait_as_first.Given as goal
 
--- what is left of the call came back of it, and may be attempted
+-- the rest of the call came back of the call, and may be attempted
 abbrev pub invariant-loop : goal.invariant-loop
 invariant-loop g l = g.C.Attempt.can_attempt l.rest × g.C.Attempt.leaves l.fn.call l.rest

@@ -21,7 +21,7 @@ use Rattle.priority_channel_bag.proofs.comparisons.Comparisons.TheLaws.{lowered}
 abbrev stayed : Stays f.ended.signature.params f.ended.kept
 stayed = tt
 
--- No contract reads where a count begins: any number would do.
+-- No contract reads where a count begins, so any number would do.
 abbrev first_count : R.Denot
 first_count = record { seal = tt; count = 0 }
 

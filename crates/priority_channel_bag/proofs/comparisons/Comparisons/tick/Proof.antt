@@ -29,7 +29,7 @@ one_more c = record c { count = c.count + 1 }
 abbrev owned : Lft → MutBor R.Denot → Fml
 owned κ r = (MutRef (named 0) κ R).own_val r (mut_vals r)
 
--- No code counts. The count stands beside memory of no bytes, so the proof alone changes it, while
+-- No code counts. The count stands beside memory of no bytes, so only the proof changes it, while
 -- the borrow is open.
 counted : {M : Type 1} {𝓤 : Ura M} (𝓛 : Logic 𝓤) (κ : Lft) (q : Share) (r : MutBor R.Denot)
     → ent 𝓤 (sep 𝓤 (sem 𝓛 (owned κ r)) (sem 𝓛 (flft κ q))) (𝓛.H.⇛ (sep 𝓤 (sem 𝓛 (owned κ (record r { now = one_more r.now }))) (sem 𝓛 (flft κ q))))

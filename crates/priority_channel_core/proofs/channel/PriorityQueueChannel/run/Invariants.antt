@@ -6,7 +6,7 @@ use Rattle.priority_channel_core.specs.code.Allowed.{AllowsRun}
 use Rattle.priority_channel_core.specs.code.Calls.{MayCall, RunsFront}
 use Rattle.priority_channel_core.proofs.channel.PriorityQueueChannel.run.Given as goal
 
--- the calls are kept in reverse, so that the next one is at the end
+-- the calls are kept in reverse, so that the next call is at the end
 abbrev pub invariant-loop-done : goal.invariant-loop-done
 invariant-loop-done g l = record {
   allowed : AllowsRun l.self.state (reverse l.calls.items);
