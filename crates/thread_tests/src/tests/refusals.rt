@@ -2,7 +2,7 @@
 use super::parties::{Party, SIDES, TIMED, block, call_of, done, is_bulk, long, refused, waits};
 use super::watch::Watch;
 use super::{Host, expect_equal_at, expect_true, let_others_wait};
-use async_priority_channel::bounded;
+use async_priority_channel::{bounded, bounded_reserved};
 use driver::calls::{Call, Side, Way};
 use driver::reply::Outcome;
 use refusing::Refusing;
@@ -120,6 +120,32 @@ fn a_loop_goes_on_without_memory(rt: HostRuntime) {
         // One request a millisecond, or fewer on a busy machine.
         expect_equal_at(&rt, (call, asked), 5 < asked && asked < 500, true);
     }
+}
+
+// It keeps its waiter, and the lists keep their memory: only its first wait asks for any.
+#[test]
+fn a_loop_keeps_its_waiter(rt: HostRuntime) {
+    let alloc = Refusing::new(rt.alloc());
+    let (tx, rx) = bounded_reserved(&rt, &alloc, 16).expect(&rt, "a channel");
+    let watch = Watch::begin(&rt, "a loop that waits again and again", ());
+    let (received, asked) = thread::join(
+        &rt,
+        || rx.iter().take(16).count(),
+        || {
+            let mut before = 0;
+            for round in 0..16u64 {
+                let_others_wait(&rt);
+                if round == 4 {
+                    before = alloc.count();
+                }
+                expect_true(&rt, tx.try_send(round, round).is_ok(), "there is room");
+            }
+            alloc.count().saturating_sub(before)
+        },
+    );
+    watch.end(&rt);
+    // On a busy machine its first wait may come late.
+    expect_equal_at(&rt, asked, (received, asked < 4), (16, true));
 }
 
 // A wait that is over has left the list. So the next ones find the list's memory there, and ask for
