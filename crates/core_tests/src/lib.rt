@@ -10,3 +10,4 @@
 
 #[cfg(test)]
 mod tests;
+pub mod uses;

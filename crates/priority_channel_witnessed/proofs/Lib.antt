@@ -6,3 +6,4 @@ pub mod Adding
 pub mod Accounts
 pub mod Leaving
 pub mod Waits
+pub mod Steps

@@ -5,3 +5,4 @@ pub mod Log
 pub mod Passes
 pub mod Waits
 pub mod Futures
+pub mod Uses

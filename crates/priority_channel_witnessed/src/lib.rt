@@ -12,6 +12,7 @@ pub mod laws;
 mod log;
 mod numbers;
 mod pass;
+pub mod uses;
 pub mod waiting;
 mod witnessed;
 

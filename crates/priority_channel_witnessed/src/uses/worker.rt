@@ -1,9 +1,9 @@
 //! A worker that takes the most urgent job.
 ghost use Rattle.std.specs.Prelude.{◌≡◌, IfOk};
-ghost use Rattle.witnesses.specs.Witness.{WasMostUrgent};
+ghost use Rattle.priority_channel_witnessed.specs.Uses.{WasMostUrgent};
 
+use crate::{Pass, Recording, Witnessed};
 use priority_channel_core::errors::TryRecvError;
-use priority_channel_witnessed::{Pass, Recording, Witnessed};
 use std::alloc::Allocator;
 use std::sync::Wait;
 

@@ -12,7 +12,7 @@ use Rattle.priority_channel_core.specs.code.Replies.{OnFull}
 use Rattle.priority_channel_witnessed.specs.History.{entry}
 use Rattle.priority_channel_witnessed.specs.Passes.{Carried, IsTold}
 use Rattle.priority_channel_witnessed.proofs.Histories.{told_step}
-use Rattle.witnesses.specs.Witness.{WasMostUrgent, WasFull}
+use Rattle.priority_channel_witnessed.specs.Uses.{WasMostUrgent, WasFull}
 
 module _ {T P W : Type 0} (cmp : P → P → Ordering) (is_clone : W → W → Type 0) (capacity : ℕ) (is_reserved : Bool)
     (old new : Carried T P W) (who : ℕ) (handed : Handed W) where

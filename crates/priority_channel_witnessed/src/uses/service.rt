@@ -1,10 +1,10 @@
 //! A service that takes requests in as long as there is room.
 ghost use Rattle.std.specs.Prelude.{◌≡◌};
 ghost use Rattle.priority_channel_core.specs.code.Replies.{OnFull};
-ghost use Rattle.witnesses.specs.Witness.{WasFull};
+ghost use Rattle.priority_channel_witnessed.specs.Uses.{WasFull};
 
+use crate::{Pass, Recording, Witnessed};
 use priority_channel_core::errors::TrySendError;
-use priority_channel_witnessed::{Pass, Recording, Witnessed};
 use std::alloc::Allocator;
 use std::sync::Wait;
 

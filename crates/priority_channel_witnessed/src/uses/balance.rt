@@ -4,8 +4,8 @@ ghost use Rattle.std.specs.List.Sorted.{IsPermutation};
 ghost use Rattle.priority_channel_laws.specs.Accepted.{accepted_in, received_in, displaced_in, taken_in};
 ghost use Rattle.priority_channel_witnessed.specs.History.{operation_of};
 
+use crate::{Pass, Recording, Seen, Witnessed};
 use priority_channel_core::channel::PriorityQueueChannel;
-use priority_channel_witnessed::{Pass, Recording, Seen, Witnessed};
 use std::alloc::Allocator;
 use std::sync::Wait;
 

@@ -1,0 +1,10 @@
+//! Callers that prove what a reply meant, whatever other threads did: a worker, a service, and the
+//! end of a channel. Each has a proof of a few lines; begin yours from one of them.
+
+mod balance;
+mod service;
+mod worker;
+
+pub use balance::settle;
+pub use service::accept;
+pub use worker::take;
