@@ -1,5 +1,5 @@
 //! Futures, which hold their pass until they answer.
-ghost use Rattle.std.specs.Prelude.{◌≡◌, false};
+ghost use Rattle.std.specs.Prelude.{◌≡◌, false, true};
 ghost use Rattle.priority_channel_witnessed.specs.Log.{names};
 
 use crate::tests::expect_equal;
@@ -9,6 +9,7 @@ use priority_channel_core::errors::{RecvError, RecvFault, SendError, SendFault};
 use priority_channel_witnessed::{
     Fresh, Pass, PriorityQueueChannel, Recording, Waiter, Witnessed, wake_all,
 };
+use refusing::Refusing;
 use std::alloc::{AllocGlobal, Global};
 use std::marker::Brand;
 use std::process::Abort;
@@ -21,20 +22,24 @@ type Channel<J> = Witnessed<u64, u64, Waiter<Global>, J>;
 type Caller<J> = Pass<u64, u64, Waiter<Global>, J>;
 
 // A send and a receive that need not wait, and each of the three futures after a close, of which
-// the bulk send gives back what was not sent.
-fn answer<J: Recording, R: Wait + RandomSource + AllocGlobal + Abort>(
+// the bulk send gives back what was not sent. None of them asks for memory to wait.
+fn answer<'a, J: Recording, R: Wait + RandomSource + AllocGlobal + Abort>(
     rt: &R,
-    fresh: Fresh<u64, u64, Waiter<Global>>,
+    alloc: &'a Refusing<Global>,
+    fresh: Fresh<u64, u64, Waiter<&'a Refusing<Global>>>,
 )
     requires names { fresh ≡ names J.log J.capacity J.is_reserved J.name J.parts }
     requires capacity { fresh.capacity ≡ 1 }
-    requires reserved { fresh.is_reserved ≡ false }
+    requires reserved { fresh.is_reserved ≡ true }
     requires passes { fresh.passes ≡ 1 }
 {
-    let core = PriorityQueueChannel::bounded(rt.alloc(), 1);
-    let made = Channel::<J>::new(rt.alloc(), fresh, core, 1);
+    let core = PriorityQueueChannel::bounded_reserved(alloc, 1).expect(rt, "a core");
+    let made = Witnessed::<u64, u64, Waiter<&'a Refusing<Global>>, J, _>::new(
+        alloc, fresh, core, 1,
+    );
     let (channel, mut passes) = made.expect(rt, "a channel");
     let pass = passes.pop().expect(rt, "a pass");
+    alloc.refuse_nth(1);
     let (sent, pass) = block_on(rt, channel.send(rt, pass, 7, 1)).expect(rt, "an executor");
     expect_equal(rt, sent, Ok(()));
     let (received, pass) = block_on(rt, channel.recv(rt, pass)).expect(rt, "an executor");
@@ -55,13 +60,15 @@ fn answer<J: Recording, R: Wait + RandomSource + AllocGlobal + Abort>(
     let mut rest = fault.into_inner();
     let rest = [rest.next(), rest.next(), rest.next()];
     expect_equal(rt, rest, [Some((9, 3)), Some((10, 4)), None]);
+    expect_equal(rt, alloc.refuse_none(), true);
     passes.push(pass).expect(rt, "its own place");
     channel.end(rt, passes);
 }
 
 #[test]
 fn futures_answer(rt: HostRuntime) {
-    answer::<Brand, _>(&rt, Fresh::new(1, false, 1));
+    let alloc = Refusing::new(rt.alloc());
+    answer::<Brand, _>(&rt, &alloc, Fresh::new(1, true, 1));
 }
 
 // A receive and a send wait, each with a pass that comes where the one before has left, and are
