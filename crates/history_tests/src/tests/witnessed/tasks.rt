@@ -39,6 +39,7 @@ fn answer<'a, J: Recording, R: Wait + RandomSource + AllocGlobal + Abort>(
     );
     let (channel, mut passes) = made.expect(rt, "a channel");
     let pass = passes.pop().expect(rt, "a pass");
+    let pairs = Vec::from_array(alloc, [(9u64, 3u64), (10, 4)]).expect(rt, "memory");
     alloc.refuse_nth(1);
     let (sent, pass) = block_on(rt, channel.send(rt, pass, 7, 1)).expect(rt, "an executor");
     expect_equal(rt, sent, Ok(()));
@@ -51,7 +52,6 @@ fn answer<'a, J: Recording, R: Wait + RandomSource + AllocGlobal + Abort>(
     expect_equal(rt, unsent, Err(SendFault::Closed(SendError((8, 2)))));
     let (closed, pass) = block_on(rt, channel.recv(rt, pass)).expect(rt, "an executor");
     expect_equal(rt, closed, Err(RecvFault::Closed(RecvError)));
-    let pairs = Vec::from_array(rt.alloc(), [(9u64, 3u64), (10, 4)]).expect(rt, "memory");
     let sending = channel.sendv(rt, pass, pairs.into_iter().peekable());
     let (unsent, pass) = block_on(rt, sending).expect(rt, "an executor");
     let Err(fault) = unsent else {
