@@ -5,7 +5,8 @@ mod refusals;
 mod terminal;
 
 use crate::run::prio_run;
-use std::alloc::{AllocError, Global};
+use std::alloc::AllocGlobal;
+use std::fmt::Debug;
 use std::process::Abort;
 use std::sync::Wait;
 
@@ -13,13 +14,18 @@ const EXAMPLE: &str = "reserved 1\nsend 5 x\nsend 9 y\nrecv\nrecv\n";
 
 const EXAMPLE_ANSWERS: [&str; 5] = ["ok\n", "ok\n", "full\n", "x 5\n", "empty\n"];
 
-// The answers to the first so many lines of the example.
-fn first_answers(alloc: Global, lines: usize) -> Result<String, AllocError> {
-    let mut answers = String::new(alloc);
+/// What a test asks of its runtime.
+trait Host: Abort + Wait + Clone + AllocGlobal {}
+
+impl<R: Abort + Wait + Clone + AllocGlobal> Host for R {}
+
+// The answers to the first lines of the example.
+fn first_answers<R: Host>(rt: &R, lines: usize) -> String {
+    let mut answers = String::new(rt.alloc());
     for answer in EXAMPLE_ANSWERS.iter().take(lines) {
-        answers.push_str(answer)?;
+        answers.push_str(answer).expect(rt, "memory");
     }
-    Ok(answers)
+    answers
 }
 
 // The answers and the faults are text.
@@ -27,20 +33,47 @@ fn as_text(bytes: &[u8]) -> &str {
     str::from_utf8(bytes).unwrap_or("not a text")
 }
 
-fn assert_run(
-    rt: &(impl Abort + Wait + Clone),
-    alloc: Global,
-    script: &[u8],
-    status: u8,
-    answers: &str,
-    faults: &str,
+fn count_lines(text: &[u8]) -> usize {
+    text.iter().filter(|b| **b == b'\n').count()
+}
+
+/// `assert!`, proved once: each one in place takes a second of the check.
+fn expect_true<N: Debug + Drop>(rt: &impl Abort, round: N, holds: bool) {
+    assert!(rt; holds, "at {round:?}");
+}
+
+/// `assert_eq!`, proved once.
+fn expect_equal<N: Debug + Drop, X: PartialEq + Debug + Drop>(
+    rt: &impl Abort,
+    round: N,
+    got: X,
+    wanted: X,
 ) {
-    let mut answered = Vec::new(alloc);
-    let mut told = Vec::new(alloc);
-    let ended = prio_run(rt, alloc, script, &mut answered, &mut told);
-    assert_eq!(rt; as_text(&answered), answers, "{}", as_text(script));
-    assert_eq!(rt; as_text(&told), faults, "{}", as_text(script));
-    assert_eq!(rt; ended, status, "{}", as_text(script));
+    assert_eq!(rt; got, wanted, "at {round:?}");
+}
+
+/// How a run ended, what it answered, and what it told of faults.
+fn expect_run<N: Debug + Drop>(
+    rt: &impl Abort,
+    round: N,
+    ended: (u8, &[u8], &[u8]),
+    wanted: (u8, &str, &str),
+) {
+    let (status, answers, faults) = ended;
+    expect_equal(
+        rt,
+        round,
+        (status, as_text(answers), as_text(faults)),
+        wanted,
+    );
+}
+
+fn assert_run<R: Host>(rt: &R, script: &[u8], status: u8, answers: &str, faults: &str) {
+    let mut answered = Vec::new(rt.alloc());
+    let mut told = Vec::new(rt.alloc());
+    let ended = prio_run(rt, rt.alloc(), script, &mut answered, &mut told);
+    let ended = (ended, answered.as_slice(), told.as_slice());
+    expect_run(rt, as_text(script), ended, (status, answers, faults));
 }
 
 #[test]
@@ -118,51 +151,54 @@ fn answers_each_line(rt: HostRuntime) {
         ("bounded 18446744073709551615\ncapacity\n", "ok\nnone\n"),
     ];
     for (script, answers) in cases {
-        assert_run(&rt, rt.alloc(), script.as_bytes(), 0, answers, "");
+        assert_run(&rt, script.as_bytes(), 0, answers, "");
     }
 }
 
 #[test]
 fn has_no_memory_for_the_largest_capacity(rt: HostRuntime) {
     let script = b"reserved 9223372036854775807\nrecv\n";
-    assert_run(&rt, rt.alloc(), script, 3, "", "line 1: no memory\n");
+    assert_run(&rt, script, 3, "", "line 1: no memory\n");
 }
 
 // Longer than the buffers are.
-fn long_word(alloc: Global) -> Result<String, AllocError> {
-    let mut word = String::new(alloc);
+fn long_word<R: Host>(rt: &R) -> String {
+    let mut word = String::new(rt.alloc());
     for _ in 0..20_000 {
-        word.push_str("0123456789")?;
+        word.push_str("0123456789").expect(rt, "memory");
     }
-    Ok(word)
+    word
+}
+
+// A text of pieces, one after another.
+fn joined<R: Host>(rt: &R, pieces: &[&str]) -> String {
+    let mut text = String::new(rt.alloc());
+    for piece in pieces {
+        text.push_str(piece).expect(rt, "memory");
+    }
+    text
 }
 
 #[test]
-fn reads_lines_of_any_length(rt: HostRuntime) -> Result<(), AllocError> {
-    let word = long_word(rt.alloc())?;
-    let script = format!(in rt.alloc(); "reserved 2\nsend 7 {word}\nsend 8 {word}\nrecv\nrecv\n")?;
-    let answers = format!(in rt.alloc(); "ok\nok\nok\n{word} 8\n{word} 7\n")?;
-    assert_run(&rt, rt.alloc(), script.as_bytes(), 0, &answers, "");
-    let script = format!(in rt.alloc(); "reserved 2\nsend 7 {word} {word}\nrecv\n")?;
-    assert_run(
-        &rt,
-        rt.alloc(),
-        script.as_bytes(),
-        2,
-        "ok\n",
-        "line 2: not a call\n",
-    );
-    Ok(())
+fn reads_lines_of_any_length(rt: HostRuntime) {
+    let word = long_word(&rt);
+    let word = word.as_str();
+    let (seven, eight) = ("reserved 2\nsend 7 ", "\nsend 8 ");
+    let script = joined(&rt, &[seven, word, eight, word, "\nrecv\nrecv\n"]);
+    let answers = joined(&rt, &["ok\nok\nok\n", word, " 8\n", word, " 7\n"]);
+    assert_run(&rt, script.as_bytes(), 0, answers.as_str(), "");
+    let script = joined(&rt, &[seven, word, " ", word, "\nrecv\n"]);
+    assert_run(&rt, script.as_bytes(), 2, "ok\n", "line 2: not a call\n");
 }
 
 #[test]
-fn reads_long_bulk_sends(rt: HostRuntime) -> Result<(), AllocError> {
-    let mut script = "bounded 6000\nsendv".to_string(rt.alloc())?;
-    for i in 0..10_000 {
-        script.push_str(&format!(in rt.alloc(); " {i} w{i}")?)?;
+fn reads_long_bulk_sends(rt: HostRuntime) {
+    let mut script = joined(&rt, &["bounded 6000\nsendv"]);
+    for i in 0..10_000u64 {
+        let pair = format!(in rt.alloc(); " {i} w{i}").expect(&rt, "memory");
+        script.push_str(pair.as_str()).expect(&rt, "memory");
     }
-    script.push_str("\nlen\nrecv\n")?;
+    script.push_str("\nlen\nrecv\n").expect(&rt, "memory");
     let answers = "ok\nfull 4000\n6000\nw5999 5999\n";
-    assert_run(&rt, rt.alloc(), script.as_bytes(), 0, answers, "");
-    Ok(())
+    assert_run(&rt, script.as_bytes(), 0, answers, "");
 }

@@ -1,11 +1,11 @@
 //! A failed read or write ends the script, and what came before stays told.
-use super::{EXAMPLE, as_text, first_answers, long_word};
+use super::{
+    EXAMPLE, Host, expect_equal, expect_run, expect_true, first_answers, joined, long_word,
+};
 use crate::run::prio_run;
-use std::alloc::{AllocError, Global};
+use std::alloc::Global;
 use std::io;
 use std::io::{ErrorKind, Read, Write};
-use std::process::Abort;
-use std::sync::Wait;
 
 // Gives three bytes at a time, so that no two lines end in one read. One read fails, and those
 // after it do not.
@@ -53,7 +53,7 @@ fn lines_in(pieces: usize) -> usize {
 }
 
 #[test]
-fn stops_at_a_failed_read(rt: HostRuntime) -> Result<(), AllocError> {
+fn stops_at_a_failed_read(rt: HostRuntime) {
     for n in 0..READS + 1 {
         let mut answers = Vec::new(rt.alloc());
         let mut faults = Vec::new(rt.alloc());
@@ -64,31 +64,24 @@ fn stops_at_a_failed_read(rt: HostRuntime) -> Result<(), AllocError> {
         } else {
             (0, "")
         };
-        assert_eq!(rt; status, wanted, "at read {n}");
-        assert_eq!(rt; as_text(&faults), told, "at read {n}");
-        let answered = first_answers(rt.alloc(), lines_in(n))?;
-        assert_eq!(rt; as_text(&answers), answered.as_str(), "at read {n}");
+        let answered = first_answers(&rt, lines_in(n));
+        let ended = (status, answers.as_slice(), faults.as_slice());
+        expect_run(&rt, n, ended, (wanted, answered.as_str(), told));
     }
-    Ok(())
 }
 
 #[test]
-fn tries_an_interrupted_read_again(rt: HostRuntime) -> Result<(), AllocError> {
-    let all = first_answers(rt.alloc(), 5)?;
+fn tries_an_interrupted_read_again(rt: HostRuntime) {
+    let all = first_answers(&rt, 5);
     for n in 0..READS {
         let mut answers = Vec::new(rt.alloc());
         let mut faults = Vec::new(rt.alloc());
         let mut input = ShortReader::new(n, ErrorKind::Interrupted);
         let status = prio_run(&rt, rt.alloc(), &mut input, &mut answers, &mut faults);
-        assert!(rt;
-            input.reads_before_failure > READS,
-            "read {n} was not interrupted"
-        );
-        assert_eq!(rt; status, 0, "at read {n}");
-        assert!(rt; faults.is_empty(), "at read {n}");
-        assert_eq!(rt; as_text(&answers), all.as_str(), "at read {n}");
+        expect_true(&rt, n, input.reads_before_failure > READS);
+        let ended = (status, answers.as_slice(), faults.as_slice());
+        expect_run(&rt, n, ended, (0, all.as_str(), ""));
     }
-    Ok(())
 }
 
 // Fails at one write or one flush.
@@ -138,52 +131,50 @@ impl Write for FailingWriter {
     }
 }
 
-fn assert_stops_at_failure(
-    rt: &(impl Abort + Wait + Clone),
-    alloc: Global,
-    mut answers: FailingWriter,
-    answered: usize,
-) -> Result<(), AllocError> {
-    let mut faults = Vec::new(alloc);
+fn assert_stops_at_failure<R: Host>(rt: &R, mut answers: FailingWriter, answered: usize) {
+    let mut faults = Vec::new(rt.alloc());
     let input = ShortReader::new(usize::MAX, ErrorKind::Other);
-    let status = prio_run(rt, alloc, input, &mut answers, &mut faults);
-    assert_eq!(rt; status, 4);
-    assert_eq!(rt; as_text(&faults), "input or output failed\n");
-    assert_eq!(rt;
-        as_text(&answers.written),
-        first_answers(alloc, answered)?.as_str()
+    let status = prio_run(rt, rt.alloc(), input, &mut answers, &mut faults);
+    let wanted = first_answers(rt, answered);
+    let ended = (status, answers.written.as_slice(), faults.as_slice());
+    expect_run(
+        rt,
+        answered,
+        ended,
+        (4, wanted.as_str(), "input or output failed\n"),
     );
-    assert!(rt; answers.has_failed);
-    assert!(rt; !answers.was_called_again);
-    Ok(())
+    expect_true(
+        rt,
+        answered,
+        answers.has_failed && !answers.was_called_again,
+    );
 }
 
 #[test]
-fn stops_at_a_failed_write(rt: HostRuntime) -> Result<(), AllocError> {
+fn stops_at_a_failed_write(rt: HostRuntime) {
     // Each answer is written by itself, since the reader gives less than two lines at a time.
     for n in 0..5 {
         let answers = FailingWriter::new(rt.alloc(), n, usize::MAX);
-        assert_stops_at_failure(&rt, rt.alloc(), answers, n)?;
+        assert_stops_at_failure(&rt, answers, n);
     }
-    Ok(())
 }
 
 #[test]
-fn stops_at_a_failed_flush(rt: HostRuntime) -> Result<(), AllocError> {
+fn stops_at_a_failed_flush(rt: HostRuntime) {
     // Before each read, and at the end.
     for n in 0..READS + 1 {
         let answers = FailingWriter::new(rt.alloc(), usize::MAX, n);
-        assert_stops_at_failure(&rt, rt.alloc(), answers, lines_in(n))?;
+        assert_stops_at_failure(&rt, answers, lines_in(n));
     }
-    Ok(())
 }
 
 // Such an answer is written past the buffer, while the line is answered.
 #[test]
-fn stops_at_a_failed_write_of_a_long_answer(rt: HostRuntime) -> Result<(), AllocError> {
-    let word = long_word(rt.alloc())?;
-    let script = format!(in rt.alloc(); "reserved 1\nsend 5 {word}\nrecv\nrecv\n")?;
-    let all = format!(in rt.alloc(); "ok\nok\n{word} 5\nempty\n")?;
+fn stops_at_a_failed_write_of_a_long_answer(rt: HostRuntime) {
+    let word = long_word(&rt);
+    let word = word.as_str();
+    let script = joined(&rt, &["reserved 1\nsend 5 ", word, "\nrecv\nrecv\n"]);
+    let all = joined(&rt, &["ok\nok\n", word, " 5\nempty\n"]);
     let mut has_stopped_before_word = false;
     let mut has_met_none = false;
     for n in 0..100 {
@@ -196,22 +187,17 @@ fn stops_at_a_failed_write_of_a_long_answer(rt: HostRuntime) -> Result<(), Alloc
             &mut answers,
             &mut faults,
         );
-        assert!(rt;
-            all.as_bytes().starts_with(&answers.written),
-            "at write {n}"
-        );
-        assert!(rt; !answers.was_called_again, "at write {n}");
+        let is_front = all.as_bytes().starts_with(&answers.written);
+        expect_true(&rt, n, is_front && !answers.was_called_again);
         if !answers.has_failed {
-            assert_eq!(rt; status, 0);
-            assert_eq!(rt; answers.written.len(), all.len());
+            expect_equal(&rt, n, (status, answers.written.len()), (0, all.len()));
             has_met_none = true;
             break;
         }
-        assert_eq!(rt; status, 4, "at write {n}");
-        has_stopped_before_word |= as_text(&answers.written) == "ok\nok\n";
+        expect_equal(&rt, n, status, 4);
+        has_stopped_before_word |= answers.written.len() == "ok\nok\n".len();
     }
-    assert!(rt; has_stopped_before_word && has_met_none);
-    Ok(())
+    expect_true(&rt, "the end", has_stopped_before_word && has_met_none);
 }
 
 #[test]
@@ -222,8 +208,7 @@ fn keeps_the_status_that_it_cannot_explain(rt: HostRuntime) {
         let mut answers = Vec::new(rt.alloc());
         let mut faults = FailingWriter::new(rt.alloc(), 0, 0);
         let status = prio_run(&rt, rt.alloc(), script, &mut answers, &mut faults);
-        assert!(rt; faults.has_failed);
-        assert_eq!(rt; status, wanted);
+        expect_equal(&rt, wanted, (faults.has_failed, status), (true, wanted));
     }
     let mut answers = FailingWriter::new(rt.alloc(), 0, 0);
     let mut faults = FailingWriter::new(rt.alloc(), 0, 0);
@@ -234,6 +219,5 @@ fn keeps_the_status_that_it_cannot_explain(rt: HostRuntime) {
         &mut answers,
         &mut faults,
     );
-    assert!(rt; faults.has_failed);
-    assert_eq!(rt; status, 4);
+    expect_equal(&rt, "the example", (faults.has_failed, status), (true, 4));
 }

@@ -1,6 +1,5 @@
 //! Lines that are no calls end the script.
 use super::assert_run;
-use std::alloc::AllocError;
 
 #[test]
 fn refuses_other_first_lines(rt: HostRuntime) {
@@ -44,12 +43,12 @@ fn refuses_other_first_lines(rt: HostRuntime) {
         b"sendv\n",
     ];
     for line in lines {
-        assert_run(&rt, rt.alloc(), line, 2, "", "line 1: not a call\n");
+        assert_run(&rt, line, 2, "", "line 1: not a call\n");
     }
 }
 
 #[test]
-fn refuses_other_lines(rt: HostRuntime) -> Result<(), AllocError> {
+fn refuses_other_lines(rt: HostRuntime) {
     let lines: [&[u8]; 59] = [
         b"\n",
         b"recv\r",
@@ -114,22 +113,14 @@ fn refuses_other_lines(rt: HostRuntime) -> Result<(), AllocError> {
     let openings: [&[u8]; 2] = [b"reserved 1\n", b"bounded 1\n"];
     for line in lines {
         for opening in openings {
-            let mut script = opening.to_vec(rt.alloc())?;
-            script.extend_from_slice(line)?;
-            assert_run(&rt, rt.alloc(), &script, 2, "ok\n", "line 2: not a call\n");
+            let mut script = opening.to_vec(rt.alloc()).expect(&rt, "memory");
+            script.extend_from_slice(line).expect(&rt, "memory");
+            assert_run(&rt, &script, 2, "ok\n", "line 2: not a call\n");
             // What follows is not looked at.
-            script.extend_from_slice(b"\nrecv\n")?;
-            assert_run(&rt, rt.alloc(), &script, 2, "ok\n", "line 2: not a call\n");
+            script.extend_from_slice(b"\nrecv\n").expect(&rt, "memory");
+            assert_run(&rt, &script, 2, "ok\n", "line 2: not a call\n");
         }
     }
     let script = b"bounded 2\nsend 1 a\nhello\nlen\n";
-    assert_run(
-        &rt,
-        rt.alloc(),
-        script,
-        2,
-        "ok\nok\n",
-        "line 3: not a call\n",
-    );
-    Ok(())
+    assert_run(&rt, script, 2, "ok\nok\n", "line 3: not a call\n");
 }

@@ -1,5 +1,5 @@
 //! Each answer is there before the next line is waited for.
-use super::{EXAMPLE, as_text};
+use super::{EXAMPLE, expect_run};
 use crate::run::prio_run;
 use std::cell::RefCell;
 use std::io;
@@ -53,9 +53,8 @@ fn answers_before_it_waits_for_the_next_line(rt: HostRuntime) {
     };
     let mut faults = Vec::new(rt.alloc());
     let status = prio_run(&rt, rt.alloc(), input, &mut Screen(&shown), &mut faults);
-    assert_eq!(rt; status, 0);
-    assert_eq!(rt;
-        as_text(&shown.into_inner()),
-        "reserved 1\nok\nsend 5 x\nok\nsend 9 y\nfull\nrecv\nx 5\nrecv\nempty\n"
-    );
+    let shown = shown.into_inner();
+    let ended = (status, shown.as_slice(), faults.as_slice());
+    let wanted = "reserved 1\nok\nsend 5 x\nok\nsend 9 y\nfull\nrecv\nx 5\nrecv\nempty\n";
+    expect_run(&rt, "the screen", ended, (0, wanted, ""));
 }

@@ -1,7 +1,7 @@
 //! What a script asks of a handle.
 ghost use Rattle.std.specs.Iterator.{IsFinite};
 
-use super::words::{Host, Text, letter, number, pairs, told, told_sent, told_sent_all};
+use super::words::{Host, Text, joined, letter, number, pairs, told, told_sent, told_sent_all};
 use async_priority_channel::{Receiver, Sender, WeakReceiver, WeakSender};
 use std::alloc::{AllocError, Allocator};
 use std::time::Duration;
@@ -27,18 +27,21 @@ fn told_looks(
     are_true: [bool; 3],
     handles: (usize, usize),
 ) -> String {
-    let mut words = String::new(rt.alloc());
+    let most = match capacity {
+        Some(most) => told(rt, most),
+        None => joined(rt, &["any"]),
+    };
+    let mut text = joined(rt, &[told(rt, len).as_str(), " of ", most.as_str(), " "]);
     for (is_true, word) in are_true.into_iter().zip(["empty ", "full ", "closed "]) {
         if is_true {
-            words.push_str(word).expect(rt, "memory");
+            text.push_str(word).expect(rt, "memory");
         }
     }
-    let (senders, receivers) = handles;
-    let text: Result<String, AllocError> = match capacity {
-        Some(most) => format!(in rt.alloc(); "{len} of {most} {words}{senders}+{receivers}"),
-        None => format!(in rt.alloc(); "{len} of any {words}{senders}+{receivers}"),
-    };
-    text.expect(rt, "memory")
+    let (senders, receivers) = (told(rt, handles.0), told(rt, handles.1));
+    joined(
+        rt,
+        &[text.as_str(), senders.as_str(), "+", receivers.as_str()],
+    )
 }
 
 /// What the handle tells of its channel. A weak one tells no more than whether it is closed, and can
@@ -59,9 +62,9 @@ pub fn look<R: Host, A: Allocator + Copy>(rt: &R, handle: &Handle<R, A>, wanted:
         Handle::WeakReceiver(weak) => (weak.is_closed(), weak.upgrade().is_some()),
     };
     if is_closed == wanted.contains("closed") && is_upgraded != is_closed {
-        return String::from_str(rt.alloc(), wanted).expect(rt, "memory");
+        return joined(rt, &[wanted]);
     }
-    format!(in rt.alloc(); "closed {is_closed}, upgraded {is_upgraded}").expect(rt, "memory")
+    told(rt, ("closed and upgraded", is_closed, is_upgraded))
 }
 
 // Sends so many, each with a greater priority than the one before.

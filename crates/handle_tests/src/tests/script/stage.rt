@@ -1,7 +1,7 @@
 //! What the names of a script stand for.
 use super::handles::{Handle, Rx, are_same, ask_receiver, ask_sender, look, make};
 use super::lasting::{Lasting, begin, poll};
-use super::words::{Host, Text, told};
+use super::words::{Host, Text, joined, told};
 use async_priority_channel::Ends;
 use futures::test::MockTask;
 use std::alloc::Allocator;
@@ -73,7 +73,7 @@ impl<'a, R: Host, A: Allocator + Copy> Stage<'a, R, A> {
         for (name, handle) in self.handles.iter().chain(self.lent.iter()) {
             let told = look(rt, handle, wanted);
             if told.as_str() != wanted {
-                return format!(in rt.alloc(); "{told} of {name}").expect(rt, "memory");
+                return joined(rt, &[told.as_str(), " of ", name]);
             }
         }
         String::from_str(rt.alloc(), wanted).expect(rt, "memory")

@@ -43,6 +43,15 @@ pub fn pairs(rt: &impl Host, words: &[Text]) -> Bulk {
     pairs.into_iter().peekable()
 }
 
+/// A text of pieces, one after another.
+pub fn joined(rt: &impl Host, pieces: &[&str]) -> String {
+    let mut text = String::new(rt.alloc());
+    for piece in pieces {
+        text.push_str(piece).expect(rt, "memory");
+    }
+    text
+}
+
 pub fn told(rt: &impl Host, answer: impl Debug + Drop) -> String {
     format!(in rt.alloc(); "{answer:?}").expect(rt, "memory")
 }
@@ -79,8 +88,8 @@ pub fn told_sent<X: Debug + Drop>(
         Ok(answer) => told(rt, Ok::<X, ()>(answer)),
         Err(error) => {
             let refused = told(rt, &error);
-            let unsent = error.unsent();
-            format!(in rt.alloc(); "{refused} {unsent:?}").expect(rt, "memory")
+            let unsent = told(rt, error.unsent());
+            joined(rt, &[refused.as_str(), " ", unsent.as_str()])
         }
     }
 }
@@ -92,7 +101,8 @@ pub fn told_sent_all(rt: &impl Host, sent: Result<(), impl Refusal<Bulk>>) -> St
         Err(error) => {
             let refused = told(rt, &error);
             let unsent: Vec<(char, u64)> = error.unsent().collect(rt.alloc()).expect(rt, "memory");
-            format!(in rt.alloc(); "{refused} {unsent:?}").expect(rt, "memory")
+            let unsent = told(rt, unsent);
+            joined(rt, &[refused.as_str(), " ", unsent.as_str()])
         }
     }
 }
