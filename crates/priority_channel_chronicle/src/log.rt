@@ -2,7 +2,7 @@
 //! of its entries.
 ghost use Rattle.std.specs.Prelude.{◌≡◌, ◌+◌, ◌<◌, ◌^◌, ◌∷◌, [], ◌++◌, length, MatchBool};
 ghost use mathlib.Core.List.{IsPrefix};
-ghost use Rattle.priority_channel_chronicle.specs.Log.{MayFollow, word_of};
+ghost use Rattle.priority_channel_chronicle.specs.Log.{MayFollow};
 
 use crate::entry::{Chronicle, Telling};
 use crate::fresh::Recording;
@@ -103,7 +103,17 @@ impl<H: Chronicle, X: Telling<H>> Plain<X, Line<H::Entry>, u64> for Add<H> {
 pub struct Log<H: Chronicle, J: Recording> {
     pub(crate) word: Word<Line<H::Entry>, u64, Law<H>>,
     pub(crate) of: PhantomData<J>,
-    pub(crate) ghost word_is: { word ≡ word_of J.log },
+}
+
+impl<H: Chronicle, J: Recording> Model for Log<H, J> {
+    ghost use Rattle.std.specs.Prelude.{◌≡◌};
+    ghost use Rattle.priority_channel_chronicle.specs.Log.{word_of};
+
+    ghost Value = { Unit {0} };
+
+    ghost view = { λ l. tt };
+
+    ghost invariant = { λ l. l.word ≡ word_of J.log };
 }
 
 impl<H: Chronicle, J: Recording> Log<H, J> {

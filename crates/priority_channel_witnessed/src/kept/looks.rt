@@ -4,8 +4,8 @@ ghost use Rattle.priority_channel_witnessed.specs.Passes.{Tells};
 
 use crate::entry::Told;
 use crate::kept::Kept;
-use crate::log::{Log, Recording};
-use crate::pass::Pass;
+use crate::chronicle::{Log, Pass};
+use priority_channel_chronicle::Recording;
 use priority_channel_core::calls::{Answer, Call};
 use std::alloc::Allocator;
 use std::sync::Wait;

@@ -5,7 +5,7 @@ use Rattle.priority_channel_chronicle.proofs.log.Seen.append.Goals as goal
 
 pub compare_exchange-found-requires : goal.compare_exchange-found-requires
 compare_exchange-found-requires g c =
-    let word = c.args.log.now.word_is in
+    let word = c.log.invariant in
     let offer = c.plain-offer.ensures in
     let pen = c.no_pen-pen.ensures in
     let same_book = c.self.invariant.0 ∙ sym (ap (λ w. w.book) word) in

@@ -7,7 +7,7 @@ use Rattle.priority_channel_chronicle.proofs.log.Seen.look.Goals as goal
 
 pub load-requires : goal.load-requires
 load-requires g c =
-    let word = c.args.log.now.word_is in
+    let word = c.log.invariant in
     let offer = c.plain-offer.ensures in (
       ap (λ w. w.tracked) word,
       c.self.invariant.0 ∙ sym (ap (λ w. w.book) word),
