@@ -21,12 +21,8 @@ impl<T, P: Ord, W: Clone> Chronicle for Calls<T, P, W> {
     ghost begins = { legal_none P.cmp W.is_clone };
 }
 
-impl<T, P: Ord, W: Clone, A: Allocator> priority_channel_chronicle::Telling<Calls<T, P, W>> for Telling<
-    T,
-    P,
-    W,
-    A,
-> {
+impl<T, P: Ord, W: Clone, A: Allocator> priority_channel_chronicle::Telling<Calls<T, P, W>>
+    for Telling<T, P, W, A> {
     ghost use Rattle.priority_channel_witnessed.specs.Tells.{told_entry};
 
     ghost entry = { told_entry };

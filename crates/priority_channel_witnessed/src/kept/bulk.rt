@@ -2,9 +2,9 @@
 ghost use Rattle.priority_channel_witnessed.specs.Items.{list_in, listed, listed_poll};
 ghost use Rattle.priority_channel_witnessed.specs.Passes.{Tells};
 
+use crate::chronicle::{Log, Pass};
 use crate::entry::{Pairs, Told};
 use crate::kept::Kept;
-use crate::chronicle::{Log, Pass};
 use priority_channel_chronicle::Recording;
 use priority_channel_core::awaitable_atomics::Wakes;
 use priority_channel_core::calls::{Answer, Call, CorePoll};

@@ -7,8 +7,8 @@ ghost use Rattle.priority_channel_witnessed.specs.Items.{list_in};
 ghost use Rattle.priority_channel_witnessed.specs.Futures.{GivesSendv, WaitsSendv, ListsSendv, GoesOn};
 ghost use Rattle.priority_channel_witnessed.specs.Waits.{IsAnswered, IsSentOn, send_in_time, listed_in_time};
 
-use crate::entry::Pairs;
 use crate::chronicle::Pass;
+use crate::entry::Pairs;
 use crate::witnessed::Witnessed;
 use futures::Future;
 use futures::task::{Context, Poll};

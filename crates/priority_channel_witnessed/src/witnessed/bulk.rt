@@ -2,8 +2,8 @@
 ghost use Rattle.priority_channel_witnessed.specs.Items.{list_in, listed, listed_poll};
 ghost use Rattle.priority_channel_witnessed.specs.Passes.{Tells};
 
-use crate::entry::Pairs;
 use crate::chronicle::Pass;
+use crate::entry::Pairs;
 use crate::witnessed::Witnessed;
 use priority_channel_chronicle::Recording;
 use priority_channel_core::awaitable_atomics::Wakes;

@@ -3,8 +3,8 @@ ghost use Rattle.priority_channel_witnessed.specs.Items.{list_in, listed, listed
 ghost use Rattle.priority_channel_witnessed.specs.Passes.{Tells};
 ghost use Rattle.priority_channel_witnessed.specs.Waits.{HasCalled, IsSentOn, send_in_time, sent_or_over, listed_in_time};
 
-use crate::entry::Pairs;
 use crate::chronicle::Pass;
+use crate::entry::Pairs;
 use crate::witnessed::Witnessed;
 use crate::witnessed::waits::{Sent, in_time};
 use priority_channel_chronicle::Recording;
