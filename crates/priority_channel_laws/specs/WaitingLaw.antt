@@ -5,10 +5,10 @@ use Rattle.priority_channel_core.specs.declared.side.Side.TheVariants.{Room, Mes
 use Rattle.priority_channel_core.specs.Waiters.{on_side}
 use Rattle.priority_channel_core.specs.machine.State.{State, Handed}
 use Rattle.priority_channel_core.specs.machine.Good.{IsGood}
-use Rattle.priority_channel_waiting.specs.Future.{Tasks, Futures, ticket_of}
+use Rattle.priority_channel_core.specs.Future.{Tasks, Futures, ticket_of}
 use Rattle.priority_channel_laws.specs.World.{World}
-use Rattle.priority_channel_waiting.specs.Future.Task.{Send, Sendv, Recv}
-use Rattle.priority_channel_waiting.specs.Future.Standing.{New, Waiting, Called, Done}
+use Rattle.priority_channel_core.specs.Future.Task.{Send, Sendv, Recv}
+use Rattle.priority_channel_core.specs.Future.Standing.{New, Waiting, Called, Done}
 
 -- the waker under a ticket
 abbrev pub waker_of : {W : Type 0} → ℕ → List (ℕ × W) → Option W

@@ -7,8 +7,8 @@ use Rattle.priority_channel_core.specs.machine.State.{State, Handed, nobody, ope
 use Rattle.priority_channel_core.specs.Waiting.{is_listed}
 use Rattle.priority_channel_core.specs.machine.Good.{IsGood}
 use Rattle.priority_channel_core.specs.machine.Step.{Step, Calls, Answers}
-use Rattle.priority_channel_waiting.specs.Future.{Tasks, Standing, Futures, ticket_of, poll_of, future_after, GivesUpTicket}
-use Rattle.priority_channel_waiting.specs.Future.Standing.{New, Waiting, Called, Done}
+use Rattle.priority_channel_core.specs.Future.{Tasks, Standing, Futures, ticket_of, poll_of, future_after, GivesUpTicket}
+use Rattle.priority_channel_core.specs.Future.Standing.{New, Waiting, Called, Done}
 
 -- a channel, and the futures that use it
 pub record World (T P W : Type 0) : Type 0 where

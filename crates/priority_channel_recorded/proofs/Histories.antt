@@ -12,8 +12,7 @@ use Rattle.priority_channel_recorded.specs.declared.book.Call.{Call}
 use Rattle.priority_channel_recorded.specs.declared.book.Call.TheVariants.{TrySend, TrySendEvicting, TryRecv, Close, IsClosed, IsEmpty, IsFull, Len}
 use Rattle.priority_channel_recorded.specs.declared.book.Reply.{Reply}
 use Rattle.priority_channel_recorded.specs.declared.book.Entry.{Entry}
-use Rattle.priority_channel_recorded.specs.History.{Machine, call_of, Records, IsStep, IsHistory}
-use Rattle.priority_channel_recorded.specs.Log.{IsLegal}
+use Rattle.priority_channel_recorded.specs.History.{Machine, call_of, Records, IsStep, IsHistory, IsLegal}
 
 module _ {T P : Type 0} (cmp : P → P → Ordering) where
   same_capacity : (old new : Machine T P) (handed : Handed (Unit {0})) (call : Call T P) (told : Answers T P)
@@ -58,9 +57,6 @@ module _ {T P : Type 0} (cmp : P → P → Ordering) where
   -- nothing was recorded yet
   pub history_none : (capacity : ℕ) → IsHistory {T = T} cmp capacity [] (opening capacity true)
   history_none capacity = record { run = []; records = tt; leads = refl }
-
-  pub legal_none : (capacity : ℕ) → IsLegal {T = T} cmp capacity []
-  legal_none capacity = record { state = opening capacity true; run = history_none capacity }
 
   -- a history of a channel of this capacity is legal
   pub legal_at : (capacity : ℕ) (history : List (Entry T P)) (state : Machine T P) → state.capacity ≡ capacity

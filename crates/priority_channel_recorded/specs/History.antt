@@ -1,5 +1,5 @@
 -- Histories of calls: who called, what, and what was answered.
-use Rattle.std.specs.Prelude.{◌≡◌, ℕ, true, List, Option, Some, None}
+use Rattle.std.specs.Prelude.{◌≡◌, ℕ, true, List, [], Option, Some, None, refl}
 use Rattle.std.specs.List.{AllZip}
 use Rattle.std.specs.declared.cmp.Ordering.{Ordering}
 use Rattle.priority_channel_core.specs.declared.calls.Call.TheVariants as call
@@ -26,6 +26,9 @@ pub record Chronicle (T P : Type 0) : Type 0 where
 module _ {T P : Type 0} where
   abbrev pub entry : ℕ → Call T P → Reply T P → Entry T P
   entry who made reply = record { who = who; call = made; reply = reply }
+
+  abbrev pub who_of : Entry T P → ℕ
+  who_of entry = entry.who
 
   -- a recorded call is the machine's call of the same name
   abbrev pub call_of : Call T P → Calls T P (Unit {0})
@@ -70,3 +73,15 @@ module _ {T P : Type 0} where
       pub run : List (Operation T P (Unit {0}))
       pub records : AllZip Records history run
       pub leads : Run cmp (λ waker kept. kept ≡ waker) (opening capacity true) run state
+
+    -- a legal history is a run of the machine from the opening state of a channel of this capacity
+    pub record IsLegal (capacity : ℕ) (history : List (Entry T P)) : Type 0 where
+      pub state : Machine T P
+      pub run : IsHistory capacity history state
+
+    -- nothing was recorded yet
+    pub legal_none : (capacity : ℕ) → IsLegal capacity []
+    legal_none capacity = record {
+      state = opening capacity true;
+      run = record { run = []; records = tt; leads = refl };
+    }

@@ -1,48 +1,22 @@
 -- What a caller's pass carries, and what a call adds to it.
-use Rattle.std.specs.Prelude.{◌≡◌, ◌≢◌, ◌==◌, ◌≤◌, ℕ, List, [], ◌∷◌, ◌++◌, count_by, All, EachIndex, slice_get, Some}
-use Rattle.std.specs.List.{sum_by}
+use Rattle.std.specs.Prelude.{ℕ, List}
 use Rattle.std.specs.declared.cmp.Ordering.{Ordering}
 use Rattle.priority_channel_recorded.specs.declared.book.Entry.{Entry}
-use Rattle.priority_channel_recorded.specs.Log.{IsLegal}
+use Rattle.priority_channel_recorded.specs.History.{who_of, IsLegal}
+use Rattle.priority_channel_chronicle.specs.Passes as chronicle
+pub use Rattle.priority_channel_chronicle.specs.Passes.{AreNew, calls_made, AreApart}
 
 -- a pass's number, how many calls were made with it, and the history that it has seen
-pub record Carried (T P : Type 0) : Type 0 where
-  pub number : ℕ
-  pub count : ℕ
-  pub seen : List (Entry T P)
+abbrev pub Carried : Type 0 → Type 0 → Type 0
+Carried T P = chronicle.Carried (Entry T P)
 
 module _ {T P : Type 0} where
-  -- how many entries stand under this number
-  abbrev pub calls_of : ℕ → List (Entry T P) → ℕ
-  calls_of number history = count_by (λ entry. entry.who == number) history
-
-  -- passes that have made no call, numbered from 0 on
-  abbrev pub AreNew : List (Carried T P) → Type 0
-  AreNew passes =
-      EachIndex passes
-      (λ i. slice_get passes i ≡ Some (record { number = i; count = 0; seen = [] }))
-
-  -- how many calls were made with these passes
-  abbrev pub calls_made : List (Carried T P) → ℕ
-  calls_made passes = sum_by (λ pass. pass.count) passes
-
-  -- no two passes have one number
-  abbrev pub AreApart : List (Carried T P) → Type 0
-  AreApart [] = Unit {0}
-  AreApart (pass ∷ others) = All (λ other. pass.number ≢ other.number) others × AreApart others
-
   -- under each pass's number stand as many entries as its count, and under other numbers none
   abbrev pub Accounts : List (Carried T P) → List (Entry T P) → Type 0
-  Accounts passes history =
-      All (λ pass. calls_of pass.number history ≡ pass.count) passes
-      × ((number : ℕ) → All (λ pass. number ≢ pass.number) passes → calls_of number history ≡ 0)
+  Accounts = chronicle.Accounts who_of
 
--- Now a legal history of a channel of this capacity was seen that begins with all that had been
--- seen, is longer, and ends with this entry. Under the pass's number it has at least as many
--- entries as the pass has made calls.
-pub record IsTold {T P : Type 0} (cmp : P → P → Ordering) (capacity : ℕ) (old : Carried T P)
-    (last : Entry T P) (new : Carried T P) : Type 0 where
-  pub between : List (Entry T P)
-  pub seen : new.seen ≡ (old.seen ++ between) ++ last ∷ []
-  pub legal : IsLegal cmp capacity new.seen
-  pub counted : new.count ≤ calls_of new.number new.seen
+  -- Now a legal history of a channel of this capacity was seen that begins with all that had been
+  -- seen, is longer, and ends with this entry. Under the pass's number it has at least as many
+  -- entries as the pass has made calls.
+  abbrev pub IsTold : (P → P → Ordering) → ℕ → Carried T P → Entry T P → Carried T P → Type 0
+  IsTold cmp capacity = chronicle.IsTold who_of (IsLegal cmp capacity)

@@ -141,13 +141,6 @@ impl<T: Copy, P: Copy + Ord, A: Allocator + Copy> Book<T, P, A> {
         self.history.as_slice()
     }
 
-    // How many calls were made.
-    pub(crate) fn count(&self) -> u64
-        ensures { result ≡ length self.now.history }
-    {
-        self.history.len() as u64
-    }
-
     pub(crate) fn into_history(self) -> Vec<Entry<T, P>, A>
         ensures history { result.items ≡ self.history }
         ensures legal { IsHistory P.cmp self.state.capacity self.history self.state }

@@ -6,12 +6,11 @@
 #![tactic(auto)]
 
 mod book;
+mod chronicle;
 pub mod laws;
-mod log;
-mod pass;
 mod recorder;
 
 pub use book::{Book, Call, Entry, NoMemory, Reply};
-pub use log::{Fresh, Recording};
-pub use pass::Pass;
+pub use chronicle::{Calls, Fresh, Pass};
+pub use priority_channel_chronicle::Recording;
 pub use recorder::{History, Recorded};

@@ -1,39 +1,37 @@
 //! A channel whose calls many threads make, with the history of them all.
-ghost use Rattle.std.specs.Prelude.{◌≡◌, ◌+◌, ◌<◌, ◌≤◌, ◌^◌, [], ◌∷◌, ◌++◌, length, vec_len, All, IfOk, OnErr};
+ghost use Rattle.std.specs.Prelude.{◌≡◌, ◌+◌, ◌<◌, ◌≤◌, ◌^◌, ◌∷◌, [], ◌++◌, length, vec_len, All, IfOk, OnErr};
 ghost use mathlib.Core.List.{IsPrefix};
 ghost use Rattle.priority_channel_recorded.specs.History.{entry, IsStep};
 ghost use Rattle.priority_channel_recorded.specs.Log.{IsLegal, names};
 ghost use Rattle.priority_channel_recorded.specs.Passes.{calls_made, AreNew, AreApart, Accounts, IsTold};
 
 use crate::book::{Book, Call, Entry, NoMemory, Reply};
-use crate::log::{Fresh, Log, Recording, Seen};
-use crate::pass::{Pass, gather, new_passes};
+use crate::chronicle::{Calls, Fresh, Log, Pass};
+use priority_channel_chronicle::{Journal, Recording};
 use std::alloc::{AllocError, Allocator, Global};
-use std::marker::{Model, PhantomData};
+use std::marker::Model;
 use std::sync::ledger::Share;
-use std::sync::{Mutex, Wait, ledger};
+use std::sync::{Mutex, Wait};
 
-// What the lock guards: a book, whose history is the log, and a ledger in which the calls of all
-// passes are counted.
+// What the lock guards: a book, and a journal of the same history.
 #[derive(Drop)]
 struct Guarded<T, P: Ord, J: Recording, A: Allocator> {
     book: Book<T, P, A>,
-    calls: ledger::Book<J>,
+    journal: Journal<Calls<T, P>, J>,
     // For `end` to merge the passes' shares into.
     none: Share<J>,
-    seen: Seen<T, P, J>,
 }
 
 impl<T, P: Ord, J: Recording, A: Allocator> Model for Guarded<T, P, J, A> {
-    ghost use Rattle.std.specs.Prelude.{◌≡◌, length};
+    ghost use Rattle.std.specs.Prelude.{◌≡◌};
     ghost use Rattle.priority_channel_recorded.specs.History.{Chronicle};
 
     ghost Value = { Chronicle T P };
 
     ghost view = { λ g. g.book };
 
-    ghost invariant = { λ g. (g.seen ≡ g.book.history) × (g.calls.total ≡ length g.book.history)
-        × (g.none.parts ≡ 0) × (g.none.amount ≡ 0) × (g.book.state.capacity ≡ J.capacity) };
+    ghost invariant = { λ g. (g.journal ≡ g.book.history) × (g.none.parts ≡ 0)
+        × (g.none.amount ≡ 0) × (g.book.state.capacity ≡ J.capacity) };
 }
 
 impl<T: Copy, P: Copy + Ord, J: Recording, A: Allocator + Copy> Guarded<T, P, J, A> {
@@ -56,50 +54,16 @@ impl<T: Copy, P: Copy + Ord, J: Recording, A: Allocator + Copy> Guarded<T, P, J,
         ensures refused { OnErr result ((pass.new ≡ pass.old) × (self.new ≡ self.old)) }
         ensures full { OnErr result (self.old.slots ≤ length self.old.history) }
     {
-        let number = pass.number;
+        let number = pass.number();
         let reply = self.book.record(number, call)?;
         let entry = Entry {
             who: number,
             call,
             reply,
         };
-        let count = self.book.count() - 1;
-        let seen = append(rt, log, &self.seen, &pass.seen, count, &entry);
-        // What the passes have is at most the ledger's total, so no count overflows.
-        self.calls.audit(&mut pass.share);
-        self.calls.add(&mut pass.share, 1);
-        pass.count += 1;
-        pass.seen = seen.again();
-        self.seen = seen;
+        self.journal.enter(rt, log, pass, &entry);
         Ok(reply)
     }
-}
-
-// Adds an entry behind all that was kept, of which what `other` has seen is a front. No one else
-// adds one meanwhile, so the first try succeeds, but no contract can say so.
-fn append<T: Copy, P: Copy + Ord, J: Recording, R: Wait>(
-    rt: &R,
-    log: &Log<T, P, J>,
-    kept: &Seen<T, P, J>,
-    other: &Seen<T, P, J>,
-    count: u64,
-    entry: &Entry<T, P>,
-) -> Seen<T, P, J>
-    requires room { count + 1 < 2 ^ 64 }
-    requires whole { length kept.now ≡ count }
-    requires legal { IsLegal P.cmp J.capacity (kept.now ++ entry.now ∷ []) }
-    ensures seen { result ≡ kept.now ++ entry.now ∷ [] }
-    ensures before { IsPrefix other.now kept.now }
-    ensures legal { IsLegal P.cmp J.capacity result }
-{
-    for _ in rt.forever() {
-        let mut seen = kept.again();
-        seen.learn(other);
-        if seen.append(log, count, entry) {
-            return seen;
-        }
-    }
-    unreachable!()
 }
 
 /// A reserved channel that many threads call, each with its pass, and the history of their calls.
@@ -114,7 +78,7 @@ fn append<T: Copy, P: Copy + Ord, J: Recording, R: Wait>(
 /// ghost use Rattle.priority_channel_recorded.specs.Log.{names, IsLegal};
 ///
 /// fn audited<J: Recording, R: Wait>(rt: &R, alloc: Global, fresh: Fresh<u64, u8>) -> Result<History<u64, u8>, AllocError>
-///     requires names { fresh ≡ names J.log J.capacity J.name J.parts }
+///     requires names { fresh ≡ names J.log J.capacity J.is_reserved J.name J.parts }
 ///     requires capacity { fresh.capacity ≡ 4 }
 ///     requires passes { fresh.passes ≡ 2 }
 ///     ensures legal { IfOk result (λ history. IsLegal nat_cmp J.capacity history) }
@@ -138,7 +102,6 @@ pub struct Recorded<T, P: Ord, J: Recording, A: Allocator = Global> {
 impl<T: Copy, P: Copy + Ord, J: Recording, A: Allocator + Copy> Recorded<T, P, J, A> {
     /// A recorder over an open and empty channel with memory for `cap` pairs and for `entries`
     /// entries, and its passes. The error is that memory was refused.
-    #[tactic(auto, using(crate::proofs::Lines::log_opened, crate::proofs::Lines::no_entries, crate::proofs::Accounts::new_apart))]
     pub fn new(
         alloc: A,
         fresh: Fresh<T, P>,
@@ -148,31 +111,22 @@ impl<T: Copy, P: Copy + Ord, J: Recording, A: Allocator + Copy> Recorded<T, P, J
     ) -> Result<(Self, Vec<Pass<T, P, J>, A>), AllocError>
         requires positive { 0 < cap }
         requires fits { cap < 2 ^ 63 }
-        requires names { fresh ≡ names J.log J.capacity J.name J.parts }
+        requires names { fresh ≡ names J.log J.capacity J.is_reserved J.name J.parts }
         requires capacity { fresh.capacity ≡ cap }
         requires passes { fresh.passes ≡ passes }
         ensures count { IfOk result (λ made. vec_len made.1 ≡ passes) }
         ensures new { IfOk result (λ made. AreNew made.1.items) }
         ensures apart { IfOk result (λ made. AreApart made.1.items) }
     {
-        let Fresh { word, seen, ledger } = fresh;
-        let (calls, mut rest) = ledger.open::<J>();
+        let Fresh { fresh } = fresh;
+        let (log, journal, mut rest) = fresh.open::<J>();
         let none = rest.empty();
-        let seen = Seen {
-            token: seen,
-            of: PhantomData,
-        };
-        let passes = new_passes(alloc, &seen, rest, passes)?;
+        let passes = journal.first_passes(alloc, rest, passes)?;
         let book = Book::new(alloc, cap, entries)?;
         let guarded = Guarded {
             book,
-            calls,
+            journal,
             none,
-            seen,
-        };
-        let log = Log {
-            word,
-            of: PhantomData,
         };
         Ok((
             Recorded {
@@ -213,27 +167,12 @@ impl<T: Copy, P: Copy + Ord, J: Recording, A: Allocator + Copy> Recorded<T, P, J
         ensures same { one.new.seen ≡ other.new.seen }
         ensures legal { IsLegal P.cmp J.capacity one.new.seen }
     {
-        let seen = self.see_all(&one.seen, &other.seen);
-        one.seen = seen.again();
-        other.seen = seen;
-    }
-
-    // What either has seen, and the history as it is.
-    #[tactic(auto, using(crate::proofs::Fronts::prefix_trans))]
-    fn see_all(&self, one: &Seen<T, P, J>, other: &Seen<T, P, J>) -> Seen<T, P, J>
-        ensures this { IsPrefix one.now result }
-        ensures that { IsPrefix other.now result }
-        ensures legal { IsLegal P.cmp J.capacity result }
-    {
-        let mut seen = one.again();
-        seen.learn(other);
-        let _length = seen.look(&self.log);
-        seen
+        self.log.meet(one, other);
     }
 
     /// Ends the recording, once all passes have come back, and tells the history, which nothing
     /// shows before. So no pass may be lost.
-    #[tactic(auto, using(crate::proofs::Accounts::account, crate::proofs::Fronts::prefix_whole, crate::proofs::Histories::legal_at))]
+    #[tactic(auto, using(crate::proofs::Histories::legal_at))]
     pub fn end<R: Wait>(self, rt: &R, passes: Vec<Pass<T, P, J>, A>) -> History<T, P, A>
         requires all { vec_len passes ≡ J.parts }
         ensures length { length result ≡ calls_made passes.items }
@@ -244,35 +183,14 @@ impl<T: Copy, P: Copy + Ord, J: Recording, A: Allocator + Copy> Recorded<T, P, J
         let Recorded { log, guarded } = self;
         let Guarded {
             book,
-            mut calls,
+            journal,
             none,
-            seen,
         } = guarded.into_inner();
-        let (mut all, met) = gather(none, seen, passes);
-        calls.audit(&mut all);
-        look_until(rt, &log, &met, book.count());
+        let _seen = journal.end(rt, &log, none, passes);
         History {
             entries: book.into_history(),
         }
     }
-}
-
-// Looks until the log's length is `count`, so that nothing longer was seen.
-fn look_until<T, P: Ord, J: Recording, R: Wait>(
-    rt: &R,
-    log: &Log<T, P, J>,
-    seen: &Seen<T, P, J>,
-    count: u64,
-)
-    ensures { length seen.now ≤ count }
-{
-    for _ in rt.forever() {
-        let mut now = seen.again();
-        if now.look(log) == count {
-            return;
-        }
-    }
-    unreachable!()
 }
 
 /// What a recorder has told: the history of all calls.

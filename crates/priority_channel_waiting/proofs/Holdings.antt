@@ -22,8 +22,8 @@ use Rattle.priority_channel_core.specs.declared.side.Side.TheVariants.{Room}
 use Rattle.priority_channel_core.specs.code.Calls.{Performs, SamePoll, SameReply}
 use Rattle.priority_channel_core.specs.code.Replies.{kept_by}
 use Rattle.priority_channel_core.proofs.Polls.{kept_callable}
-use Rattle.priority_channel_waiting.specs.Future.{Task, poll_of, future_after}
-use Rattle.priority_channel_waiting.specs.Future.Task.{Sendv}
+use Rattle.priority_channel_core.specs.Future.{Task, poll_of, future_after}
+use Rattle.priority_channel_core.specs.Future.Task.{Sendv}
 use Rattle.priority_channel_waiting.specs.Holding.{Holding, told_by, left_by, handed_back, HoldsTail, send_of, IsKeptOf, PollsKept}
 
 pub send_left : {T P W : Type 0} (pair : T × P) (waker : W) (reply : CorePoll (Result (Unit {0}) (SendFault (T × P))) (T × P))

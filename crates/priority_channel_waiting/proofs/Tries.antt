@@ -29,9 +29,9 @@ use Rattle.priority_channel_core.specs.machine.Polls.{Polls}
 use Rattle.priority_channel_core.specs.code.Channel.{CountedState, ComparesAtMost}
 use Rattle.priority_channel_core.proofs.Polls.{performs_poll, sent_searches_less, ends_unlisted}
 use Rattle.priority_channel_core.proofs.Sends.{sends_front}
-use Rattle.priority_channel_waiting.specs.Future.Task.{Sendv}
+use Rattle.priority_channel_core.specs.Future.Task.{Sendv}
 use Rattle.priority_channel_waiting.specs.Holding.{Holding, done, told_at_once, left_at_once, handed_back, send_of, recv_of, TriesFront, PollsKept}
-use Rattle.priority_channel_waiting.specs.Future.{GivesUpTicket}
+use Rattle.priority_channel_core.specs.Future.{GivesUpTicket}
 use Rattle.priority_channel_waiting.proofs.Holdings.{if_some}
 
 -- a ticket that was given up, if there was one, is in neither list

@@ -16,9 +16,9 @@ use Rattle.priority_channel_core.specs.Errors.{unsent}
 use Rattle.priority_channel_core.specs.machine.State.{State, Handed}
 use Rattle.priority_channel_core.specs.machine.Sends.{AddsFront}
 use Rattle.priority_channel_core.specs.Waiters.{unlist}
-use Rattle.priority_channel_waiting.specs.Future.{Task, Tasks, Standing, Future, ticket_of, poll_of, future_after}
-use Rattle.priority_channel_waiting.specs.Future.Task.{Send, Recv}
-use Rattle.priority_channel_waiting.specs.Future.Standing.{Done}
+use Rattle.priority_channel_core.specs.Future.{Task, Tasks, Standing, Future, ticket_of, poll_of, future_after}
+use Rattle.priority_channel_core.specs.Future.Task.{Send, Recv}
+use Rattle.priority_channel_core.specs.Future.Standing.{Done}
 
 -- the state of a future between polls: its remaining work (None once done) and its ticket
 pub record Holding (K : Type 0) : Type 0 where

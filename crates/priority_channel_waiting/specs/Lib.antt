@@ -1,5 +1,4 @@
 pub mod Lines
 pub mod Waits
 pub mod Tails
-pub mod Future
 pub mod Holding

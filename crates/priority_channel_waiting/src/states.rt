@@ -13,8 +13,8 @@ ghost use Rattle.priority_channel_core.specs.machine.Step.{Step};
 ghost use Rattle.priority_channel_core.specs.code.Calls.{Performs};
 ghost use Rattle.priority_channel_core.specs.code.Channel.{ComparesAtMost};
 ghost use Rattle.priority_channel_core.specs.Waiters.{search_bound};
-ghost use Rattle.priority_channel_waiting.specs.Future.Task.{Sendv as sendv_of};
-ghost use Rattle.priority_channel_waiting.specs.Future.{GivesUpTicket};
+ghost use Rattle.priority_channel_core.specs.Future.Task.{Sendv as sendv_of};
+ghost use Rattle.priority_channel_core.specs.Future.{GivesUpTicket};
 ghost use Rattle.priority_channel_waiting.specs.Holding.{unpolled, done, told_by, left_by, told_at_once, left_at_once, handed_back, HoldsTail, send_of, recv_of, TriesFront, PollsKept};
 ghost use Rattle.futures.specs.Poll.{IfReady, OnPending};
 

@@ -26,9 +26,6 @@ module _ {T P W : Type 0} (cmp : P → P → Ordering) (is_clone : W → W → T
   pub history_none : (capacity : ℕ) (is_reserved : Bool) → IsHistory {T = T} cmp is_clone capacity is_reserved [] (opening capacity is_reserved)
   history_none capacity is_reserved = record { leads = refl }
 
-  pub legal_none : (capacity : ℕ) (is_reserved : Bool) → IsLegal {T = T} cmp is_clone capacity is_reserved []
-  legal_none capacity is_reserved = record { state = opening capacity is_reserved; run = history_none capacity is_reserved }
-
   pub legal_of : (capacity : ℕ) (is_reserved : Bool) (history : List (Entry T P W)) (state : State T P W)
       → IsHistory cmp is_clone capacity is_reserved history state → IsLegal cmp is_clone capacity is_reserved history
   legal_of capacity is_reserved history state is = record { state = state; run = is }

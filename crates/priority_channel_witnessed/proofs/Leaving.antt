@@ -6,11 +6,10 @@ use Rattle.std.proofs.lemmas.List.Sums.{sum_by-append, sum_by-cons, sum_by_push}
 use Rattle.std.proofs.lemmas.List.Sorted.{sum_by_popped, sum_by-IsPermutation, IsPermutation-remove}
 use Rattle.std.proofs.lemmas.List.Elements.{All-nil, All-cons, All-head, All-tail}
 use Rattle.std.proofs.lemmas.Bool.Decides.{nat_tests}
-use mathlib.Core.List.{IsPrefix}
-use Rattle.priority_channel_recorded.proofs.Accounts.{same_sums}
+use Rattle.priority_channel_chronicle.proofs.Accounts.{same_sums, hit}
 use Rattle.priority_channel_witnessed.specs.declared.entry.Entry.{Entry}
+use Rattle.priority_channel_witnessed.specs.History.{who_of}
 use Rattle.priority_channel_witnessed.specs.Passes.{Carried, calls_of, calls_made, is_of_others, calls_of_others, calls_under, times_in, AreApart, AreGiven, IsShared}
-use Rattle.priority_channel_witnessed.proofs.Accounts.{hit, calls_seen}
 
 -- whether it is this number
 abbrev same_as : ℕ → ℕ → ℕ
@@ -75,7 +74,7 @@ module _ {T P W : Type 0} where
         sum_by-cons (λ other. calls_of other (history ++ last ∷ [])) number more,
         sum_by-cons (λ other. calls_of other history) number more,
         sum_by-cons (same_as last.who) number more,
-        sum_by_push (hit number) history last,
+        sum_by_push (hit who_of number) history last,
         under_push more history last,
       )
 
@@ -84,8 +83,8 @@ module _ {T P W : Type 0} where
       → IsShared out next left history → last.who < next → IsShared out next left (history ++ last ∷ [])
   shared_more out next left history last given shared is = record {
     below = λ number past.
-        let other : hit number last ≡ 0 = grind (arith, nat_tests) in
-        omega (arith, sum_by_push (hit number) history last, other, shared.below number past);
+        let other : hit who_of number last ≡ 0 = grind (arith, nat_tests) in
+        omega (arith, sum_by_push (hit who_of number) history last, other, shared.below number past);
     others = omega (arith, shared.others, under_push out history last, given.once last.who, length-append history (last ∷ []));
   }
 
@@ -98,20 +97,12 @@ module _ {T P W : Type 0} where
   }
 
   -- a pass that goes
-  pub shared_go : (out rest : List ℕ) (next left number count : ℕ) (seen history : List (Entry T P W)) → IsShared out next left history
-      → IsPermutation out (number ∷ rest) → IsPrefix seen history → count ≤ calls_of number seen → IsShared rest next (left + count) history
-  shared_go out rest next left number count seen history shared struck front counted = record {
+  pub shared_go : (out rest : List ℕ) (next left number count : ℕ) (history : List (Entry T P W)) → IsShared out next left history
+      → IsPermutation out (number ∷ rest) → count ≤ calls_of number history → IsShared rest next (left + count) history
+  shared_go out rest next left number count history shared struck counted = record {
     below = shared.below;
-    others = omega (arith, shared.others, sum_by_popped (λ other. calls_of other history) number out rest struck, calls_seen number count seen history front counted);
+    others = omega (arith, shared.others, sum_by_popped (λ other. calls_of other history) number out rest struck, counted);
   }
-
-  all_counted : (passes : List (Carried T P W)) (history : List (Entry T P W)) → All (λ pass. IsPrefix pass.seen history) passes
-      → All (λ pass. pass.count ≤ calls_of pass.number pass.seen) passes → All (λ pass. pass.count ≤ calls_of pass.number history) passes
-  all_counted [] history saw counted = All-nil (λ (pass : Carried T P W). pass.count ≤ calls_of pass.number history)
-  all_counted (pass ∷ more) history saw counted =
-      All-cons (λ (q : Carried T P W). q.count ≤ calls_of q.number history) pass more
-      (calls_seen pass.number pass.count pass.seen history (All-head (λ (q : Carried T P W). IsPrefix q.seen history) pass more saw) (All-head (λ (q : Carried T P W). q.count ≤ calls_of q.number q.seen) pass more counted))
-      (all_counted more history (All-tail (λ (q : Carried T P W). IsPrefix q.seen history) pass more saw) (All-tail (λ (q : Carried T P W). q.count ≤ calls_of q.number q.seen) pass more counted))
 
   -- what a sum over the numbers that were out has for these passes
   part_of : (f : ℕ → ℕ) (passes : List (Carried T P W)) (out rest : List ℕ) → IsPermutation out (map (λ pass. pass.number) passes ++ rest)
@@ -121,11 +112,11 @@ module _ {T P W : Type 0} where
 
   -- under the number of each pass that was out stand as many entries as its count
   pub exact : (passes : List (Carried T P W)) (out rest : List ℕ) (next left : ℕ) (history : List (Entry T P W))
-      → IsPermutation out (map (λ pass. pass.number) passes ++ rest) → IsShared out next left history → All (λ pass. IsPrefix pass.seen history) passes
-      → All (λ pass. pass.count ≤ calls_of pass.number pass.seen) passes → length history ≡ left + calls_made passes
+      → IsPermutation out (map (λ pass. pass.number) passes ++ rest) → IsShared out next left history
+      → All (λ pass. pass.count ≤ calls_of pass.number history) passes → length history ≡ left + calls_made passes
       → All (λ pass. calls_of pass.number history ≡ pass.count) passes
-  exact passes out rest next left history struck shared saw counted long =
-      same_sums (λ (pass : Carried T P W). pass.count) (λ (pass : Carried T P W). calls_of pass.number history) passes (all_counted passes history saw counted)
+  exact passes out rest next left history struck shared counted long =
+      same_sums (λ (pass : Carried T P W). pass.count) (λ (pass : Carried T P W). calls_of pass.number history) passes counted
       (omega (arith, long, shared.others, part_of (λ other. calls_of other history) passes out rest struck))
 
   none_of : (number : ℕ) (passes : List (Carried T P W)) → sum_by (λ pass. same_as number pass.number) passes ≡ 0 → All (λ pass. number ≢ pass.number) passes
@@ -176,7 +167,7 @@ module _ {T P W : Type 0} where
       omega (
         arith,
         sum_by-cons (λ (e : Entry T P W). cond (is_of_others (pass ∷ passes) e) 1 0) entry more,
-        sum_by-cons (hit pass.number) entry more,
+        sum_by-cons (hit who_of pass.number) entry more,
         sum_by-cons (λ (e : Entry T P W). cond (is_of_others passes e) 1 0) entry more,
         others_hit entry pass passes apart (entry.who == pass.number) refl,
         others_less pass passes more apart,

@@ -1,6 +1,6 @@
 -- Histories of calls: who called, what, what was answered, and who was handed out. They exist in
 -- contracts alone.
-use Rattle.std.specs.Prelude.{ℕ, Bool, List, map}
+use Rattle.std.specs.Prelude.{ℕ, Bool, List, [], map, refl}
 use Rattle.std.specs.declared.cmp.Ordering.{Ordering}
 use Rattle.priority_channel_core.specs.machine.State.{State, Handed, opening}
 use Rattle.priority_channel_core.specs.machine.Step.{Step, Calls, Answers}
@@ -16,6 +16,9 @@ module _ {T P W : Type 0} where
   abbrev pub entry : ℕ → Calls T P W → Answers T P → Handed W → Entry T P W
   entry who made reply handed =
       record { who = who; call = made; answer = reply; handed = handed }
+
+  abbrev pub who_of : Entry T P W → ℕ
+  who_of entry = entry.who
 
   -- the entry as a call of a run
   abbrev pub operation_of : Entry T P W → Operation T P W
@@ -41,3 +44,10 @@ module _ {T P W : Type 0} where
       pub new : State T P W
       pub so_far : IsHistory capacity is_reserved before old
       pub step : Step cmp is_clone old last.call last.answer last.handed new
+
+    -- nothing was called yet
+    pub legal_none : (capacity : ℕ) (is_reserved : Bool) → IsLegal capacity is_reserved []
+    legal_none capacity is_reserved = record {
+      state = opening capacity is_reserved;
+      run = record { leads = refl };
+    }

@@ -4,10 +4,10 @@ ghost use mathlib.Core.List.{IsPrefix};
 ghost use Rattle.priority_channel_witnessed.specs.History.{IsLegal};
 ghost use Rattle.priority_channel_witnessed.specs.Passes.{Tells};
 
+use crate::chronicle::{Log, Pass};
 use crate::entry::Told;
 use crate::journal::Journal;
-use crate::log::{Log, Recording};
-use crate::pass::Pass;
+use priority_channel_chronicle::Recording;
 use priority_channel_core::awaitable_atomics::Wakes;
 use priority_channel_core::calls::{Answer, Call};
 use priority_channel_core::channel::PriorityQueueChannel;

@@ -5,20 +5,19 @@
 //! handles of `async_priority_channel` are not for it.
 #![tactic(auto)]
 
+mod chronicle;
 mod entry;
 mod journal;
 mod kept;
 pub mod laws;
-mod log;
 mod numbers;
-mod pass;
 pub mod uses;
 pub mod waiting;
 mod witnessed;
 
+pub use chronicle::{Calls, Fresh, Pass, Seen};
 pub use entry::{Entry, Pairs};
-pub use log::{Fresh, Recording, Seen};
-pub use pass::Pass;
+pub use priority_channel_chronicle::Recording;
 pub use priority_channel_core::channel::PriorityQueueChannel;
 pub use priority_channel_waiting::waiter::{Waiter, wake_all};
 pub use waiting::{Recv, Send, Sendv};

@@ -3,8 +3,8 @@ ghost use Rattle.std.specs.Prelude.{◌≡◌, ◌+◌, ◌<◌, ◌∷◌, leng
 ghost use Rattle.std.specs.List.Sorted.{IsPermutation};
 ghost use Rattle.priority_channel_witnessed.specs.Passes.{AreGiven};
 
-use crate::log::Recording;
-use crate::pass::Pass;
+use crate::chronicle::Pass;
+use priority_channel_chronicle::Recording;
 use std::alloc::{AllocError, Allocator};
 use std::sync::Wait;
 

@@ -13,9 +13,9 @@ mod recv;
 mod send;
 mod sendv;
 
-use crate::log::Recording;
-use crate::pass::Pass;
+use crate::chronicle::Pass;
 use crate::witnessed::Witnessed;
+use priority_channel_chronicle::Recording;
 pub use recv::Recv;
 pub use send::Send;
 pub use sendv::Sendv;

@@ -6,18 +6,17 @@ ghost use Rattle.priority_channel_witnessed.specs.History.{IsHistory, IsLegal};
 ghost use Rattle.priority_channel_witnessed.specs.Log.{names};
 ghost use Rattle.priority_channel_witnessed.specs.Passes.{calls_of, calls_made, calls_of_others, AreNew, AreApart, Accounts, Tells};
 
+use crate::chronicle::{Fresh, Log, Pass, Seen};
 use crate::journal::Journal;
 use crate::kept::Kept;
-use crate::log::{Fresh, Log, Recording, Seen};
 use crate::numbers::first_numbers;
-use crate::pass::{Pass, new_passes};
 use futures::task::Source;
+use priority_channel_chronicle::Recording;
 use priority_channel_core::awaitable_atomics::Wakes;
 use priority_channel_core::calls::{Answer, Call};
 use priority_channel_core::channel::PriorityQueueChannel;
 use priority_channel_core::errors::{TryRecvError, TrySendError};
 use std::alloc::{AllocError, Allocator, Global};
-use std::marker::PhantomData;
 use std::sync::{Mutex, Wait};
 
 mod bulk;
@@ -84,7 +83,7 @@ impl<T: Drop, P: Ord + Drop, W: Clone + Drop, J: Recording, A: Allocator + Copy>
 > {
     /// A channel over an open and empty core, and its first passes. The error is that memory was
     /// refused for the passes, or for the numbers of as many as there are parts for.
-    #[tactic(auto, using(crate::proofs::Lines::log_opened, crate::proofs::Lines::no_entries, crate::proofs::Histories::history_none, crate::proofs::Accounts::new_apart))]
+    #[tactic(auto, using(crate::proofs::Histories::history_none))]
     pub fn new(
         alloc: A,
         fresh: Fresh<T, P, W>,
@@ -98,28 +97,15 @@ impl<T: Drop, P: Ord + Drop, W: Clone + Drop, J: Recording, A: Allocator + Copy>
         ensures new { IfOk result (λ made. AreNew made.1.items) }
         ensures apart { IfOk result (λ made. AreApart made.1.items) }
     {
-        let Fresh {
-            word,
-            seen,
-            ledger,
-            parts,
-        } = fresh;
-        let (calls, mut rest) = ledger.open::<J>();
+        let parts = fresh.passes();
+        let (log, made, mut rest) = fresh.open::<J>();
         let given = rest.split_off(passes as u64, 0);
-        let seen = Seen {
-            token: seen,
-            of: PhantomData,
-        };
         let out = first_numbers(alloc, passes, parts)?;
         let next = passes as u64;
-        let passes = new_passes(alloc, &seen, given, passes)?;
+        let passes = made.first_passes(alloc, given, passes)?;
         let kept = Kept {
             core,
-            journal: Journal::new(calls, seen, out, next, parts, rest),
-        };
-        let log = Log {
-            word,
-            of: PhantomData,
+            journal: Journal::new(made, out, next, parts, rest),
         };
         Ok((
             Witnessed {
@@ -186,22 +172,7 @@ impl<T, P: Ord, W: Clone, J: Recording, A: Allocator + Copy> Witnessed<T, P, W, 
         ensures same { one.new.seen ≡ other.new.seen }
         ensures legal { IsLegal P.cmp W.is_clone J.capacity J.is_reserved one.new.seen }
     {
-        let seen = self.see_all(&one.seen, &other.seen);
-        one.seen = seen.again();
-        other.seen = seen;
-    }
-
-    // What either has seen, and the history as it is.
-    #[tactic(auto, using(crate::proofs::Fronts::prefix_trans))]
-    fn see_all(&self, one: &Seen<T, P, W, J>, other: &Seen<T, P, W, J>) -> Seen<T, P, W, J>
-        ensures this { IsPrefix one.now result }
-        ensures that { IsPrefix other.now result }
-        ensures legal { IsLegal P.cmp W.is_clone J.capacity J.is_reserved result }
-    {
-        let mut seen = one.again();
-        seen.learn(other);
-        let _length = seen.look(&self.log);
-        seen
+        self.log.meet(one, other);
     }
 
     /// Ends the channel, once all passes have come back. It gives the core back, and the history of
@@ -258,7 +229,7 @@ impl<T, P: Ord, W: Clone, J: Recording, A: Allocator + Copy> Witnessed<T, P, W, 
             (λ new. IsLegal P.cmp W.is_clone J.capacity J.is_reserved new.seen) }
     {
         let mut new = self.admit(rt)?;
-        new.seen = self.see_all(&pass.seen, &new.seen);
+        new.learn(pass);
         Some(new)
     }
 

@@ -17,7 +17,7 @@ mod four;
 
 // With one pass, for whose calls no more memory is asked.
 fn record_seven<J: Recording, R: Wait + Abort + AllocGlobal>(rt: &R, fresh: Fresh<u64, u64>)
-    requires names { fresh ≡ names J.log J.capacity J.name J.parts }
+    requires names { fresh ≡ names J.log J.capacity J.is_reserved J.name J.parts }
     requires capacity { fresh.capacity ≡ 2 }
     requires passes { fresh.passes ≡ 1 }
 {
@@ -50,7 +50,7 @@ fn a_pass_records(rt: HostRuntime) {
 }
 
 fn is_made<J: Recording>(alloc: &Refusing<Global>, fresh: Fresh<u64, u64>) -> bool
-    requires names { fresh ≡ names J.log J.capacity J.name J.parts }
+    requires names { fresh ≡ names J.log J.capacity J.is_reserved J.name J.parts }
     requires capacity { fresh.capacity ≡ 2 }
     requires passes { fresh.passes ≡ 2 }
 {
@@ -71,7 +71,7 @@ fn a_recorder_may_be_refused_memory(rt: HostRuntime) {
 
 // Without memory for an entry a call is not made, and may be made again.
 fn call_without_memory<J: Recording, R: Wait + Abort + AllocGlobal>(rt: &R, fresh: Fresh<u64, u64>)
-    requires names { fresh ≡ names J.log J.capacity J.name J.parts }
+    requires names { fresh ≡ names J.log J.capacity J.is_reserved J.name J.parts }
     requires capacity { fresh.capacity ≡ 1 }
     requires passes { fresh.passes ≡ 1 }
 {
@@ -106,7 +106,7 @@ fn a_call_without_memory_is_not_made(rt: HostRuntime) {
 
 // The second pass receives what the first has sent, and each knows of the other.
 fn meet<J: Recording, R: Wait + Abort + AllocGlobal>(rt: &R, fresh: Fresh<u64, u64>)
-    requires names { fresh ≡ names J.log J.capacity J.name J.parts }
+    requires names { fresh ≡ names J.log J.capacity J.is_reserved J.name J.parts }
     requires capacity { fresh.capacity ≡ 2 }
     requires passes { fresh.passes ≡ 2 }
 {
@@ -140,7 +140,7 @@ fn close_on_a_thread<J: Recording + Send + Sync, R: Threads + Wait + Sync + Abor
     rt: &R,
     fresh: Fresh<u64, u64>,
 )
-    requires names { fresh ≡ names J.log J.capacity J.name J.parts }
+    requires names { fresh ≡ names J.log J.capacity J.is_reserved J.name J.parts }
     requires capacity { fresh.capacity ≡ 1 }
     requires passes { fresh.passes ≡ 2 }
 {
@@ -168,7 +168,7 @@ fn a_close_on_another_thread_is_seen(rt: HostRuntime) {
 
 // It ends with what was entered: nothing.
 fn end_at_once<J: Recording, R: Wait + Abort + AllocGlobal>(rt: &R, fresh: Fresh<u64, u64>)
-    requires names { fresh ≡ names J.log J.capacity J.name J.parts }
+    requires names { fresh ≡ names J.log J.capacity J.is_reserved J.name J.parts }
     requires capacity { fresh.capacity ≡ 1 }
     requires passes { fresh.passes ≡ 1 }
 {

@@ -2,9 +2,9 @@
 use Rattle.std.proofs.Common.{◌≡◌, ℕ, ◌⊎◌, Bool, true, false, refl, sym, inl, inr}
 use Rattle.std.specs.Prelude.{Some, if◌then◌else◌}
 use Rattle.priority_channel_core.specs.machine.State.{Handed}
-use Rattle.priority_channel_waiting.specs.Future.{Standing, ticket_of}
+use Rattle.priority_channel_core.specs.Future.{Standing, ticket_of}
 use Rattle.priority_channel_laws.specs.World.{is_handed, standing_after}
-use Rattle.priority_channel_waiting.specs.Future.Standing.{New, Waiting, Called, Done}
+use Rattle.priority_channel_core.specs.Future.Standing.{New, Waiting, Called, Done}
 
 -- a woken future keeps its ticket
 pub called-ticket : {W : Type 0} (handed : Handed W) (s : Standing W) → ticket_of (standing_after handed s) ≡ ticket_of s

@@ -8,9 +8,9 @@ use Rattle.priority_channel_core.specs.Waiting.{without_given}
 use Rattle.priority_channel_laws.specs.WaitingLaw.{waker_of}
 use Rattle.priority_channel_core.specs.machine.Good.{IsGood}
 use Rattle.priority_channel_core.specs.machine.Step.{Step, Answers}
-use Rattle.priority_channel_waiting.specs.Future.{Tasks, Standing, Futures, ticket_of, poll_of, future_after, GivesUpTicket}
+use Rattle.priority_channel_core.specs.Future.{Tasks, Standing, Futures, ticket_of, poll_of, future_after, GivesUpTicket}
 use Rattle.priority_channel_laws.specs.World.{World, Event, standing_after, call_out, PollsFuture, Happens, Leads, IsOpening}
-use Rattle.priority_channel_waiting.specs.Future.Standing.{New, Waiting, Called, Done}
+use Rattle.priority_channel_core.specs.Future.Standing.{New, Waiting, Called, Done}
 use Rattle.priority_channel_laws.specs.World.Event.{Makes, Polls, GivesUp}
 use Rattle.priority_channel_core.specs.declared.side.Side.{Side}
 use Rattle.priority_channel_core.specs.Waiters.{Waiters, on_side, unlist}

@@ -20,9 +20,9 @@ use Rattle.priority_channel_core.specs.machine.Polls.{Ends}
 use Rattle.priority_channel_core.specs.machine.Step.{Moves, Answers}
 use Rattle.priority_channel_core.specs.code.Replies.{waits_under}
 use Rattle.priority_channel_core.proofs.Polls.{send_waits_under, recv_waits_under}
-use Rattle.priority_channel_waiting.specs.Future.{Tasks, Futures, poll_of, future_after}
-use Rattle.priority_channel_waiting.specs.Future.Task.{Send, Sendv, Recv}
-use Rattle.priority_channel_waiting.specs.Future.Standing.{Waiting, Done}
+use Rattle.priority_channel_core.specs.Future.{Tasks, Futures, poll_of, future_after}
+use Rattle.priority_channel_core.specs.Future.Task.{Send, Sendv, Recv}
+use Rattle.priority_channel_core.specs.Future.Standing.{Waiting, Done}
 use Rattle.priority_channel_laws.specs.WaitingLaw.{side_of}
 use Rattle.priority_channel_laws.proofs.worlds.Hands.{handed_of, StaysOrLeaves, Hands, hands_sends, hands_receives}
 

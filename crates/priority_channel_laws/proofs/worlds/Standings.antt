@@ -6,8 +6,8 @@ use Rattle.std.proofs.lemmas.Bool.{ne_eqb}
 use Rattle.std.proofs.lemmas.Bool.Decides.{eqb_tells}
 use Rattle.priority_channel_core.specs.Waiting.{without_given, listing}
 use Rattle.priority_channel_laws.specs.WaitingLaw.{waker_of}
-use Rattle.priority_channel_waiting.specs.Future.{Futures, ticket_of}
-use Rattle.priority_channel_waiting.specs.Future.Standing.{Waiting, Done}
+use Rattle.priority_channel_core.specs.Future.{Futures, ticket_of}
+use Rattle.priority_channel_core.specs.Future.Standing.{Waiting, Done}
 use Rattle.priority_channel_core.specs.declared.side.Side.{Side}
 use Rattle.priority_channel_laws.specs.WaitingLaw.{side_of}
 use Rattle.priority_channel_core.specs.declared.side.Side.TheVariants.{Room, Message}

@@ -5,9 +5,9 @@ use Rattle.std.proofs.lemmas.Bool.Decides.{eqb_tells}
 use Rattle.priority_channel_core.specs.machine.State.{Handed}
 use Rattle.priority_channel_core.specs.Waiting.{is_listed}
 use Rattle.priority_channel_laws.specs.WaitingLaw.{waker_of}
-use Rattle.priority_channel_waiting.specs.Future.{Futures, ticket_of}
+use Rattle.priority_channel_core.specs.Future.{Futures, ticket_of}
 use Rattle.priority_channel_laws.specs.World.{is_handed, standing_after, call_out}
-use Rattle.priority_channel_waiting.specs.Future.Standing.{Waiting, Called}
+use Rattle.priority_channel_core.specs.Future.Standing.{Waiting, Called}
 use Rattle.priority_channel_core.specs.declared.side.Side.{Side}
 use Rattle.priority_channel_laws.specs.WaitingLaw.{side_of, HasWaiting}
 use Rattle.priority_channel_core.specs.declared.side.Side.TheVariants.{Room, Message}

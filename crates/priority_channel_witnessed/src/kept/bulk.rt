@@ -2,10 +2,10 @@
 ghost use Rattle.priority_channel_witnessed.specs.Items.{list_in, listed, listed_poll};
 ghost use Rattle.priority_channel_witnessed.specs.Passes.{Tells};
 
+use crate::chronicle::{Log, Pass};
 use crate::entry::{Pairs, Told};
 use crate::kept::Kept;
-use crate::log::{Log, Recording};
-use crate::pass::Pass;
+use priority_channel_chronicle::Recording;
 use priority_channel_core::awaitable_atomics::Wakes;
 use priority_channel_core::calls::{Answer, Call, CorePoll};
 use priority_channel_core::errors::{SendFault, TrySendError};

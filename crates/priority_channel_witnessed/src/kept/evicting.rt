@@ -1,10 +1,10 @@
 //! A send that makes room in a full channel.
 ghost use Rattle.priority_channel_witnessed.specs.Passes.{Tells};
 
+use crate::chronicle::{Log, Pass};
 use crate::entry::Told;
 use crate::kept::Kept;
-use crate::log::{Log, Recording};
-use crate::pass::Pass;
+use priority_channel_chronicle::Recording;
 use priority_channel_core::awaitable_atomics::Wakes;
 use priority_channel_core::calls::{Answer, Call};
 use priority_channel_core::errors::TrySendError;

@@ -2,10 +2,10 @@
 ghost use Rattle.priority_channel_core.specs.machine.State.{nobody};
 ghost use Rattle.priority_channel_witnessed.specs.Passes.{Tells};
 
+use crate::chronicle::{Log, Pass};
 use crate::entry::Told;
 use crate::kept::Kept;
-use crate::log::{Log, Recording};
-use crate::pass::Pass;
+use priority_channel_chronicle::Recording;
 use priority_channel_core::awaitable_atomics::Wakes;
 use priority_channel_core::calls::{Answer, Call, CorePoll};
 use priority_channel_core::errors::{RecvFault, SendFault};

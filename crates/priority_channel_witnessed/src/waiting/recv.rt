@@ -7,11 +7,11 @@ ghost use Rattle.priority_channel_witnessed.specs.Passes.{Carried};
 ghost use Rattle.priority_channel_witnessed.specs.Futures.{GivesRecv, WaitsRecv, ListsRecv};
 ghost use Rattle.priority_channel_witnessed.specs.Waits.{IsAnswered, AnswersRecv, recv_in_time};
 
-use crate::log::Recording;
-use crate::pass::Pass;
+use crate::chronicle::Pass;
 use crate::witnessed::Witnessed;
 use futures::Future;
 use futures::task::{Context, Poll};
+use priority_channel_chronicle::Recording;
 use priority_channel_core::calls::CorePoll;
 use priority_channel_core::errors::{RecvError, RecvFault, TryRecvError};
 use priority_channel_waiting::timeouts::RecvTimeoutError;

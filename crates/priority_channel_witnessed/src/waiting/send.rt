@@ -6,11 +6,11 @@ ghost use Rattle.priority_channel_core.specs.Errors.{unsent};
 ghost use Rattle.priority_channel_witnessed.specs.Futures.{GivesSend, WaitsSend, ListsSend};
 ghost use Rattle.priority_channel_witnessed.specs.Waits.{IsAnswered, AnswersSend, send_in_time};
 
-use crate::log::Recording;
-use crate::pass::Pass;
+use crate::chronicle::Pass;
 use crate::witnessed::Witnessed;
 use futures::Future;
 use futures::task::{Context, Poll};
+use priority_channel_chronicle::Recording;
 use priority_channel_core::calls::CorePoll;
 use priority_channel_core::errors::{SendError, SendFault, TrySendError};
 use priority_channel_waiting::timeouts::SendTimeoutError;

@@ -7,12 +7,12 @@ ghost use Rattle.priority_channel_witnessed.specs.Items.{list_in};
 ghost use Rattle.priority_channel_witnessed.specs.Futures.{GivesSendv, WaitsSendv, ListsSendv, GoesOn};
 ghost use Rattle.priority_channel_witnessed.specs.Waits.{IsAnswered, IsSentOn, send_in_time, listed_in_time};
 
+use crate::chronicle::Pass;
 use crate::entry::Pairs;
-use crate::log::Recording;
-use crate::pass::Pass;
 use crate::witnessed::Witnessed;
 use futures::Future;
 use futures::task::{Context, Poll};
+use priority_channel_chronicle::Recording;
 use priority_channel_core::calls::CorePoll;
 use priority_channel_core::errors::{SendError, SendFault, TrySendError};
 use priority_channel_waiting::timeouts::SendTimeoutError;

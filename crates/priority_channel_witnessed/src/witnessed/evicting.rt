@@ -1,9 +1,9 @@
 //! A send that makes room in a full channel.
 ghost use Rattle.priority_channel_witnessed.specs.Passes.{Tells};
 
-use crate::log::Recording;
-use crate::pass::Pass;
+use crate::chronicle::Pass;
 use crate::witnessed::Witnessed;
+use priority_channel_chronicle::Recording;
 use priority_channel_core::awaitable_atomics::Wakes;
 use priority_channel_core::calls::{Answer, Call};
 use priority_channel_core::errors::TrySendError;

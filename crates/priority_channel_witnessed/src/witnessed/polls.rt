@@ -2,9 +2,9 @@
 ghost use Rattle.priority_channel_core.specs.machine.State.{nobody};
 ghost use Rattle.priority_channel_witnessed.specs.Passes.{Tells};
 
-use crate::log::Recording;
-use crate::pass::Pass;
+use crate::chronicle::Pass;
 use crate::witnessed::Witnessed;
+use priority_channel_chronicle::Recording;
 use priority_channel_core::awaitable_atomics::Wakes;
 use priority_channel_core::calls::{Answer, Call, CorePoll};
 use priority_channel_core::errors::{RecvFault, SendFault};

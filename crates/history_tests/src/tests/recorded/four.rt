@@ -116,7 +116,7 @@ fn make_one_history<J: Recording + Send + Sync, R: Threads + Wait + Sync + Abort
     rt: &R,
     fresh: Fresh<u64, u64>,
 )
-    requires names { fresh ≡ names J.log J.capacity J.name J.parts }
+    requires names { fresh ≡ names J.log J.capacity J.is_reserved J.name J.parts }
     requires capacity { fresh.capacity ≡ 3 }
     requires passes { fresh.passes ≡ 4 }
 {

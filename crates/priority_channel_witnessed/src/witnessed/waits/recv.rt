@@ -2,9 +2,9 @@
 ghost use Rattle.priority_channel_witnessed.specs.Passes.{Tells};
 ghost use Rattle.priority_channel_witnessed.specs.Waits.{IsAnswered, AnswersRecv, recv_in_time, received_or_over};
 
-use crate::log::Recording;
-use crate::pass::Pass;
+use crate::chronicle::Pass;
 use crate::witnessed::Witnessed;
+use priority_channel_chronicle::Recording;
 use priority_channel_core::calls::{Answer, Call, CorePoll};
 use priority_channel_core::errors::{RecvError, RecvFault, TryRecvError};
 use priority_channel_waiting::timeouts::RecvTimeoutError;

@@ -6,10 +6,10 @@ ghost use Rattle.priority_channel_waiting.specs.Waits.{unsent_in_time};
 ghost use Rattle.priority_channel_witnessed.specs.Passes.{Tells};
 ghost use Rattle.priority_channel_witnessed.specs.Waits.{IsAnswered, AnswersSend, send_in_time, sent_or_over};
 
-use crate::log::Recording;
-use crate::pass::Pass;
+use crate::chronicle::Pass;
 use crate::witnessed::Witnessed;
 use crate::witnessed::waits::{Sent, in_time};
+use priority_channel_chronicle::Recording;
 use priority_channel_core::calls::{Answer, Call, CorePoll};
 use priority_channel_core::errors::{SendError, SendFault, TrySendError};
 use priority_channel_waiting::timeouts::SendTimeoutError;

@@ -3,11 +3,11 @@ ghost use Rattle.priority_channel_witnessed.specs.Items.{list_in, listed, listed
 ghost use Rattle.priority_channel_witnessed.specs.Passes.{Tells};
 ghost use Rattle.priority_channel_witnessed.specs.Waits.{HasCalled, IsSentOn, send_in_time, sent_or_over, listed_in_time};
 
+use crate::chronicle::Pass;
 use crate::entry::Pairs;
-use crate::log::Recording;
-use crate::pass::Pass;
 use crate::witnessed::Witnessed;
 use crate::witnessed::waits::{Sent, in_time};
+use priority_channel_chronicle::Recording;
 use priority_channel_core::calls::{Answer, Call, CorePoll};
 use priority_channel_core::errors::{SendError, SendFault, TrySendError};
 use priority_channel_waiting::timeouts::SendTimeoutError;

@@ -8,9 +8,7 @@ invariant_of-self-2 g c =
     let pushed = c.in-Ok.ensures in
     let same : c.split_off.new.self.amount ≡ c.self.inside.rest.amount = omega (arith, c.split_off.ensures.amount_left) in (
       before.0,
-      before.1,
-      before.2,
-      omega (arith, before.3, c.split_off.ensures.parts_left, pushed.len),
-      rw pushed.items (given_more _ _ before.4),
-      rw (pushed.items, same) (shared_come _ _ _ _ before.5),
+      omega (arith, before.1, c.split_off.ensures.parts_left, pushed.len),
+      rw pushed.items (given_more _ _ before.2),
+      rw (pushed.items, same) (shared_come _ _ _ _ before.3),
     )

@@ -1,0 +1,21 @@
+use Rattle.std.proofs.Common.{sym, ◌∙◌, ap, subst}
+use mathlib.Core.List.{IsPrefix}
+use Rattle.priority_channel_chronicle.specs.Log.{entries_in}
+use Rattle.priority_channel_chronicle.proofs.Lines.{entries_front}
+use Rattle.priority_channel_chronicle.proofs.Adding.{looks}
+use Rattle.priority_channel_chronicle.proofs.log.Seen.look.Goals as goal
+
+pub load-requires : goal.load-requires
+load-requires g c =
+    let word = c.log.invariant in
+    let offer = c.plain-offer.ensures in (
+      ap (λ w. w.tracked) word,
+      c.self.invariant.0 ∙ sym (ap (λ w. w.book) word),
+      offer.0,
+      rw (ap (λ w. w.key) word, offer.3) (looks g.H.Chronicle.legal c.self.inside.token.log c.plain-offer.result.ask),
+    )
+
+pub returns-clause-seen : goal.returns-clause-seen
+returns-clause-seen g c =
+    subst (λ l. IsPrefix l (entries_in c.load.new.seen.log)) c.self.view_is
+    (entries_front c.self.inside.token.log c.load.new.seen.log c.load.ensures.5)

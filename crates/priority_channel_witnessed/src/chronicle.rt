@@ -1,0 +1,40 @@
+//! What is told of a channel: the calls of its machine.
+use crate::entry::{Entry, Telling};
+use priority_channel_chronicle::Chronicle;
+use std::alloc::Allocator;
+use std::marker::PhantomData;
+
+/// The chronicle of a channel of such messages, priorities and wakers.
+pub struct Calls<T, P: Ord, W: Clone> {
+    of: PhantomData<(T, P, W)>,
+}
+
+impl<T, P: Ord, W: Clone> Chronicle for Calls<T, P, W> {
+    ghost use Rattle.priority_channel_witnessed.specs.History.{IsLegal, who_of, legal_none};
+
+    type Entry = Entry<T, P, W>;
+
+    ghost legal = { IsLegal P.cmp W.is_clone };
+
+    ghost who = { who_of };
+
+    ghost begins = { legal_none P.cmp W.is_clone };
+}
+
+impl<T, P: Ord, W: Clone, A: Allocator> priority_channel_chronicle::Telling<Calls<T, P, W>>
+    for Telling<T, P, W, A> {
+    ghost use Rattle.priority_channel_witnessed.specs.Tells.{told_entry};
+
+    ghost entry = { told_entry };
+}
+
+/// A log without entries and an empty ledger, for one channel to be made of.
+pub type Fresh<T, P, W> = priority_channel_chronicle::Fresh<Calls<T, P, W>>;
+
+pub type Log<T, P, W, J> = priority_channel_chronicle::Log<Calls<T, P, W>, J>;
+
+/// A front of the log that was seen.
+pub type Seen<T, P, W, J> = priority_channel_chronicle::Seen<Calls<T, P, W>, J>;
+
+/// The right to call a channel, for one holder at a time.
+pub type Pass<T, P, W, J> = priority_channel_chronicle::Pass<Calls<T, P, W>, J>;
