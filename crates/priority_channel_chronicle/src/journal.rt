@@ -4,6 +4,7 @@ ghost use mathlib.Core.List.{IsPrefix};
 ghost use Rattle.priority_channel_chronicle.specs.Passes.{IsTold, Accounts, AreApart, AreNew, calls_made, calls_of};
 
 use crate::entry::{Chronicle, Telling};
+use crate::forever::wait_forever;
 use crate::fresh::Recording;
 use crate::log::{Log, Seen};
 use crate::pass::Pass;
@@ -105,19 +106,16 @@ impl<H: Chronicle, J: Recording> Journal<H, J> {
         rest.merge(pass.share);
     }
 
-    // Looks until the log has no more entries than are kept, so that what was seen of it is kept.
+    // The log has no more entries than are kept, so what was seen of it is kept.
     #[tactic(auto, using(crate::proofs::Fronts::prefix_trans, crate::proofs::Fronts::prefix_whole))]
     fn await_front<R: Wait>(&self, rt: &R, log: &Log<H, J>, seen: &Seen<H, J>)
         ensures { IsPrefix seen.now self.now }
     {
-        for _ in rt.forever() {
-            let mut met = self.seen.again();
-            met.learn(seen);
-            if met.look(log) == self.count {
-                return;
-            }
+        let mut met = self.seen.again();
+        met.learn(seen);
+        if met.look(log) != self.count {
+            wait_forever(rt);
         }
-        unreachable!()
     }
 
     /// The whole history, once all passes that are out have come back. The share has the calls of
@@ -171,16 +169,14 @@ impl<H: Chronicle, J: Recording> Journal<H, J> {
 fn next<R: Wait>(rt: &R, count: u64) -> u64
     ensures { result ≡ count + 1 }
 {
-    for _ in rt.forever() {
-        if count < u64::MAX {
-            return count + 1;
-        }
+    if count == u64::MAX {
+        wait_forever(rt);
     }
-    unreachable!()
+    count + 1
 }
 
 // Adds an entry behind all that was kept, of which what `other` has seen is a front. No one else
-// adds one meanwhile, so the first try succeeds, but no contract can say so.
+// adds one meanwhile, but no contract can say so.
 fn append<H: Chronicle, J: Recording, R: Wait, X: Telling<H>>(
     rt: &R,
     log: &Log<H, J>,
@@ -196,12 +192,10 @@ fn append<H: Chronicle, J: Recording, R: Wait, X: Telling<H>>(
     ensures before { IsPrefix other.now kept.now }
     ensures legal { H.legal J.capacity J.is_reserved result }
 {
-    for _ in rt.forever() {
-        let mut seen = kept.again();
-        seen.learn(other);
-        if seen.append(log, count, telling) {
-            return seen;
-        }
+    let mut seen = kept.again();
+    seen.learn(other);
+    if !seen.append(log, count, telling) {
+        wait_forever(rt);
     }
-    unreachable!()
+    seen
 }

@@ -5,12 +5,14 @@
 #![tactic(auto)]
 
 mod entry;
+mod forever;
 mod fresh;
 mod journal;
 mod log;
 mod pass;
 
 pub use entry::{Chronicle, Telling};
+pub use forever::wait_forever;
 pub use fresh::{Fresh, Recording};
 pub use journal::Journal;
 pub use log::{Log, Seen};

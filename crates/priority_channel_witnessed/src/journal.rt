@@ -8,7 +8,7 @@ ghost use Rattle.priority_channel_witnessed.specs.Tells.{entry_of, call_of, answ
 use crate::chronicle::{Calls, Log, Pass, Seen};
 use crate::entry::{Telling, Told};
 use crate::numbers::{strike, strike_all};
-use priority_channel_chronicle::Recording;
+use priority_channel_chronicle::{Recording, wait_forever};
 use priority_channel_core::awaitable_atomics::Wakes;
 use priority_channel_core::channel::PriorityQueueChannel;
 use std::alloc::Allocator;
@@ -184,10 +184,7 @@ impl<T, P: Ord, W: Clone, J: Recording, A: Allocator> Journal<T, P, W, J, A> {
 fn await_given<R: Wait>(rt: &R, number: u64, next: u64)
     ensures { number < next }
 {
-    for _ in rt.forever() {
-        if number < next {
-            return;
-        }
+    if number >= next {
+        wait_forever(rt);
     }
-    unreachable!()
 }

@@ -4,7 +4,7 @@ ghost use Rattle.std.specs.List.Sorted.{IsPermutation};
 ghost use Rattle.priority_channel_witnessed.specs.Passes.{AreGiven};
 
 use crate::chronicle::Pass;
-use priority_channel_chronicle::Recording;
+use priority_channel_chronicle::{Recording, wait_forever};
 use std::alloc::{AllocError, Allocator};
 use std::sync::Wait;
 
@@ -53,12 +53,11 @@ fn await_place<A: Allocator, R: Wait>(rt: &R, numbers: &Vec<u64, A>, number: u64
     ensures within { result < vec_len numbers.now }
     ensures is { number ≡ slice_index_or numbers.now.items result number }
 {
-    for _ in rt.forever() {
-        if let Some(at) = place_of(numbers, number) {
-            return at;
-        }
-    }
-    unreachable!()
+    let Some(at) = place_of(numbers, number) else {
+        wait_forever(rt);
+        unreachable!()
+    };
+    at
 }
 
 /// Takes the numbers of all these passes from those that are out.
