@@ -1,4 +1,4 @@
-//! Scripts of calls by handles and futures, tables over all calls, and the tests that are neither.
+//! Scripts of calls by handles and futures, and the tests that are none.
 use std::fmt::Debug;
 use std::process::Abort;
 
@@ -13,7 +13,6 @@ mod orders;
 mod peeks;
 mod script;
 mod streams;
-mod tables;
 mod taking;
 mod tries;
 mod waits;

@@ -1,7 +1,8 @@
 //! Each request for memory is refused in turn: what was accepted comes out, what was not comes
 //! back, and the channel goes on.
-use super::{Host, Mirrored, input, is_pending, new_task, ready, rest};
-use crate::tests::{expect_equal, expect_equal_at};
+use super::{
+    Host, Mirrored, expect_equal, expect_equal_at, input, is_pending, new_task, ready, rest,
+};
 use async_priority_channel::{Ends, RecvFault, SendFault, bounded, bounded_reserved, unbounded};
 use driver::calls::{Call, Input, Pairs, Side, Way};
 use driver::handles::{Handles, make};

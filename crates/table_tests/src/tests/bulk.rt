@@ -1,7 +1,6 @@
 //! How often a bulk send calls its iterator: not where nothing can be taken, and else once for each
 //! pair that it takes and once more.
-use super::Host;
-use crate::tests::expect_equal_at;
+use super::{Host, expect_equal_at};
 use async_priority_channel::{TrySendError, bounded};
 use std::cell::Cell;
 use std::iter::Peekable;

@@ -1,5 +1,4 @@
 //! Tables over all calls of handles.
-use super::expect_equal_at;
 use async_priority_channel::Ends;
 use driver::calls::{Call, Input, Pairs};
 use driver::handles::{Handles, make};
@@ -25,6 +24,21 @@ mod mirror;
 trait Host: Abort + Wait + Clone + Clock + RandomSource + AllocGlobal {}
 
 impl<R: Abort + Wait + Clone + Clock + RandomSource + AllocGlobal> Host for R {}
+
+/// `assert_eq!`, proved once: each one in place takes seconds of the check.
+fn expect_equal<X: PartialEq + Debug + Drop>(rt: &impl Abort, got: X, wanted: X) {
+    assert_eq!(rt; got, wanted);
+}
+
+/// The same in one round of a loop, which it names where the two differ.
+fn expect_equal_at<N: Debug + Drop, X: PartialEq + Debug + Drop>(
+    rt: &impl Abort,
+    round: N,
+    got: X,
+    wanted: X,
+) {
+    assert_eq!(rt; got, wanted, "at {round:?}");
+}
 
 fn is_pending<T: Drop>(polled: Poll<T>) -> bool {
     matches!(polled, Poll::Pending)

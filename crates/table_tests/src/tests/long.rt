@@ -1,6 +1,5 @@
 //! Long runs: nothing changes after many messages, waits or turns.
-use super::{is_pending, new_task, rest};
-use crate::tests::{expect_equal, expect_equal_at};
+use super::{expect_equal, expect_equal_at, is_pending, new_task, rest};
 use async_priority_channel::{bounded, unbounded};
 use driver::calls::Pairs;
 use futures::executor::block_on;

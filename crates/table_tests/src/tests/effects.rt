@@ -1,6 +1,7 @@
 //! What each call does to tasks that wait: whom it wakes, and that the others wait on.
-use super::{Host, Mirrored, input, is_pending, new_task, ready, rest};
-use crate::tests::{expect_equal, expect_equal_at};
+use super::{
+    Host, Mirrored, expect_equal, expect_equal_at, input, is_pending, new_task, ready, rest,
+};
 use async_priority_channel::bounded;
 use driver::calls::{Call, Input, Side, Way};
 use driver::receive::{receive, tell_many as tell_batch, tell_one as tell_received};

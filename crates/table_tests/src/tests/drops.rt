@@ -1,7 +1,6 @@
 //! What the drop of a future does: it sends and takes nothing, waits no more, and leaves the others
 //! that wait and the lock alone.
-use super::{Host, input, is_pending, new_task, ready, rest};
-use crate::tests::{expect_equal, expect_equal_at};
+use super::{Host, expect_equal, expect_equal_at, input, is_pending, new_task, ready, rest};
 use async_priority_channel::{Receiver, Sender, TryRecvError, bounded};
 use futures::StreamExt;
 use futures::task::Poll;

@@ -1,6 +1,5 @@
 //! Random calls of all kinds: each answers as the plain model does, and so do all looks after it.
-use super::{Host, Mirrored};
-use crate::tests::expect_equal;
+use super::{Host, Mirrored, expect_equal};
 use async_priority_channel::{Ends, bounded, bounded_reserved, unbounded};
 use driver::calls::{Call, Input, Pairs, Side};
 use std::time::Duration;
