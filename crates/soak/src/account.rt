@@ -61,6 +61,15 @@ impl Account {
         Ok(())
     }
 
+    /// Counts what came out of the channel in no order, since a test has chosen it or another was
+    /// sent in its place.
+    pub fn count_chosen(&mut self, pairs: &[Pair]) -> Result<(), Fault> {
+        for (message, priority) in pairs {
+            self.take(*message, *priority)?;
+        }
+        Ok(())
+    }
+
     fn take(&mut self, message: Message, priority: u64) -> Result<(), Fault> {
         let Some(fate) = self.fate_mut(message) else {
             return Err(Fault::MadeUp(message));

@@ -3,7 +3,7 @@
 use crate::account::Account;
 use crate::call::Call;
 use crate::dice::Dice;
-use crate::receiving::{drain, receive_turn};
+use crate::receiving::{Inbox, drain, receive_turn};
 use crate::sending::{Outbox, send_turn};
 use async_priority_channel::bounded;
 use refusing::Refusing;
@@ -27,7 +27,7 @@ pub fn run_alone<R: Wait + Copy + Clock + RandomSource + AllocGlobal>(
     let memory = Refusing::new(rt.alloc());
     let (tx, rx) = bounded(rt, &memory, dice.below(ROOM).saturating_add(1))?;
     let mut outbox = Outbox::new(rt.alloc(), 0, messages);
-    let mut inbox = Vec::new(rt.alloc());
+    let mut inbox = Inbox::new(rt.alloc());
     for _ in 0..u64::MAX {
         if outbox.left() == 0 {
             break;
@@ -43,8 +43,11 @@ pub fn run_alone<R: Wait + Copy + Clock + RandomSource + AllocGlobal>(
     }
     drop(tx);
     let drained = drain(rt.alloc(), &rx)?;
-    let mut account = Account::new(rt.alloc(), vec![in rt.alloc(); outbox.into_fates()]?)?;
-    account.count(&inbox)?;
+    let (fates, displaced) = outbox.into_parts();
+    let mut account = Account::new(rt.alloc(), vec![in rt.alloc(); fates]?)?;
+    account.count(&inbox.received)?;
+    account.count_chosen(&inbox.chosen)?;
+    account.count_chosen(&displaced)?;
     account.count(&drained)?;
     Ok(account.settle()?)
 }

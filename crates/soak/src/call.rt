@@ -22,6 +22,8 @@ pub enum Shape {
     Many,
     /// By an iterator or a stream, or as `Many` where a sender has none.
     Each,
+    /// What a test chooses, or one that may displace another. Such a call never waits.
+    Chosen,
 }
 
 #[derive(Clone, Copy, Debug, PartialEq, Eq)]
@@ -57,10 +59,11 @@ impl Call {
 }
 
 fn draw_shape(dice: &mut Dice) -> Shape {
-    match dice.below(3) {
+    match dice.below(4) {
         0 => Shape::One,
         1 => Shape::Many,
-        _ => Shape::Each,
+        2 => Shape::Each,
+        _ => Shape::Chosen,
     }
 }
 

@@ -3,7 +3,7 @@
 use crate::account::{check_bound, check_falling};
 use crate::call::{Call, Shape, Way};
 use crate::dice::Dice;
-use crate::message::{Message, Pair};
+use crate::message::{Message, PRIORITIES, Pair};
 use crate::sending::from_now;
 use crate::watchdog::Post;
 use anyhow::ensure;
@@ -26,15 +26,31 @@ const LIMIT: u64 = 500;
 // One of so many requests for memory may be refused in a turn.
 const REQUESTS: u64 = 6;
 
+/// What a party has received, in that order, and what tests have chosen for it, in no order.
+#[derive(Drop)]
+pub struct Inbox {
+    pub received: Vec<Pair>,
+    pub chosen: Vec<Pair>,
+}
+
+impl Inbox {
+    pub fn new(alloc: Global) -> Self {
+        Inbox {
+            received: Vec::new(alloc),
+            chosen: Vec::new(alloc),
+        }
+    }
+}
+
 /// Receives until the channel is closed, and leaves what is pending then.
 pub fn receive_all<R: Wait + Copy + Clock + RandomSource + AllocGlobal>(
     rt: &R,
     mut dice: Dice,
     rx: Receiver<Message, u64, R>,
     post: &Post,
-) -> anyhow::Result<Vec<Pair>> {
+) -> anyhow::Result<Inbox> {
     let memory = Refusing::new(rt.alloc());
-    let mut inbox = Vec::new(rt.alloc());
+    let mut inbox = Inbox::new(rt.alloc());
     for _ in 0..u64::MAX {
         if rx.is_closed() {
             break;
@@ -54,7 +70,7 @@ pub fn receive_turn<R: Wait + Copy + Clock + RandomSource + AllocGlobal, A: Allo
     call: Call,
     rx: &Receiver<Message, u64, R, A>,
     memory: &Refusing<Global>,
-    inbox: &mut Vec<Pair>,
+    inbox: &mut Inbox,
 ) -> anyhow::Result<()> {
     memory.refuse_nth(dice.below(REQUESTS));
     let received = match make_other(dice, rx) {
@@ -83,35 +99,55 @@ fn receive_by<R: Wait + Copy + Clock + RandomSource + AllocGlobal, A: Allocator 
     call: Call,
     rx: &Receiver<Message, u64, R, A>,
     memory: &Refusing<Global>,
-    inbox: &mut Vec<Pair>,
+    inbox: &mut Inbox,
 ) -> anyhow::Result<()> {
     let many = dice.from(1, MANY) as usize;
     match (call.shape, call.way) {
         (Shape::Each, Way::Try | Way::Poll) => {
             for pair in rx.try_iter().take(many) {
-                inbox.push(pair)?;
+                inbox.received.push(pair)?;
             }
         }
         (Shape::Each, Way::Future) => {
             if let Some(pair) = block_on(rt, rx.stream().next())? {
-                inbox.push(pair)?;
+                inbox.received.push(pair)?;
             }
         }
         (Shape::Each, _) => {
             for pair in rx.iter().take(many) {
-                inbox.push(pair)?;
+                inbox.received.push(pair)?;
             }
         }
         (Shape::Many, Way::Try | Way::Poll | Way::Future | Way::Blocking) => {
             for pair in receive_many(rt, call.way, rx, memory, many)? {
-                inbox.push(pair)?;
+                inbox.received.push(pair)?;
             }
         }
+        (Shape::Chosen, _) => choose(dice, rx, &mut inbox.chosen)?,
         _ => {
             let limit = Duration::from_micros(dice.below(LIMIT));
             if let Some(pair) = receive_one(rt, call.way, limit, rx)? {
-                inbox.push(pair)?;
+                inbox.received.push(pair)?;
             }
+        }
+    }
+    Ok(())
+}
+
+// Takes out one of a priority, or all.
+fn choose<R: Wait + Copy, A: Allocator + Copy>(
+    dice: &mut Dice,
+    rx: &Receiver<Message, u64, R, A>,
+    chosen: &mut Vec<Pair>,
+) -> anyhow::Result<()> {
+    let wanted = dice.below(PRIORITIES);
+    if dice.one_in(2) {
+        if let Some(pair) = rx.take_where(move |_, priority| *priority == wanted) {
+            chosen.push(pair)?;
+        }
+    } else if let Ok(pairs) = rx.retain(move |_, priority| *priority != wanted) {
+        for pair in pairs {
+            chosen.push(pair)?;
         }
     }
     Ok(())

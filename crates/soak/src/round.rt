@@ -128,10 +128,20 @@ fn settle<R: Wait + Copy>(
         }
     }
     outboxes.sort_by_key(|outbox| outbox.sender)?;
-    let fates = outboxes.into_iter().map(|it| it.into_fates());
-    let mut account = Account::new(alloc, fates.collect(alloc)?)?;
+    let mut fates = Vec::new(alloc);
+    let mut displaced = Vec::new(alloc);
+    for outbox in outboxes {
+        let (its_fates, its_displaced) = outbox.into_parts();
+        fates.push(its_fates)?;
+        displaced.push(its_displaced)?;
+    }
+    let mut account = Account::new(alloc, fates)?;
     for (party, inbox) in &inboxes {
-        account.count(inbox).context(party)?;
+        account.count(&inbox.received).context(party)?;
+        account.count_chosen(&inbox.chosen).context(party)?;
+    }
+    for pairs in &displaced {
+        account.count_chosen(pairs).context("what was displaced")?;
     }
     account
         .count(&drain(alloc, rx).context("the drain")?)

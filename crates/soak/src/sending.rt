@@ -27,6 +27,8 @@ pub struct Outbox {
     pub sender: u64,
     end: u64,
     fates: Vec<Fate>,
+    // Those of any sender that its own have displaced.
+    displaced: Vec<Pair>,
 }
 
 impl Outbox {
@@ -35,12 +37,18 @@ impl Outbox {
             sender,
             end,
             fates: Vec::new(alloc),
+            displaced: Vec::new(alloc),
         }
     }
 
-    pub fn into_fates(self) -> Vec<Fate> {
-        let Outbox { fates, .. } = self;
-        fates
+    /// What has become of its messages, and which it has displaced.
+    pub fn into_parts(self) -> (Vec<Fate>, Vec<Pair>) {
+        let Outbox {
+            fates,
+            displaced,
+            ..
+        } = self;
+        (fates, displaced)
     }
 
     /// How many are still to be sent.
@@ -128,6 +136,10 @@ pub fn send_turn<R: Wait + Copy + Clock + RandomSource + AllocGlobal, A: Allocat
     };
     match answer {
         Answer::Sent(count) => outbox.settle(count, Fate::Accepted)?,
+        Answer::Displaced(pair) => {
+            outbox.settle(1, Fate::Accepted)?;
+            outbox.displaced.push(pair)?;
+        }
         Answer::Dropped(count, fate) => outbox.settle(count, fate)?,
         Answer::Closed(count) => {
             outbox.settle(count, Fate::Accepted)?;
@@ -154,6 +166,8 @@ fn make_other<R: Wait + Copy, A: Allocator + Copy>(
 enum Answer {
     // So many were sent, and the rest can be sent again.
     Sent(u64),
+    // One was sent in place of this one.
+    Displaced(Pair),
     // So many were sent before the channel was closed.
     Closed(u64),
     // So many have gone with their future.
@@ -178,12 +192,25 @@ fn send_by<R: Wait + Copy + Clock + RandomSource + AllocGlobal, A: Allocator + C
     outbox: &Outbox,
 ) -> anyhow::Result<Answer> {
     let limit = Duration::from_micros(dice.below(LIMIT));
-    if call.shape == Shape::One {
-        return send_one(rt, call.way, limit, tx, outbox.pair(0));
+    match call.shape {
+        Shape::One => return send_one(rt, call.way, limit, tx, outbox.pair(0)),
+        Shape::Chosen => return Ok(send_evicting(tx, outbox.pair(0))),
+        Shape::Many | Shape::Each => {}
     }
     let count = dice.from(1, BULK).min(outbox.left());
     let pairs = (0..count).map(|ahead| outbox.pair(ahead));
     send_many(rt, call.way, limit, tx, pairs.collect(rt.alloc())?)
+}
+
+fn send_evicting<R: Wait + Copy, A: Allocator + Copy>(
+    tx: &Sender<Message, u64, R, A>,
+    (message, priority): Pair,
+) -> Answer {
+    match tx.try_send_evicting(message, priority) {
+        Ok(None) => Answer::Sent(1),
+        Ok(Some(displaced)) => Answer::Displaced(displaced),
+        Err(error) => Answer::new(0, error.is_closed()),
+    }
 }
 
 fn send_one<R: Wait + Copy + Clock + RandomSource + AllocGlobal, A: Allocator + Copy>(

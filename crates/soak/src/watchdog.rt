@@ -1,7 +1,7 @@
 //! Who waits for the parties of a round, and names those that hang.
 
 use crate::call::Call;
-use crate::message::Pair;
+use crate::receiving::Inbox;
 use crate::sending::Outbox;
 use anyhow::{Context, bail};
 use crossbeam_channel::{Receiver, Sender, unbounded};
@@ -31,7 +31,7 @@ impl fmt::Display for Party {
 #[derive(Drop)]
 pub enum Work {
     Sent(Outbox),
-    Received(Vec<Pair>),
+    Received(Inbox),
     Counted(u64),
 }
 
