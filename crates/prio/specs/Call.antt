@@ -1,3 +1,4 @@
+-- The calls of a script, and the line that asks for each.
 use Rattle.std.specs.Prelude.{ℕ, List, ◌++◌, codes, ⊤, FitsSigned}
 use Rattle.std.specs.Int.{w64}
 use Rattle.std.specs.Option.{option_copied}

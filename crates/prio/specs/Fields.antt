@@ -1,3 +1,4 @@
+-- The fields of a line: its first one, words, and pairs.
 use Rattle.std.specs.Prelude.{ℕ, ℤ, List, [], ◌∷◌, ◌++◌, ◌<◌, ◌==◌, if◌then◌else◌, length, All, Option, Some, None, FitsSigned}
 use Rattle.std.specs.Int.{w64}
 use Rattle.std.specs.declared.string.String.{String}

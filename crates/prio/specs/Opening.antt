@@ -1,3 +1,4 @@
+-- The first line of a script, which makes the channel.
 use Rattle.std.specs.Prelude.{ℕ, List, ◌++◌, codes, ⊤, ◌<◌, ◌^◌}
 use Rattle.std.specs.Fmt.{decimal}
 use Rattle.prio.specs.declared.grammar.Opening.{Opening}

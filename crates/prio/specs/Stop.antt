@@ -1,3 +1,4 @@
+-- What is printed about a script that ends early.
 use Rattle.std.specs.Prelude.{ℕ, List, ◌++◌, codes}
 use Rattle.std.specs.Fmt.{decimal}
 use Rattle.prio.specs.declared.faults.Fault.{Fault}

@@ -1,3 +1,4 @@
+-- Runs of the same calls, from states that are the same except for clones of wakers.
 pub mod Calls
 pub mod Evicting
 pub mod Lists

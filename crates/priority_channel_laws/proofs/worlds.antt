@@ -1,3 +1,4 @@
+-- Worlds of futures, and what each event preserves.
 pub mod Callings
 pub mod Events
 pub mod Hands

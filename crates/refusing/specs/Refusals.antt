@@ -1,3 +1,4 @@
+-- Which requests for memory are refused.
 use Rattle.std.specs.Prelude.{Bool, true, false, ℕ, ◌==◌}
 use Rattle.refusing.specs.declared.requests.Refusals.{Refusals}
 use Rattle.refusing.specs.declared.requests.Refusals.TheVariants.{Never, Unmet, After, Always}

@@ -1,3 +1,4 @@
+-- Which round comes next, and when the rounds end.
 use Rattle.std.specs.Prelude.{ℕ, ◌+◌, ◌-◌, ◌≡◌, ◌<◌, ◌≤◌, Option, Some, None, Result, Ok, Err}
 use Rattle.refusing.specs.declared.rounds.TheConstants.{MOST_ROUNDS}
 use Rattle.refusing.specs.declared.rounds.Vacuous.{Vacuous}

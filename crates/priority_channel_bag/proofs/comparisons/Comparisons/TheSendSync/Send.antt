@@ -1,3 +1,4 @@
+-- A counter may move to another thread.
 use denote.Param.Send.{IsSend, owning_send, sendable}
 use Rattle.priority_channel_bag.specs.contracts.comparisons.Comparisons.{the_row, the_type}
 

@@ -1,3 +1,4 @@
+-- Threads may share a counter.
 use denote.Param.Send.{IsSync, cell_keyless}
 use denote.Memory.{part_of, raw_all}
 use Rattle.priority_channel_bag.specs.contracts.comparisons.Comparisons.{the_row}
