@@ -1,4 +1,4 @@
-//! The party that has a channel of its own, on one thread, in memory of which some is refused.
+//! The worker that has a channel of its own, on one thread, in memory of which some is refused.
 
 use crate::account::Account;
 use crate::call::Call;

@@ -1,4 +1,4 @@
-//! The kinds of calls by which parties send and receive.
+//! The kinds of calls by which workers send and receive.
 
 use crate::dice::Dice;
 use std::fmt;

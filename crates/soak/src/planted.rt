@@ -4,7 +4,7 @@
 use crate::account::{Account, Fate, Fault, check_falling};
 use crate::call::{Call, Shape, Way};
 use crate::message::{Message, Pair};
-use crate::watchdog::{Party, Watchdog, Work};
+use crate::watchdog::{Watchdog, Work, Worker};
 use anyhow::{Context, bail};
 use std::alloc::{AllocError, AllocGlobal, Global};
 use std::sync::Wait;
@@ -74,14 +74,14 @@ fn settle(
     )
 }
 
-// The error of the watchdog over two parties, of which one ends.
+// The error of the watchdog over two workers, of which one ends.
 fn wait_for_one_that_hangs<R>(rt: &R) -> anyhow::Result<anyhow::Error>
 where
     R: Wait + Clock + AllocGlobal,
 {
     let mut watchdog = Watchdog::new(rt.alloc())?;
-    let ends = watchdog.add(rt.alloc(), Party::Alone)?;
-    let hangs = watchdog.add(rt.alloc(), Party::Receiver(2))?;
+    let ends = watchdog.add(rt.alloc(), Worker::Alone)?;
+    let hangs = watchdog.add(rt.alloc(), Worker::Receiver(2))?;
     ends.report(rt, Ok(Work::Counted(1)));
     hangs.note(
         rt,

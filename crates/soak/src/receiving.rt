@@ -1,4 +1,4 @@
-//! The party that receives, by which calls.
+//! The worker that receives, by which calls.
 
 use crate::account::{check_bound, check_falling};
 use crate::call::{Call, Shape, Way};
@@ -26,7 +26,7 @@ const LIMIT: u64 = 500;
 // One of so many requests for memory may be refused in a turn.
 const REQUESTS: u64 = 6;
 
-/// What a party has received, in that order, and what tests have chosen for it, in no order.
+/// What a worker has received, in order, and what its tests have chosen, in no order.
 #[derive(Drop)]
 pub struct Inbox {
     pub received: Vec<Pair>,
@@ -196,7 +196,7 @@ fn receive_many<'a, R: Wait + Copy + RandomSource + AllocGlobal, A: Allocator + 
     Ok(batch)
 }
 
-/// Once all other parties have gone: receives what is left in the closed channel.
+/// Receives what is left in the closed channel, once all other workers have ended.
 pub fn drain<R: Wait + Copy, A: Allocator + Copy>(
     alloc: Global,
     rx: &Receiver<Message, u64, R, A>,

@@ -1,4 +1,4 @@
-//! A round: a channel, its parties, and the count of what they have done.
+//! A round: a channel, its workers, and the count of what they have done.
 
 use crate::account::Account;
 use crate::alone::run_alone;
@@ -6,7 +6,7 @@ use crate::dice::Dice;
 use crate::message::Message;
 use crate::receiving::{drain, receive_all};
 use crate::sending::{Closing, Outbox, send_all};
-use crate::watchdog::{Party, Watchdog, Work};
+use crate::watchdog::{Watchdog, Work, Worker};
 use anyhow::Context;
 use async_priority_channel::{Ends, Receiver, bounded, bounded_reserved, unbounded};
 use std::alloc::{AllocError, AllocGlobal, Global};
@@ -27,10 +27,10 @@ const MESSAGES: u64 = 300;
 
 const MORE_MESSAGES: u64 = 1000;
 
-// How many the party on its own has.
+// How many messages the worker on its own has.
 const MESSAGES_ALONE: u64 = 500;
 
-// In seconds. So long at least one party ends where all go on.
+// In seconds. While all go on, at least one worker ends within this time.
 const PATIENCE: u64 = 30;
 
 /// Runs the round of this seed, and tells how many messages it had. What is drawn depends on the
@@ -46,7 +46,7 @@ where
     settle(rt.alloc(), &rx, works)
 }
 
-// Starts the parties. They have all senders, so that the last of them closes the channel where none
+// Starts the workers. They have all senders, so that the last of them closes the channel where none
 // has done so before.
 fn start<R>(
     rt: R,
@@ -59,7 +59,7 @@ where
     let (tx, rx) = make_channel(&rt, dice)?;
     let close = draw_close(dice);
     for number in 0..dice.from(1, SENDERS) {
-        let post = watchdog.add(rt.alloc(), Party::Sender(number))?;
+        let post = watchdog.add(rt.alloc(), Worker::Sender(number))?;
         let outbox = Outbox::new(rt.alloc(), number, dice.from(MESSAGES, MORE_MESSAGES));
         let (dice, tx) = (dice.split(), tx.clone()?);
         let closing = closing_of(number, close);
@@ -69,14 +69,14 @@ where
         })?;
     }
     for number in 0..dice.from(1, RECEIVERS) {
-        let post = watchdog.add(rt.alloc(), Party::Receiver(number))?;
+        let post = watchdog.add(rt.alloc(), Worker::Receiver(number))?;
         let (dice, rx) = (dice.split(), rx.clone()?);
         thread::spawn(&rt, move || {
             let received = receive_all(&rt, dice, rx, &post);
             post.report(&rt, received.map(Work::Received));
         })?;
     }
-    let post = watchdog.add(rt.alloc(), Party::Alone)?;
+    let post = watchdog.add(rt.alloc(), Worker::Alone)?;
     let dice = dice.split();
     thread::spawn(&rt, move || {
         let counted = run_alone(&rt, dice, MESSAGES_ALONE);
@@ -111,19 +111,19 @@ where
     }
 }
 
-// Counts all messages, once all parties have ended.
+// Counts all messages, once all workers have ended.
 fn settle<R: Wait + Copy>(
     alloc: Global,
     rx: &Receiver<Message, u64, R>,
-    works: Vec<(Party, Work)>,
+    works: Vec<(Worker, Work)>,
 ) -> anyhow::Result<u64> {
     let mut outboxes = Vec::new(alloc);
     let mut inboxes = Vec::new(alloc);
     let mut alone = 0;
-    for (party, work) in works {
+    for (worker, work) in works {
         match work {
             Work::Sent(outbox) => outboxes.push(outbox)?,
-            Work::Received(inbox) => inboxes.push((party, inbox))?,
+            Work::Received(inbox) => inboxes.push((worker, inbox))?,
             Work::Counted(messages) => alone = messages,
         }
     }
@@ -136,9 +136,9 @@ fn settle<R: Wait + Copy>(
         displaced.push(its_displaced)?;
     }
     let mut account = Account::new(alloc, fates)?;
-    for (party, inbox) in &inboxes {
-        account.count(&inbox.received).context(party)?;
-        account.count_chosen(&inbox.chosen).context(party)?;
+    for (worker, inbox) in &inboxes {
+        account.count(&inbox.received).context(worker)?;
+        account.count_chosen(&inbox.chosen).context(worker)?;
     }
     for pairs in &displaced {
         account.count_chosen(pairs).context("what was displaced")?;

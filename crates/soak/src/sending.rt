@@ -1,4 +1,4 @@
-//! The party that sends: by which calls, and what has become of its messages.
+//! The worker that sends: by which calls, and what has become of its messages.
 
 use crate::account::{Fate, check_bound};
 use crate::call::{Call, Shape, Way};

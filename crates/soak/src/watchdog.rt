@@ -1,4 +1,4 @@
-//! Who waits for the parties of a round, and names those that hang.
+//! Waits for the workers of a round, and names those that hang.
 
 use crate::call::Call;
 use crate::receiving::Inbox;
@@ -11,23 +11,23 @@ use std::sync::{Arc, Mutex, Wait};
 use std::time::{Clock, Duration};
 
 #[derive(Clone, Copy, Debug, PartialEq, Eq)]
-pub enum Party {
+pub enum Worker {
     Sender(u64),
     Receiver(u64),
     Alone,
 }
 
-impl fmt::Display for Party {
+impl fmt::Display for Worker {
     fn fmt<W: fmt::Write>(&self, f: &mut fmt::Formatter<W>) -> fmt::Result {
         match self {
-            Party::Sender(number) => write!(f, "sender {number}"),
-            Party::Receiver(number) => write!(f, "receiver {number}"),
-            Party::Alone => write!(f, "the party on its own"),
+            Worker::Sender(number) => write!(f, "sender {number}"),
+            Worker::Receiver(number) => write!(f, "receiver {number}"),
+            Worker::Alone => write!(f, "the worker on its own"),
         }
     }
 }
 
-/// What a party has done by its end.
+/// What a worker has done by its end.
 #[derive(Drop)]
 pub enum Work {
     Sent(Outbox),
@@ -37,36 +37,40 @@ pub enum Work {
 
 #[derive(Drop)]
 struct Report {
-    party: Party,
+    worker: Worker,
     work: anyhow::Result<Work>,
 }
 
-/// Where a party tells the watchdog what it does.
+/// Where a worker tells the watchdog what it does.
 #[derive(Drop)]
 pub struct Post {
-    party: Party,
+    worker: Worker,
     call: Arc<Mutex<Option<Call>>, Global>,
     reports: Sender<Report, Global>,
 }
 
 impl Post {
-    /// The party makes this call now.
+    /// The worker makes this call now.
     pub fn note<R: Wait>(&self, rt: &R, call: Call) {
         *self.call.lock(rt) = Some(call);
     }
 
-    /// The last that a party does, once its handles are dropped.
+    /// A worker reports last of all, once its handles are dropped.
     pub fn report<R: Wait>(self, rt: &R, work: anyhow::Result<Work>) {
-        let Post { party, reports, .. } = self;
-        // Nobody waits for it any more where another party has failed.
-        let _ = reports.send(rt, Report { party, work });
+        let Post {
+            worker,
+            reports,
+            ..
+        } = self;
+        // The watchdog no longer waits if another worker has failed.
+        let _ = reports.send(rt, Report { worker, work });
     }
 }
 
-// A party that has not reported yet.
+// A worker that has not reported yet.
 #[derive(Drop)]
 struct Watched {
-    party: Party,
+    worker: Worker,
     call: Arc<Mutex<Option<Call>>, Global>,
 }
 
@@ -87,39 +91,39 @@ impl Watchdog {
         })
     }
 
-    pub fn add(&mut self, alloc: Global, party: Party) -> Result<Post, AllocError> {
+    pub fn add(&mut self, alloc: Global, worker: Worker) -> Result<Post, AllocError> {
         let call = Arc::new(alloc, Mutex::new(None))?;
         let post = Post {
-            party,
+            worker,
             call: Arc::try_clone(&call)?,
             reports: self.sender.clone()?,
         };
-        self.watched.push(Watched { party, call })?;
+        self.watched.push(Watched { worker, call })?;
         Ok(post)
     }
 
     /// What all have done, in the order in which they have ended. The error is that of the first
     /// that has failed, or names those that are left where nobody reports for so long.
-    pub fn wait_all<R>(mut self, rt: &R, patience: Duration) -> anyhow::Result<Vec<(Party, Work)>>
+    pub fn wait_all<R>(mut self, rt: &R, patience: Duration) -> anyhow::Result<Vec<(Worker, Work)>>
     where
         R: Wait + Clock + AllocGlobal,
     {
         let mut done = Vec::new(rt.alloc());
         for _ in 0..self.watched.len() {
-            let Ok(Report { party, work }) = self.reports.recv_timeout(rt, patience) else {
+            let Ok(Report { worker, work }) = self.reports.recv_timeout(rt, patience) else {
                 bail!("no end of {}", self.names_of_those_left(rt)?);
             };
-            done.push((party, work.context(party)?))?;
-            self.watched.retain(|watched| watched.party != party);
+            done.push((worker, work.context(worker)?))?;
+            self.watched.retain(|watched| watched.worker != worker);
         }
         Ok(done)
     }
 
     fn names_of_those_left<R: Wait + AllocGlobal>(&self, rt: &R) -> anyhow::Result<String> {
         let mut names = String::new(rt.alloc());
-        for Watched { party, call } in &self.watched {
+        for Watched { worker, call } in &self.watched {
             let comma = if names.is_empty() { "" } else { ", " };
-            names.push_str(&format!(in rt.alloc(); "{comma}{party}")?)?;
+            names.push_str(&format!(in rt.alloc(); "{comma}{worker}")?)?;
             if let Some(call) = *call.lock(rt) {
                 names.push_str(&format!(in rt.alloc(); " in {call}")?)?;
             }
