@@ -2,9 +2,10 @@
 ghost use Rattle.std.specs.Prelude.{◌≡◌, ◌-◌, ◌<◌, ◌^◌, IfOk};
 ghost use Rattle.priority_channel_core.specs.machine.State.{opening};
 
-use crate::receiver::Receiver;
-use crate::sender::Sender;
-use crate::shared::Handle;
+use crate::end::End;
+use crate::handle::Handle;
+use crate::receiver::{Receiver, Receiving};
+use crate::sender::{Sender, Sending};
 use priority_channel_waiting::waiter::Core;
 use std::alloc::{AllocError, Allocator, Global};
 use std::sync::Wait;
@@ -96,5 +97,13 @@ fn ends<T: Drop, P: Ord + Drop, R: Wait + Clone, A: Allocator + Copy>(
     ensures same { IfOk result (λ ends. ends.1 ≡ ends.0) }
 {
     let (sending, receiving) = Handle::pair(rt, alloc, cap, core)?;
-    Ok((Sender { handle: sending }, Receiver { handle: receiving }))
+    let sender = End {
+        handle: sending,
+        role: Sending,
+    };
+    let receiver = End {
+        handle: receiving,
+        role: Receiving,
+    };
+    Ok((sender, receiver))
 }

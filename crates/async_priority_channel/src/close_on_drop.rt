@@ -1,7 +1,7 @@
 //! A guard that closes its channel.
+use crate::handle::Handle;
 use crate::receiver::Receiver;
 use crate::sender::Sender;
-use crate::shared::Handle;
 use std::alloc::{Allocator, Global};
 use std::sync::Wait;
 

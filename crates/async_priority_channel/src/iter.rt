@@ -2,8 +2,8 @@
 ghost use Rattle.std.specs.Prelude.{◌≡◌, ◌<◌, IfSome, IfNone, None};
 ghost use Rattle.std.specs.Iterator.{at_most};
 
+use crate::handle::Handle;
 use crate::receiver::Receiver;
-use crate::shared::Handle;
 use priority_channel_waiting::attempts::Receive;
 use priority_channel_waiting::timeouts::Ended;
 use priority_channel_waiting::until::Endless;

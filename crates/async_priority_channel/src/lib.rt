@@ -230,13 +230,15 @@
 mod blocking;
 mod channel;
 mod close_on_drop;
+mod end;
+mod handle;
+mod identity;
 mod iter;
 mod many;
 mod parked;
 mod peek;
 mod receiver;
 mod sender;
-mod shared;
 mod stream;
 mod taking;
 pub mod waiting;
@@ -244,6 +246,7 @@ mod weak;
 
 pub use channel::{Ends, bounded, bounded_reserved, unbounded};
 pub use close_on_drop::CloseOnDrop;
+pub use end::{End, Role};
 pub use iter::{IntoIter, Iter, TryIter};
 pub use many::RecvMany;
 pub use priority_channel_core::errors::{
@@ -252,8 +255,8 @@ pub use priority_channel_core::errors::{
 pub use priority_channel_laws::laws;
 pub use priority_channel_recorded as recorded;
 pub use priority_channel_waiting::timeouts::{RecvTimeoutError, SendTimeoutError};
-pub use receiver::Receiver;
-pub use sender::Sender;
+pub use receiver::{Receiver, Receiving};
+pub use sender::{Sender, Sending};
 pub use stream::{IntoStream, RecvStream};
 pub use waiting::{Recv, Send, Sendv};
-pub use weak::{WeakReceiver, WeakSender};
+pub use weak::{Weak, WeakReceiver, WeakSender};

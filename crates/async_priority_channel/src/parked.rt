@@ -39,7 +39,7 @@
 ghost use Rattle.std.specs.Prelude.{IfErr, IfSome};
 ghost use Rattle.priority_channel_waiting.specs.Waits.{left_over, given_back};
 
-use crate::shared::Handle;
+use crate::handle::Handle;
 use crossbeam_utils::Backoff;
 use priority_channel_core::side::Side;
 use priority_channel_waiting::attempts::{Attempt, Outcome};

@@ -4,18 +4,35 @@ ghost use Rattle.std.specs.declared.cmp.Ordering.TheVariants.{Less};
 ghost use Rattle.std.specs.Iterator.Adapters.{peekable_can};
 ghost use Rattle.priority_channel_core.specs.code.Lists.{HasList};
 ghost use Rattle.priority_channel_core.specs.Errors.{rest_of};
-ghost use Rattle.priority_channel_core.specs.machine.OtherCalls.{capacity_told};
 ghost use Rattle.priority_channel_waiting.specs.Holding.{HoldsTail, unpolled};
 
-use crate::shared::Handle;
+use crate::end::{End, Role};
 use crate::waiting::{Send, Sendv};
+use priority_channel_core::awaitable_atomics::Wakes;
 use priority_channel_core::errors::TrySendError;
-use std::alloc::{AllocError, Allocator, Global};
+use priority_channel_waiting::waiter::{Core, Waiter};
+use std::alloc::{Allocator, Global};
 use std::fmt;
 use std::iter::Peekable;
-use std::marker::Model;
-use std::random::RandomSource;
 use std::sync::Wait;
+
+/// The role of a sender.
+#[derive(Clone, Copy)]
+pub struct Sending;
+
+impl Role for Sending {
+    fn join<T, P: Ord, A: Allocator + Copy>(core: &mut Core<T, P, A>) -> bool {
+        core.clone_sender()
+    }
+
+    fn leave<T, P: Ord, A: Allocator + Copy>(core: &mut Core<T, P, A>) -> Wakes<Waiter<A>, A> {
+        // The prover does not know that the count includes the sender, so we test it.
+        if core.sender_count() == 0 {
+            return core.nobody();
+        }
+        core.drop_sender()
+    }
+}
 
 /// Sends messages into a channel, each with a priority.
 ///
@@ -27,19 +44,8 @@ use std::sync::Wait;
 ///
 /// The other calls are `close`, `close_on_drop`, `downgrade`, `same_channel`, `clone`, and the
 /// queries `is_closed`, `is_empty`, `is_full`, `len`, `capacity`, `sender_count` and
-/// `receiver_count`.
-///
-/// A call that returns at once takes the channel's lock for one step, and then wakes the waiters
-/// that can go on. A message wakes all tasks that wait for one, and the first of the threads that
-/// wait for one. A task that then finds nothing waits again. A call that waits makes such a step
-/// for each try. On a thread it tries again for some microseconds before the thread sleeps, if such
-/// tries were recently of use. `capacity`, `same_channel`, `downgrade`, and the calls that make a
-/// future or a guard take no lock. A handle can be moved to other threads, lent to them, and
-/// cloned. The channel closes when its last sender is dropped.
-///
-/// The channel calls some of the user's code under its lock: the order of priorities, and the
-/// iterator of a bulk send and its drop. This code must neither use the channel nor own a handle of
-/// it.
+/// `receiver_count`. `End` has those that a receiver has too, and tells what a call costs and which
+/// of the user's code is called under the channel's lock.
 ///
 /// ```
 /// let (tx, rx) = unbounded(&rt, rt.alloc())?;
@@ -51,17 +57,7 @@ use std::sync::Wait;
 /// assert!(rt; rx.is_closed());
 /// assert_eq!(rt; rx.try_recv(), Ok(("Foo", 0)));
 /// ```
-pub struct Sender<T, P: Ord, R: Wait + Clone, A: Allocator + Copy = Global> {
-    pub(crate) handle: Handle<T, P, R, A>,
-}
-
-impl<T, P: Ord, R: Wait + Clone, A: Allocator + Copy> Model for Sender<T, P, R, A> {
-    ghost use Rattle.async_priority_channel.specs.Handles.{Channel};
-
-    ghost Value = { Channel };
-
-    ghost view = { λ s. s.handle };
-}
+pub type Sender<T, P, R, A = Global> = End<Sending, T, P, R, A>;
 
 impl<T: Drop, P: Ord + Drop, R: Wait + Clone, A: Allocator + Copy> Sender<T, P, R, A> {
     /// Sends as many messages as there is room for, in one step. The error gives back the rest:
@@ -203,175 +199,6 @@ impl<T, P: Ord, R: Wait + Clone, A: Allocator + Copy> Sender<T, P, R, A> {
         let (sent, wakes) = core.try_send_evicting(msg, priority);
         self.handle.release(core, wakes);
         sent
-    }
-
-    /// Closes the channel for good, and returns whether it was open. Pending messages can still be
-    /// received. All waiting tasks and threads are woken.
-    ///
-    /// ```
-    /// let (tx, rx) = unbounded(&rt, rt.alloc())?;
-    /// tx.try_send("Foo", 0)?;
-    /// assert!(rt; tx.close());
-    /// let refused = tx.try_send("Bar", 2);
-    /// assert_eq!(rt; refused, Err(TrySendError::Closed(("Bar", 2))));
-    /// assert_eq!(rt; rx.try_recv(), Ok(("Foo", 0)));
-    /// assert_eq!(rt; rx.try_recv(), Err(TryRecvError::Closed));
-    /// ```
-    pub fn close(&self) -> bool {
-        self.handle.close()
-    }
-
-    /// Whether the channel is closed: by a call of `close`, or by the drop of the last sender or
-    /// receiver.
-    ///
-    /// ```
-    /// let (tx, rx) = unbounded::<&str, u64, _, _>(&rt, rt.alloc())?;
-    /// assert!(rt; !tx.is_closed());
-    /// drop(rx);
-    /// assert!(rt; tx.is_closed());
-    /// ```
-    pub fn is_closed(&self) -> bool {
-        self.handle.is_closed()
-    }
-
-    /// Whether no message is pending.
-    ///
-    /// ```
-    /// let (tx, rx) = unbounded(&rt, rt.alloc())?;
-    /// tx.try_send("Foo", 0)?;
-    /// assert!(rt; !tx.is_empty());
-    /// rx.try_recv()?;
-    /// assert!(rt; tx.is_empty());
-    /// ```
-    pub fn is_empty(&self) -> bool {
-        self.handle.is_empty()
-    }
-
-    /// Whether there is no room.
-    ///
-    /// ```
-    /// let (tx, rx) = bounded(&rt, rt.alloc(), 1)?;
-    /// tx.try_send("Foo", 0)?;
-    /// assert!(rt; tx.is_full());
-    /// rx.try_recv()?;
-    /// assert!(rt; !tx.is_full());
-    /// ```
-    pub fn is_full(&self) -> bool {
-        self.handle.is_full()
-    }
-
-    /// The number of pending messages.
-    ///
-    /// ```
-    /// let (tx, rx) = bounded(&rt, rt.alloc(), 10)?;
-    /// tx.try_send("Foo", 0)?;
-    /// tx.try_send("Bar", 2)?;
-    /// assert_eq!(rt; tx.len(), 2);
-    /// rx.try_recv()?;
-    /// assert_eq!(rt; tx.len(), 1);
-    /// ```
-    pub fn len(&self) -> u64 {
-        self.handle.len()
-    }
-
-    /// The greatest number of messages that may be pending at a time. None if the capacity is
-    /// `u64::MAX`. It takes no lock.
-    ///
-    /// ```
-    /// let (tx, _rx) = bounded::<&str, u64, _, _>(&rt, rt.alloc(), 10)?;
-    /// assert_eq!(rt; tx.capacity(), Some(10));
-    /// let (tx, _rx) = unbounded::<&str, u64, _, _>(&rt, rt.alloc())?;
-    /// assert_eq!(rt; tx.capacity(), None);
-    /// ```
-    pub fn capacity(&self) -> Option<u64>
-        ensures { result ≡ capacity_told self.now.capacity }
-    {
-        self.handle.capacity()
-    }
-
-    /// Whether the other is a sender of the same channel.
-    ///
-    /// A channel draws 128 random bits when it is compared for the first time, and is identified by
-    /// them. So the permission must also be a `RandomSource`.
-    ///
-    /// ```
-    /// let (tx, _rx) = unbounded::<&str, u64, _, _>(&rt, rt.alloc())?;
-    /// let (other, _other_rx) = unbounded(&rt, rt.alloc())?;
-    /// assert!(rt; tx.same_channel(&tx.clone()?));
-    /// assert!(rt; !tx.same_channel(&other));
-    /// ```
-    pub fn same_channel(&self, other: &Sender<T, P, R, A>) -> bool
-    where
-        R: RandomSource,
-    {
-        self.handle.is_same(&other.handle)
-    }
-
-    /// The number of the channel's senders.
-    ///
-    /// ```
-    /// let (tx, _rx) = unbounded::<&str, u64, _, _>(&rt, rt.alloc())?;
-    /// let other = tx.clone()?;
-    /// assert_eq!(rt; tx.sender_count(), 2);
-    /// drop(other);
-    /// assert_eq!(rt; tx.sender_count(), 1);
-    /// ```
-    pub fn sender_count(&self) -> usize {
-        self.handle.sender_count()
-    }
-
-    /// The number of the channel's receivers.
-    ///
-    /// ```
-    /// let (tx, rx) = unbounded::<&str, u64, _, _>(&rt, rt.alloc())?;
-    /// assert_eq!(rt; tx.receiver_count(), 1);
-    /// drop(rx);
-    /// assert_eq!(rt; tx.receiver_count(), 0);
-    /// ```
-    pub fn receiver_count(&self) -> usize {
-        self.handle.receiver_count()
-    }
-}
-
-/// Another sender of the channel. It is refused if there are more than `usize::MAX / 2`, or if
-/// memory is refused. The count is then unchanged.
-///
-/// ```
-/// let (tx, rx) = unbounded(&rt, rt.alloc())?;
-/// let other = tx.clone()?;
-/// let sending = thread::spawn(&rt, move || other.try_send("Foo", 0))?;
-/// assert_eq!(rt; sending.join(&rt), Ok(()));
-/// assert!(rt; !rx.is_closed());
-/// drop(tx);
-/// assert!(rt; rx.is_closed());
-/// ```
-impl<T: Drop, P: Ord + Drop, R: Wait + Clone, A: Allocator + Copy> Clone for Sender<T, P, R, A> {
-    ghost use Rattle.async_priority_channel.specs.Handles.{SameChannel};
-
-    ghost is_clone = { SameChannel };
-
-    fn clone(&self) -> Result<Self, AllocError> {
-        let handle = self.handle.share()?;
-        // This comes last, so that a refusal above leaves the count unchanged.
-        if !self.handle.lock().clone_sender() {
-            return Err(AllocError);
-        }
-        Ok(Sender { handle })
-    }
-}
-
-impl<T: Drop, P: Ord + Drop, R: Wait + Clone, A: Allocator + Copy> Drop for Sender<T, P, R, A> {
-    fn drop(self) {
-        let Sender { handle } = self;
-        let mut core = handle.lock();
-        // The prover does not know that the count behind the lock includes this handle, so we test
-        // it.
-        let wakes = if core.sender_count() > 0 {
-            core.drop_sender()
-        } else {
-            core.nobody()
-        };
-        handle.release(core, wakes);
     }
 }
 

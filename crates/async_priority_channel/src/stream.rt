@@ -6,8 +6,8 @@ ghost use Rattle.futures.specs.Runs.{After, Within};
 ghost use Rattle.async_priority_channel.specs.Handles.{MayYield};
 ghost use Rattle.priority_channel_waiting.specs.Waits.{OnBlocked};
 
+use crate::handle::Handle;
 use crate::receiver::Receiver;
-use crate::shared::Handle;
 use futures::Stream;
 use futures::task::{Context, Poll};
 use priority_channel_waiting::attempts::{Attempt, Outcome, Receive};

@@ -2,19 +2,35 @@
 ghost use Rattle.std.specs.Prelude.{IfOk, IfSome};
 ghost use Rattle.async_priority_channel.specs.Handles.{SameChannel};
 
-use crate::receiver::Receiver;
-use crate::sender::Sender;
-use crate::shared::Handle;
+use crate::end::{End, Role};
+use crate::handle::Handle;
+use crate::receiver::Receiving;
+use crate::sender::Sending;
 use std::alloc::{AllocError, Allocator, Global};
 use std::fmt;
 use std::marker::Model;
 use std::sync::Wait;
 
-/// A sender handle that does not keep the channel open: it is not counted as a sender.
-/// `Sender::downgrade` makes it.
+/// A handle that does not keep the channel open: it is not counted as a sender or a receiver.
+/// `downgrade` makes it of a sender (a `WeakSender`) or of a receiver (a `WeakReceiver`).
 ///
 /// It cannot open a closed channel again. Pending messages stay in memory while it exists, also
 /// once all senders and receivers are gone, unless a receiver's `close_on_drop` has them dropped.
+///
+/// ```
+/// let weak = rx.downgrade()?;
+/// tx.try_send("still here", 0)?;
+/// if let Some(receiver) = weak.upgrade() {
+///     assert_eq!(rt; receiver.try_recv(), Ok(("still here", 0)));
+/// }
+/// ```
+#[derive(Drop)]
+pub struct Weak<S: Role, T, P: Ord, R: Wait + Clone, A: Allocator + Copy = Global> {
+    handle: Handle<T, P, R, A>,
+    role: S,
+}
+
+/// A weak handle of a sender. `Sender::downgrade` makes it.
 ///
 /// ```
 /// let weak = tx.downgrade()?;
@@ -22,12 +38,20 @@ use std::sync::Wait;
 ///     sender.try_send("still here", 0)?;
 /// }
 /// ```
-#[derive(Drop)]
-pub struct WeakSender<T, P: Ord, R: Wait + Clone, A: Allocator + Copy = Global> {
-    handle: Handle<T, P, R, A>,
-}
+pub type WeakSender<T, P, R, A = Global> = Weak<Sending, T, P, R, A>;
 
-impl<T, P: Ord, R: Wait + Clone, A: Allocator + Copy> Model for WeakSender<T, P, R, A> {
+/// A weak handle of a receiver. `Receiver::downgrade` makes it.
+///
+/// ```
+/// let (tx, rx) = unbounded::<&str, u64, _, _>(&rt, rt.alloc())?;
+/// let weak = rx.downgrade()?;
+/// assert!(rt; weak.upgrade().is_some());
+/// drop(rx);
+/// assert!(rt; weak.upgrade().is_none() && tx.is_closed());
+/// ```
+pub type WeakReceiver<T, P, R, A = Global> = Weak<Receiving, T, P, R, A>;
+
+impl<S: Role, T, P: Ord, R: Wait + Clone, A: Allocator + Copy> Model for Weak<S, T, P, R, A> {
     ghost use Rattle.async_priority_channel.specs.Handles.{Channel};
 
     ghost Value = { Channel };
@@ -35,9 +59,9 @@ impl<T, P: Ord, R: Wait + Clone, A: Allocator + Copy> Model for WeakSender<T, P,
     ghost view = { λ weak. weak.handle };
 }
 
-impl<T: Drop, P: Ord + Drop, R: Wait + Clone, A: Allocator + Copy> WeakSender<T, P, R, A> {
-    /// Another sender of the channel. None if the channel is closed, as it is once its last sender
-    /// or its last receiver is gone, or if a clone of a sender would be refused.
+impl<S: Role, T: Drop, P: Ord + Drop, R: Wait + Clone, A: Allocator + Copy> Weak<S, T, P, R, A> {
+    /// Another sender, or receiver, of the channel. None if the channel is closed, as it is once
+    /// its last sender or its last receiver is gone, or if a clone would be refused.
     ///
     /// ```
     /// let (tx, rx) = unbounded::<&str, u64, _, _>(&rt, rt.alloc())?;
@@ -46,8 +70,8 @@ impl<T: Drop, P: Ord + Drop, R: Wait + Clone, A: Allocator + Copy> WeakSender<T,
     /// drop(tx);
     /// assert!(rt; weak.upgrade().is_none() && rx.is_closed());
     /// ```
-    pub fn upgrade(&self) -> Option<Sender<T, P, R, A>>
-        ensures { IfSome result (λ sender. SameChannel self.now sender) }
+    pub fn upgrade(&self) -> Option<End<S, T, P, R, A>>
+        ensures { IfSome result (λ end. SameChannel self.now end) }
     {
         let handle = self.handle.share().ok()?;
         let mut core = self.handle.lock();
@@ -55,15 +79,16 @@ impl<T: Drop, P: Ord + Drop, R: Wait + Clone, A: Allocator + Copy> WeakSender<T,
             return None;
         }
         // This comes last, so that a refusal above leaves the count unchanged.
-        if !core.clone_sender() {
+        if !S::join(&mut core) {
             return None;
         }
         drop(core);
-        Some(Sender { handle })
+        let role = self.role;
+        Some(End { handle, role })
     }
 }
 
-impl<T, P: Ord, R: Wait + Clone, A: Allocator + Copy> WeakSender<T, P, R, A> {
+impl<S: Role, T, P: Ord, R: Wait + Clone, A: Allocator + Copy> Weak<S, T, P, R, A> {
     /// Whether the channel is closed: by a call of `close`, or by the drop of the last sender or
     /// receiver.
     ///
@@ -75,13 +100,13 @@ impl<T, P: Ord, R: Wait + Clone, A: Allocator + Copy> WeakSender<T, P, R, A> {
     /// assert!(rt; weak.is_closed());
     /// ```
     pub fn is_closed(&self) -> bool {
-        self.handle.is_closed()
+        self.handle.lock().is_closed()
     }
 }
 
-impl<T, P: Ord, R: Wait + Clone, A: Allocator + Copy> Sender<T, P, R, A> {
-    /// A handle of the channel that is not counted as a sender. It changes no count. It is refused
-    /// if memory is refused.
+impl<S: Role, T, P: Ord, R: Wait + Clone, A: Allocator + Copy> End<S, T, P, R, A> {
+    /// A handle of the channel that is not counted as a sender or a receiver. It changes no count.
+    /// It is refused if memory is refused.
     ///
     /// ```
     /// let (tx, rx) = unbounded::<&str, u64, _, _>(&rt, rt.alloc())?;
@@ -90,11 +115,12 @@ impl<T, P: Ord, R: Wait + Clone, A: Allocator + Copy> Sender<T, P, R, A> {
     /// drop(tx);
     /// assert!(rt; rx.is_closed());
     /// ```
-    pub fn downgrade(&self) -> Result<WeakSender<T, P, R, A>, AllocError>
+    pub fn downgrade(&self) -> Result<Weak<S, T, P, R, A>, AllocError>
         ensures { IfOk result (λ weak. SameChannel self.now weak) }
     {
         let handle = self.handle.share()?;
-        Ok(WeakSender { handle })
+        let role = self.role;
+        Ok(Weak { handle, role })
     }
 }
 
@@ -108,15 +134,16 @@ impl<T, P: Ord, R: Wait + Clone, A: Allocator + Copy> Sender<T, P, R, A> {
 /// other.upgrade().ok_or("closed")?.try_send("Foo", 0)?;
 /// assert_eq!(rt; rx.try_recv(), Ok(("Foo", 0)));
 /// ```
-impl<T: Drop, P: Ord + Drop, R: Wait + Clone, A: Allocator + Copy> Clone
-    for WeakSender<T, P, R, A> {
+impl<S: Role, T: Drop, P: Ord + Drop, R: Wait + Clone, A: Allocator + Copy> Clone
+    for Weak<S, T, P, R, A> {
     ghost use Rattle.async_priority_channel.specs.Handles.{SameChannel};
 
     ghost is_clone = { SameChannel };
 
     fn clone(&self) -> Result<Self, AllocError> {
         let handle = self.handle.share()?;
-        Ok(WeakSender { handle })
+        let role = self.role;
+        Ok(Weak { handle, role })
     }
 }
 
@@ -127,117 +154,6 @@ impl<T, P: Ord, R: Wait + Clone, A: Allocator + Copy> fmt::Debug for WeakSender<
 
     fn fmt<W: fmt::Write>(&self, f: &mut fmt::Formatter<W>) -> fmt::Result {
         f.write_str("WeakSender { .. }")
-    }
-}
-
-/// A receiver handle that does not keep the channel open: it is not counted as a receiver.
-/// `Receiver::downgrade` makes it.
-///
-/// It cannot open a closed channel again. Pending messages stay in memory while it exists, also
-/// once all receivers and senders are gone, unless a receiver's `close_on_drop` has them dropped.
-///
-/// ```
-/// let weak = rx.downgrade()?;
-/// tx.try_send("still here", 0)?;
-/// if let Some(receiver) = weak.upgrade() {
-///     assert_eq!(rt; receiver.try_recv(), Ok(("still here", 0)));
-/// }
-/// ```
-#[derive(Drop)]
-pub struct WeakReceiver<T, P: Ord, R: Wait + Clone, A: Allocator + Copy = Global> {
-    handle: Handle<T, P, R, A>,
-}
-
-impl<T, P: Ord, R: Wait + Clone, A: Allocator + Copy> Model for WeakReceiver<T, P, R, A> {
-    ghost use Rattle.async_priority_channel.specs.Handles.{Channel};
-
-    ghost Value = { Channel };
-
-    ghost view = { λ weak. weak.handle };
-}
-
-impl<T: Drop, P: Ord + Drop, R: Wait + Clone, A: Allocator + Copy> WeakReceiver<T, P, R, A> {
-    /// Another receiver of the channel. None if the channel is closed, as it is once its last
-    /// receiver or its last sender is gone, or if a clone of a receiver would be refused.
-    ///
-    /// ```
-    /// let (tx, rx) = unbounded::<&str, u64, _, _>(&rt, rt.alloc())?;
-    /// let weak = rx.downgrade()?;
-    /// assert!(rt; weak.upgrade().is_some());
-    /// drop(rx);
-    /// assert!(rt; weak.upgrade().is_none() && tx.is_closed());
-    /// ```
-    pub fn upgrade(&self) -> Option<Receiver<T, P, R, A>>
-        ensures { IfSome result (λ receiver. SameChannel self.now receiver) }
-    {
-        let handle = self.handle.share().ok()?;
-        let mut core = self.handle.lock();
-        if core.is_closed() {
-            return None;
-        }
-        // This comes last, so that a refusal above leaves the count unchanged.
-        if !core.clone_receiver() {
-            return None;
-        }
-        drop(core);
-        Some(Receiver { handle })
-    }
-}
-
-impl<T, P: Ord, R: Wait + Clone, A: Allocator + Copy> WeakReceiver<T, P, R, A> {
-    /// Whether the channel is closed: by a call of `close`, or by the drop of the last sender or
-    /// receiver.
-    ///
-    /// ```
-    /// let (tx, rx) = unbounded::<&str, u64, _, _>(&rt, rt.alloc())?;
-    /// let weak = rx.downgrade()?;
-    /// assert!(rt; !weak.is_closed());
-    /// tx.close();
-    /// assert!(rt; weak.is_closed());
-    /// ```
-    pub fn is_closed(&self) -> bool {
-        self.handle.is_closed()
-    }
-}
-
-impl<T, P: Ord, R: Wait + Clone, A: Allocator + Copy> Receiver<T, P, R, A> {
-    /// A handle of the channel that is not counted as a receiver. It changes no count. It is
-    /// refused if memory is refused.
-    ///
-    /// ```
-    /// let (tx, rx) = unbounded::<&str, u64, _, _>(&rt, rt.alloc())?;
-    /// let _weak = rx.downgrade()?;
-    /// assert_eq!(rt; tx.receiver_count(), 1);
-    /// drop(rx);
-    /// assert!(rt; tx.is_closed());
-    /// ```
-    pub fn downgrade(&self) -> Result<WeakReceiver<T, P, R, A>, AllocError>
-        ensures { IfOk result (λ weak. SameChannel self.now weak) }
-    {
-        let handle = self.handle.share()?;
-        Ok(WeakReceiver { handle })
-    }
-}
-
-/// Another weak handle of the channel.
-///
-/// ```
-/// let (tx, rx) = unbounded(&rt, rt.alloc())?;
-/// let weak = rx.downgrade()?;
-/// let other = weak.clone()?;
-/// drop(weak);
-/// tx.try_send("Foo", 0)?;
-/// assert_eq!(rt; other.upgrade().ok_or("closed")?.try_recv(), Ok(("Foo", 0)));
-/// ```
-impl<T: Drop, P: Ord + Drop, R: Wait + Clone, A: Allocator + Copy> Clone
-    for WeakReceiver<T, P, R, A> {
-    ghost use Rattle.async_priority_channel.specs.Handles.{SameChannel};
-
-    ghost is_clone = { SameChannel };
-
-    fn clone(&self) -> Result<Self, AllocError> {
-        let handle = self.handle.share()?;
-        Ok(WeakReceiver { handle })
     }
 }
 

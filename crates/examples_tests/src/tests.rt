@@ -1,7 +1,7 @@
 //! What the examples name, and how their tests say what they expect.
 use async_priority_channel::{
-    Ends, Receiver, RecvError, RecvFault, RecvTimeoutError, SendTimeoutError, Sender, TryRecvError,
-    TrySendError, bounded, bounded_reserved, unbounded,
+    End, Ends, Receiver, RecvError, RecvFault, RecvTimeoutError, Role, SendTimeoutError, Sender,
+    TryRecvError, TrySendError, bounded, bounded_reserved, unbounded,
 };
 use futures::executor::block_on;
 use futures::future::{Either, Future, join, poll_immediate, select};

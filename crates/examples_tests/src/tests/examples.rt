@@ -190,6 +190,109 @@ fn example_of_receiver_close_on_drop(rt: HostRuntime) {
     expect_equal(&rt, answers.try_recv(), Err(TryRecvError::Closed));
 }
 
+fn is_idle<S: Role, R: Wait + Clone>(end: &End<S, u64, u64, R>) -> bool {
+    end.is_empty() && !end.is_closed()
+}
+
+#[test]
+fn example_of_end(rt: HostRuntime) {
+    let (tx, rx) = unbounded(&rt, rt.alloc()).expect(&rt, "unbounded");
+    expect_true(&rt, is_idle(&tx) && is_idle(&rx));
+}
+
+#[test]
+fn example_of_end_close(rt: HostRuntime) {
+    let (tx, rx) = unbounded(&rt, rt.alloc()).expect(&rt, "unbounded");
+    tx.try_send("Foo", 0).expect(&rt, "try_send");
+    expect_true(&rt, tx.close());
+    expect_true(&rt, !rx.close());
+    let refused = tx.try_send("Bar", 2);
+    expect_equal(&rt, refused, Err(TrySendError::Closed(("Bar", 2))));
+    expect_equal(&rt, rx.try_recv(), Ok(("Foo", 0)));
+    expect_equal(&rt, rx.try_recv(), Err(TryRecvError::Closed));
+}
+
+#[test]
+fn example_of_end_is_closed(rt: HostRuntime) {
+    let (tx, rx) = unbounded(&rt, rt.alloc()).expect(&rt, "unbounded");
+    tx.try_send("Foo", 0).expect(&rt, "try_send");
+    expect_true(&rt, !tx.is_closed());
+    drop(tx);
+    expect_true(&rt, rx.is_closed() && !rx.is_empty());
+}
+
+#[test]
+fn example_of_end_is_empty(rt: HostRuntime) {
+    let (tx, rx) = unbounded(&rt, rt.alloc()).expect(&rt, "unbounded");
+    tx.try_send("Foo", 0).expect(&rt, "try_send");
+    expect_true(&rt, !tx.is_empty());
+    rx.try_recv().expect(&rt, "try_recv");
+    expect_true(&rt, tx.is_empty());
+}
+
+#[test]
+fn example_of_end_is_full(rt: HostRuntime) {
+    let (tx, rx) = bounded(&rt, rt.alloc(), 1).expect(&rt, "bounded");
+    tx.try_send("Foo", 0).expect(&rt, "try_send");
+    expect_true(&rt, tx.is_full());
+    rx.try_recv().expect(&rt, "try_recv");
+    expect_true(&rt, !tx.is_full());
+}
+
+#[test]
+fn example_of_end_len(rt: HostRuntime) {
+    let (tx, rx) = unbounded(&rt, rt.alloc()).expect(&rt, "unbounded");
+    tx.try_send("Foo", 0).expect(&rt, "try_send");
+    tx.try_send("Bar", 2).expect(&rt, "try_send");
+    expect_equal(&rt, rx.len(), 2);
+    drop(tx);
+    expect_equal(&rt, rx.len(), 2);
+}
+
+#[test]
+fn example_of_end_capacity(rt: HostRuntime) {
+    let (tx, _rx) = bounded::<&str, u64, _, _>(&rt, rt.alloc(), 10).expect(&rt, "bounded");
+    expect_equal(&rt, tx.capacity(), Some(10));
+    let (tx, _rx) = unbounded::<&str, u64, _, _>(&rt, rt.alloc()).expect(&rt, "unbounded");
+    expect_equal(&rt, tx.capacity(), None);
+}
+
+#[test]
+fn example_of_end_same_channel(rt: HostRuntime) {
+    let (tx, _rx) = unbounded::<&str, u64, _, _>(&rt, rt.alloc()).expect(&rt, "unbounded");
+    let (other, _other_rx) = unbounded(&rt, rt.alloc()).expect(&rt, "unbounded");
+    expect_true(&rt, tx.same_channel(&tx.clone().expect(&rt, "clone")));
+    expect_true(&rt, !tx.same_channel(&other));
+}
+
+#[test]
+fn example_of_end_sender_count(rt: HostRuntime) {
+    let (tx, _rx) = unbounded::<&str, u64, _, _>(&rt, rt.alloc()).expect(&rt, "unbounded");
+    let other = tx.clone().expect(&rt, "clone");
+    expect_equal(&rt, tx.sender_count(), 2);
+    drop(other);
+    expect_equal(&rt, tx.sender_count(), 1);
+}
+
+#[test]
+fn example_of_end_receiver_count(rt: HostRuntime) {
+    let (tx, rx) = unbounded::<&str, u64, _, _>(&rt, rt.alloc()).expect(&rt, "unbounded");
+    expect_equal(&rt, tx.receiver_count(), 1);
+    drop(rx);
+    expect_equal(&rt, tx.receiver_count(), 0);
+}
+
+#[test]
+fn example_of_clone_for_end(rt: HostRuntime) {
+    let (tx, rx) = unbounded(&rt, rt.alloc()).expect(&rt, "unbounded");
+    let other = tx.clone().expect(&rt, "clone");
+    let sending = thread::spawn(&rt, move || other.try_send("Foo", 0)).expect(&rt, "spawn");
+    expect_equal(&rt, sending.join(&rt), Ok(()));
+    expect_true(&rt, !rx.is_closed());
+    drop(tx);
+    expect_true(&rt, rx.is_closed());
+}
+
 #[test]
 fn example_of_iter(rt: HostRuntime) {
     let (tx, rx) = bounded(&rt, rt.alloc(), 1).expect(&rt, "bounded");
@@ -531,93 +634,6 @@ fn example_of_receiver_try_recv(rt: HostRuntime) {
 }
 
 #[test]
-fn example_of_receiver_close(rt: HostRuntime) {
-    let (tx, rx) = unbounded(&rt, rt.alloc()).expect(&rt, "unbounded");
-    tx.try_send("Foo", 0).expect(&rt, "try_send");
-    expect_true(&rt, rx.close());
-    expect_true(&rt, !rx.close());
-    expect_equal(&rt, rx.try_recv(), Ok(("Foo", 0)));
-    expect_equal(&rt, rx.try_recv(), Err(TryRecvError::Closed));
-}
-
-#[test]
-fn example_of_receiver_is_closed(rt: HostRuntime) {
-    let (tx, rx) = unbounded(&rt, rt.alloc()).expect(&rt, "unbounded");
-    tx.try_send("Foo", 0).expect(&rt, "try_send");
-    drop(tx);
-    expect_true(&rt, rx.is_closed() && !rx.is_empty());
-}
-
-#[test]
-fn example_of_receiver_is_empty(rt: HostRuntime) {
-    let (tx, rx) = unbounded(&rt, rt.alloc()).expect(&rt, "unbounded");
-    expect_true(&rt, rx.is_empty());
-    tx.try_send("Foo", 0).expect(&rt, "try_send");
-    expect_true(&rt, !rx.is_empty());
-}
-
-#[test]
-fn example_of_receiver_is_full(rt: HostRuntime) {
-    let (tx, rx) = bounded(&rt, rt.alloc(), 2).expect(&rt, "bounded");
-    tx.try_send("Foo", 0).expect(&rt, "try_send");
-    expect_true(&rt, !rx.is_full());
-    tx.try_send("Bar", 2).expect(&rt, "try_send");
-    expect_true(&rt, rx.is_full());
-}
-
-#[test]
-fn example_of_receiver_len(rt: HostRuntime) {
-    let (tx, rx) = unbounded(&rt, rt.alloc()).expect(&rt, "unbounded");
-    tx.try_send("Foo", 0).expect(&rt, "try_send");
-    tx.try_send("Bar", 2).expect(&rt, "try_send");
-    expect_equal(&rt, rx.len(), 2);
-    drop(tx);
-    expect_equal(&rt, rx.len(), 2);
-}
-
-#[test]
-fn example_of_receiver_capacity(rt: HostRuntime) {
-    let (tx, rx) = bounded(&rt, rt.alloc(), 10).expect(&rt, "bounded");
-    tx.try_send("Foo", 0).expect(&rt, "try_send");
-    expect_equal(&rt, rx.capacity(), Some(10));
-}
-
-#[test]
-fn example_of_receiver_same_channel(rt: HostRuntime) {
-    let (_tx, rx) = unbounded::<&str, u64, _, _>(&rt, rt.alloc()).expect(&rt, "unbounded");
-    let (_other_tx, other) = unbounded(&rt, rt.alloc()).expect(&rt, "unbounded");
-    expect_true(&rt, rx.same_channel(&rx.clone().expect(&rt, "clone")));
-    expect_true(&rt, !rx.same_channel(&other));
-}
-
-#[test]
-fn example_of_receiver_sender_count(rt: HostRuntime) {
-    let (tx, rx) = unbounded::<&str, u64, _, _>(&rt, rt.alloc()).expect(&rt, "unbounded");
-    expect_equal(&rt, rx.sender_count(), 1);
-    drop(tx);
-    expect_equal(&rt, rx.sender_count(), 0);
-}
-
-#[test]
-fn example_of_receiver_receiver_count(rt: HostRuntime) {
-    let (_tx, rx) = unbounded::<&str, u64, _, _>(&rt, rt.alloc()).expect(&rt, "unbounded");
-    let other = rx.clone().expect(&rt, "clone");
-    expect_equal(&rt, rx.receiver_count(), 2);
-    drop(other);
-    expect_equal(&rt, rx.receiver_count(), 1);
-}
-
-#[test]
-fn example_of_clone_for_receiver(rt: HostRuntime) {
-    let (tx, rx) = unbounded(&rt, rt.alloc()).expect(&rt, "unbounded");
-    let other = rx.clone().expect(&rt, "clone");
-    tx.try_send("Foo", 0).expect(&rt, "try_send");
-    tx.try_send("Bar", 2).expect(&rt, "try_send");
-    expect_equal(&rt, rx.try_recv(), Ok(("Bar", 2)));
-    expect_equal(&rt, other.try_recv(), Ok(("Foo", 0)));
-}
-
-#[test]
 fn example_of_sender(rt: HostRuntime) {
     let (tx, rx) = unbounded(&rt, rt.alloc()).expect(&rt, "unbounded");
     let other = tx.clone().expect(&rt, "clone");
@@ -687,97 +703,6 @@ fn example_of_sender_try_send_evicting(rt: HostRuntime) {
     let refused = tx.try_send_evicting("thumbnail", 0);
     expect_equal(&rt, refused, Err(TrySendError::Full(("thumbnail", 0))));
     expect_equal(&rt, rx.try_recv(), Ok(("payment", 9)));
-}
-
-#[test]
-fn example_of_sender_close(rt: HostRuntime) {
-    let (tx, rx) = unbounded(&rt, rt.alloc()).expect(&rt, "unbounded");
-    tx.try_send("Foo", 0).expect(&rt, "try_send");
-    expect_true(&rt, tx.close());
-    let refused = tx.try_send("Bar", 2);
-    expect_equal(&rt, refused, Err(TrySendError::Closed(("Bar", 2))));
-    expect_equal(&rt, rx.try_recv(), Ok(("Foo", 0)));
-    expect_equal(&rt, rx.try_recv(), Err(TryRecvError::Closed));
-}
-
-#[test]
-fn example_of_sender_is_closed(rt: HostRuntime) {
-    let (tx, rx) = unbounded::<&str, u64, _, _>(&rt, rt.alloc()).expect(&rt, "unbounded");
-    expect_true(&rt, !tx.is_closed());
-    drop(rx);
-    expect_true(&rt, tx.is_closed());
-}
-
-#[test]
-fn example_of_sender_is_empty(rt: HostRuntime) {
-    let (tx, rx) = unbounded(&rt, rt.alloc()).expect(&rt, "unbounded");
-    tx.try_send("Foo", 0).expect(&rt, "try_send");
-    expect_true(&rt, !tx.is_empty());
-    rx.try_recv().expect(&rt, "try_recv");
-    expect_true(&rt, tx.is_empty());
-}
-
-#[test]
-fn example_of_sender_is_full(rt: HostRuntime) {
-    let (tx, rx) = bounded(&rt, rt.alloc(), 1).expect(&rt, "bounded");
-    tx.try_send("Foo", 0).expect(&rt, "try_send");
-    expect_true(&rt, tx.is_full());
-    rx.try_recv().expect(&rt, "try_recv");
-    expect_true(&rt, !tx.is_full());
-}
-
-#[test]
-fn example_of_sender_len(rt: HostRuntime) {
-    let (tx, rx) = bounded(&rt, rt.alloc(), 10).expect(&rt, "bounded");
-    tx.try_send("Foo", 0).expect(&rt, "try_send");
-    tx.try_send("Bar", 2).expect(&rt, "try_send");
-    expect_equal(&rt, tx.len(), 2);
-    rx.try_recv().expect(&rt, "try_recv");
-    expect_equal(&rt, tx.len(), 1);
-}
-
-#[test]
-fn example_of_sender_capacity(rt: HostRuntime) {
-    let (tx, _rx) = bounded::<&str, u64, _, _>(&rt, rt.alloc(), 10).expect(&rt, "bounded");
-    expect_equal(&rt, tx.capacity(), Some(10));
-    let (tx, _rx) = unbounded::<&str, u64, _, _>(&rt, rt.alloc()).expect(&rt, "unbounded");
-    expect_equal(&rt, tx.capacity(), None);
-}
-
-#[test]
-fn example_of_sender_same_channel(rt: HostRuntime) {
-    let (tx, _rx) = unbounded::<&str, u64, _, _>(&rt, rt.alloc()).expect(&rt, "unbounded");
-    let (other, _other_rx) = unbounded(&rt, rt.alloc()).expect(&rt, "unbounded");
-    expect_true(&rt, tx.same_channel(&tx.clone().expect(&rt, "clone")));
-    expect_true(&rt, !tx.same_channel(&other));
-}
-
-#[test]
-fn example_of_sender_sender_count(rt: HostRuntime) {
-    let (tx, _rx) = unbounded::<&str, u64, _, _>(&rt, rt.alloc()).expect(&rt, "unbounded");
-    let other = tx.clone().expect(&rt, "clone");
-    expect_equal(&rt, tx.sender_count(), 2);
-    drop(other);
-    expect_equal(&rt, tx.sender_count(), 1);
-}
-
-#[test]
-fn example_of_sender_receiver_count(rt: HostRuntime) {
-    let (tx, rx) = unbounded::<&str, u64, _, _>(&rt, rt.alloc()).expect(&rt, "unbounded");
-    expect_equal(&rt, tx.receiver_count(), 1);
-    drop(rx);
-    expect_equal(&rt, tx.receiver_count(), 0);
-}
-
-#[test]
-fn example_of_clone_for_sender(rt: HostRuntime) {
-    let (tx, rx) = unbounded(&rt, rt.alloc()).expect(&rt, "unbounded");
-    let other = tx.clone().expect(&rt, "clone");
-    let sending = thread::spawn(&rt, move || other.try_send("Foo", 0)).expect(&rt, "spawn");
-    expect_equal(&rt, sending.join(&rt), Ok(()));
-    expect_true(&rt, !rx.is_closed());
-    drop(tx);
-    expect_true(&rt, rx.is_closed());
 }
 
 #[test]
@@ -882,6 +807,16 @@ fn example_of_sendv(rt: HostRuntime) {
 }
 
 #[test]
+fn example_of_weak(rt: HostRuntime) {
+    let (tx, rx) = bounded(&rt, rt.alloc(), 1).expect(&rt, "bounded");
+    let weak = rx.downgrade().expect(&rt, "downgrade");
+    tx.try_send("still here", 0).expect(&rt, "try_send");
+    if let Some(receiver) = weak.upgrade() {
+        expect_equal(&rt, receiver.try_recv(), Ok(("still here", 0)));
+    }
+}
+
+#[test]
 fn example_of_weak_sender(rt: HostRuntime) {
     let (tx, rx) = bounded(&rt, rt.alloc(), 1).expect(&rt, "bounded");
     let weak = tx.downgrade().expect(&rt, "downgrade");
@@ -892,7 +827,16 @@ fn example_of_weak_sender(rt: HostRuntime) {
 }
 
 #[test]
-fn example_of_weak_sender_upgrade(rt: HostRuntime) {
+fn example_of_weak_receiver(rt: HostRuntime) {
+    let (tx, rx) = unbounded::<&str, u64, _, _>(&rt, rt.alloc()).expect(&rt, "unbounded");
+    let weak = rx.downgrade().expect(&rt, "downgrade");
+    expect_true(&rt, weak.upgrade().is_some());
+    drop(rx);
+    expect_true(&rt, weak.upgrade().is_none() && tx.is_closed());
+}
+
+#[test]
+fn example_of_weak_upgrade(rt: HostRuntime) {
     let (tx, rx) = unbounded::<&str, u64, _, _>(&rt, rt.alloc()).expect(&rt, "unbounded");
     let weak = tx.downgrade().expect(&rt, "downgrade");
     expect_true(&rt, weak.upgrade().is_some());
@@ -901,7 +845,7 @@ fn example_of_weak_sender_upgrade(rt: HostRuntime) {
 }
 
 #[test]
-fn example_of_weak_sender_is_closed(rt: HostRuntime) {
+fn example_of_weak_is_closed(rt: HostRuntime) {
     let (tx, _rx) = unbounded::<&str, u64, _, _>(&rt, rt.alloc()).expect(&rt, "unbounded");
     let weak = tx.downgrade().expect(&rt, "downgrade");
     expect_true(&rt, !weak.is_closed());
@@ -910,7 +854,7 @@ fn example_of_weak_sender_is_closed(rt: HostRuntime) {
 }
 
 #[test]
-fn example_of_sender_downgrade(rt: HostRuntime) {
+fn example_of_end_downgrade(rt: HostRuntime) {
     let (tx, rx) = unbounded::<&str, u64, _, _>(&rt, rt.alloc()).expect(&rt, "unbounded");
     let _weak = tx.downgrade().expect(&rt, "downgrade");
     expect_equal(&rt, rx.sender_count(), 1);
@@ -919,7 +863,7 @@ fn example_of_sender_downgrade(rt: HostRuntime) {
 }
 
 #[test]
-fn example_of_clone_for_weak_sender(rt: HostRuntime) {
+fn example_of_clone_for_weak(rt: HostRuntime) {
     let (tx, rx) = unbounded(&rt, rt.alloc()).expect(&rt, "unbounded");
     let weak = tx.downgrade().expect(&rt, "downgrade");
     let other = weak.clone().expect(&rt, "clone");
@@ -931,61 +875,6 @@ fn example_of_clone_for_weak_sender(rt: HostRuntime) {
         .try_send("Foo", 0)
         .expect(&rt, "try_send");
     expect_equal(&rt, rx.try_recv(), Ok(("Foo", 0)));
-}
-
-#[test]
-fn example_of_weak_receiver(rt: HostRuntime) {
-    let (tx, rx) = bounded(&rt, rt.alloc(), 1).expect(&rt, "bounded");
-    let weak = rx.downgrade().expect(&rt, "downgrade");
-    tx.try_send("still here", 0).expect(&rt, "try_send");
-    if let Some(receiver) = weak.upgrade() {
-        expect_equal(&rt, receiver.try_recv(), Ok(("still here", 0)));
-    }
-}
-
-#[test]
-fn example_of_weak_receiver_upgrade(rt: HostRuntime) {
-    let (tx, rx) = unbounded::<&str, u64, _, _>(&rt, rt.alloc()).expect(&rt, "unbounded");
-    let weak = rx.downgrade().expect(&rt, "downgrade");
-    expect_true(&rt, weak.upgrade().is_some());
-    drop(rx);
-    expect_true(&rt, weak.upgrade().is_none() && tx.is_closed());
-}
-
-#[test]
-fn example_of_weak_receiver_is_closed(rt: HostRuntime) {
-    let (tx, rx) = unbounded::<&str, u64, _, _>(&rt, rt.alloc()).expect(&rt, "unbounded");
-    let weak = rx.downgrade().expect(&rt, "downgrade");
-    expect_true(&rt, !weak.is_closed());
-    tx.close();
-    expect_true(&rt, weak.is_closed());
-}
-
-#[test]
-fn example_of_receiver_downgrade(rt: HostRuntime) {
-    let (tx, rx) = unbounded::<&str, u64, _, _>(&rt, rt.alloc()).expect(&rt, "unbounded");
-    let _weak = rx.downgrade().expect(&rt, "downgrade");
-    expect_equal(&rt, tx.receiver_count(), 1);
-    drop(rx);
-    expect_true(&rt, tx.is_closed());
-}
-
-#[test]
-fn example_of_clone_for_weak_receiver(rt: HostRuntime) {
-    let (tx, rx) = unbounded(&rt, rt.alloc()).expect(&rt, "unbounded");
-    let weak = rx.downgrade().expect(&rt, "downgrade");
-    let other = weak.clone().expect(&rt, "clone");
-    drop(weak);
-    tx.try_send("Foo", 0).expect(&rt, "try_send");
-    expect_equal(
-        &rt,
-        other
-            .upgrade()
-            .ok_or("closed")
-            .expect(&rt, "ok_or")
-            .try_recv(),
-        Ok(("Foo", 0)),
-    );
 }
 
 #[test]

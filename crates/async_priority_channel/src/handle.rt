@@ -1,4 +1,4 @@
-//! What the handles of a channel share, and the calls that both kinds of handle have.
+//! What the handles of a channel share, and the calls on it.
 //!
 //! The small calls of the hot path are forced inline. Otherwise their results would be written to
 //! memory and read back at once.
@@ -8,6 +8,7 @@ ghost use Rattle.priority_channel_core.specs.machine.State.{opening};
 ghost use Rattle.priority_channel_core.specs.machine.OtherCalls.{capacity_told};
 ghost use Rattle.async_priority_channel.specs.Handles.{source_of};
 
+use crate::identity::Identity;
 use futures::task::{Context, Source};
 use priority_channel_core::awaitable_atomics::Wakes;
 use priority_channel_core::side::Side;
@@ -18,7 +19,7 @@ use std::alloc::{AllocError, Allocator};
 use std::marker::Model;
 use std::random::RandomSource;
 use std::sync::atomic::{AtomicBool, Ordering};
-use std::sync::{Arc, Mutex, MutexGuard, OnceLock, Wait, WaitMethods};
+use std::sync::{Arc, Mutex, MutexGuard, Wait};
 
 /// The waiters of one side: tasks (by source) and threads (in a queue).
 #[derive(Drop)]
@@ -57,9 +58,7 @@ struct Shared<T, P: Ord, A: Allocator + Copy> {
     core: Mutex<Core<T, P, A>>,
     // Whether pending messages are dropped when the last receiver is dropped.
     lets_go: AtomicBool,
-    // The random bits that identify the channel. They are drawn when it is compared for the first
-    // time.
-    identity: OnceLock<u128>,
+    identity: Identity,
 }
 
 impl<T, P: Ord, A: Allocator + Copy> Model for Shared<T, P, A> {
@@ -110,7 +109,7 @@ impl<T: Drop, P: Ord + Drop, R: Wait + Clone, A: Allocator + Copy> Handle<T, P, 
                     message: Waits::new(alloc),
                     core: Mutex::new(core),
                     lets_go: AtomicBool::new(false),
-                    identity: OnceLock::new(),
+                    identity: Identity::new(),
                 },
             )?,
         };
@@ -208,24 +207,12 @@ impl<T, P: Ord, R: Wait + Clone, A: Allocator + Copy> Handle<T, P, R, A> {
         self.shared.lets_go.load(Ordering::SeqCst)
     }
 
-    /// Whether both are handles of one channel. The language compares no pointers into two blocks,
-    /// so each channel has 128 random bits. Two channels have the same bits with a chance of
-    /// 2^-128.
+    /// Whether both are handles of one channel.
     pub fn is_same(&self, other: &Self) -> bool
     where
         R: RandomSource,
     {
-        self.identity() == other.identity()
-    }
-
-    fn identity(&self) -> u128
-    where
-        R: RandomSource,
-    {
-        *self
-            .shared
-            .identity
-            .get_or_init(&self.rt, || draw_bits(&self.rt))
+        self.shared.identity.bits(&self.rt) == other.shared.identity.bits(&other.rt)
     }
 
     pub fn close(&self) -> bool {
@@ -233,30 +220,6 @@ impl<T, P: Ord, R: Wait + Clone, A: Allocator + Copy> Handle<T, P, R, A> {
         let (was_open, wakes) = core.close();
         self.release(core, wakes);
         was_open
-    }
-
-    pub fn is_closed(&self) -> bool {
-        self.lock().is_closed()
-    }
-
-    pub fn is_empty(&self) -> bool {
-        self.lock().is_empty()
-    }
-
-    pub fn is_full(&self) -> bool {
-        self.lock().is_full()
-    }
-
-    pub fn len(&self) -> u64 {
-        self.lock().len()
-    }
-
-    pub fn sender_count(&self) -> usize {
-        self.lock().sender_count()
-    }
-
-    pub fn receiver_count(&self) -> usize {
-        self.lock().receiver_count()
     }
 
     /// Stored outside the lock, since it never changes.
@@ -269,15 +232,4 @@ impl<T, P: Ord, R: Wait + Clone, A: Allocator + Copy> Handle<T, P, R, A> {
         }
         Some(capacity)
     }
-}
-
-// The system does not refuse 16 random bytes; if it does, retry.
-fn draw_bits<R: Wait + RandomSource>(rt: &R) -> u128 {
-    let mut bytes = [0; 16];
-    for _ in rt.forever() {
-        if rt.fill_bytes(&mut bytes).is_ok() {
-            return u128::from_le_bytes(bytes);
-        }
-    }
-    unreachable!()
 }

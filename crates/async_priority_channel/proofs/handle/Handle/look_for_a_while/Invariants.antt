@@ -1,4 +1,4 @@
-use Rattle.async_priority_channel.proofs.shared.Handle.look_for_a_while.Given as goal
+use Rattle.async_priority_channel.proofs.handle.Handle.look_for_a_while.Given as goal
 
 -- the rest of the call came back of the call, and may be attempted
 abbrev pub invariant-loop : goal.invariant-loop

@@ -1,4 +1,4 @@
-use Rattle.async_priority_channel.proofs.receiver.Receiver.retain.Goals as goal
+use Rattle.async_priority_channel.proofs.taking.Receiver+T+P+R+A.retain.Goals as goal
 
 pub returns : goal.returns
 returns g c =

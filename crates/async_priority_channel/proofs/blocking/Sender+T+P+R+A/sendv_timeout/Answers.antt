@@ -2,7 +2,7 @@ use Rattle.priority_channel_core.specs.code.Lists.{HasList}
 use Rattle.priority_channel_waiting.specs.Waits.{unsent_in_time}
 use Rattle.priority_channel_waiting.specs.Holding.{HoldsTail}
 use Rattle.priority_channel_waiting.proofs.LeftOver.{held_by_error}
-use Rattle.async_priority_channel.proofs.sender.Sender.sendv_deadline.Goals as goal
+use Rattle.async_priority_channel.proofs.blocking.Sender+T+P+R+A.sendv_timeout.Goals as goal
 
 pub returns-in_err-wait-clause-tail : goal.returns-in_err-wait-clause-tail
 returns-in_err-wait-clause-tail g c =

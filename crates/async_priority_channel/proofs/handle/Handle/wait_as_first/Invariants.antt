@@ -1,4 +1,4 @@
-use Rattle.async_priority_channel.proofs.shared.Handle.wait_as_first.Given as goal
+use Rattle.async_priority_channel.proofs.handle.Handle.wait_as_first.Given as goal
 
 -- the rest of the call came back of the call, and may be attempted
 abbrev pub invariant-loop : goal.invariant-loop

@@ -1,0 +1,244 @@
+//! What the senders and the receivers of a channel have in common.
+ghost use Rattle.std.specs.Prelude.{◌≡◌};
+ghost use Rattle.priority_channel_core.specs.machine.OtherCalls.{capacity_told};
+
+use crate::handle::Handle;
+use priority_channel_core::awaitable_atomics::Wakes;
+use priority_channel_waiting::waiter::{Core, Waiter};
+use std::alloc::{AllocError, Allocator, Global};
+use std::marker::Model;
+use std::random::RandomSource;
+use std::sync::Wait;
+
+/// What an end of a channel does: `Sending` or `Receiving`.
+pub trait Role: Copy {
+    /// Counts another such end. It returns false, and changes nothing, if there are too many.
+    fn join<T, P: Ord, A: Allocator + Copy>(core: &mut Core<T, P, A>) -> bool;
+
+    /// Counts one such end less. The last one closes the channel.
+    fn leave<T, P: Ord, A: Allocator + Copy>(core: &mut Core<T, P, A>) -> Wakes<Waiter<A>, A>;
+}
+
+/// A handle of a channel: a `Sender` or a `Receiver`. These are the calls that both have.
+///
+/// A handle can be moved to other threads, lent to them, and cloned. The channel closes when its
+/// last sender or its last receiver is dropped.
+///
+/// A call that returns at once takes the channel's lock for one step, and then wakes the waiters
+/// that can go on: all tasks that wait for a message (or for room), and the first of the threads
+/// that do. A task that then finds nothing waits again. A call that waits makes such a step for
+/// each try. On a thread it tries again for some microseconds before the thread sleeps, if such
+/// tries were recently of use. `capacity`, `same_channel`, `downgrade`, and the calls that make a
+/// future, a stream, an iterator or a guard take no lock.
+///
+/// The channel calls some of the user's code under its lock: the order of priorities, the iterator
+/// of a bulk send and its drop, the functions that `peek_with`, `take_where` and `retain` are
+/// given, and the clone of a priority that `peek_priority` makes. This code must neither use the
+/// channel nor own a handle of it.
+///
+/// ```
+/// fn is_idle<S: Role, R: Wait + Clone>(end: &End<S, u64, u64, R>) -> bool {
+///     end.is_empty() && !end.is_closed()
+/// }
+/// ```
+pub struct End<S: Role, T, P: Ord, R: Wait + Clone, A: Allocator + Copy = Global> {
+    pub(crate) handle: Handle<T, P, R, A>,
+    pub(crate) role: S,
+}
+
+impl<S: Role, T, P: Ord, R: Wait + Clone, A: Allocator + Copy> Model for End<S, T, P, R, A> {
+    ghost use Rattle.async_priority_channel.specs.Handles.{Channel};
+
+    ghost Value = { Channel };
+
+    ghost view = { λ end. end.handle };
+}
+
+impl<S: Role, T, P: Ord, R: Wait + Clone, A: Allocator + Copy> End<S, T, P, R, A> {
+    /// Closes the channel for good, and returns whether it was open. Pending messages can still be
+    /// received. All waiting tasks and threads are woken.
+    ///
+    /// ```
+    /// let (tx, rx) = unbounded(&rt, rt.alloc())?;
+    /// tx.try_send("Foo", 0)?;
+    /// assert!(rt; tx.close());
+    /// assert!(rt; !rx.close());
+    /// let refused = tx.try_send("Bar", 2);
+    /// assert_eq!(rt; refused, Err(TrySendError::Closed(("Bar", 2))));
+    /// assert_eq!(rt; rx.try_recv(), Ok(("Foo", 0)));
+    /// assert_eq!(rt; rx.try_recv(), Err(TryRecvError::Closed));
+    /// ```
+    pub fn close(&self) -> bool {
+        self.handle.close()
+    }
+
+    /// Whether the channel is closed: by a call of `close`, or by the drop of the last sender or
+    /// receiver.
+    ///
+    /// ```
+    /// let (tx, rx) = unbounded(&rt, rt.alloc())?;
+    /// tx.try_send("Foo", 0)?;
+    /// assert!(rt; !tx.is_closed());
+    /// drop(tx);
+    /// assert!(rt; rx.is_closed() && !rx.is_empty());
+    /// ```
+    pub fn is_closed(&self) -> bool {
+        self.handle.lock().is_closed()
+    }
+
+    /// Whether no message is pending.
+    ///
+    /// ```
+    /// let (tx, rx) = unbounded(&rt, rt.alloc())?;
+    /// tx.try_send("Foo", 0)?;
+    /// assert!(rt; !tx.is_empty());
+    /// rx.try_recv()?;
+    /// assert!(rt; tx.is_empty());
+    /// ```
+    pub fn is_empty(&self) -> bool {
+        self.handle.lock().is_empty()
+    }
+
+    /// Whether there is no room.
+    ///
+    /// ```
+    /// let (tx, rx) = bounded(&rt, rt.alloc(), 1)?;
+    /// tx.try_send("Foo", 0)?;
+    /// assert!(rt; tx.is_full());
+    /// rx.try_recv()?;
+    /// assert!(rt; !tx.is_full());
+    /// ```
+    pub fn is_full(&self) -> bool {
+        self.handle.lock().is_full()
+    }
+
+    /// The number of pending messages.
+    ///
+    /// ```
+    /// let (tx, rx) = unbounded(&rt, rt.alloc())?;
+    /// tx.try_send("Foo", 0)?;
+    /// tx.try_send("Bar", 2)?;
+    /// assert_eq!(rt; rx.len(), 2);
+    /// drop(tx);
+    /// assert_eq!(rt; rx.len(), 2);
+    /// ```
+    pub fn len(&self) -> u64 {
+        self.handle.lock().len()
+    }
+
+    /// The greatest number of messages that may be pending at a time. None if the capacity is
+    /// `u64::MAX`. It takes no lock.
+    ///
+    /// ```
+    /// let (tx, _rx) = bounded::<&str, u64, _, _>(&rt, rt.alloc(), 10)?;
+    /// assert_eq!(rt; tx.capacity(), Some(10));
+    /// let (tx, _rx) = unbounded::<&str, u64, _, _>(&rt, rt.alloc())?;
+    /// assert_eq!(rt; tx.capacity(), None);
+    /// ```
+    pub fn capacity(&self) -> Option<u64>
+        ensures { result ≡ capacity_told self.now.capacity }
+    {
+        self.handle.capacity()
+    }
+
+    /// Whether the other is a handle of the same channel, and as this one a sender or a receiver.
+    ///
+    /// A channel draws 128 random bits when it is compared for the first time, and is identified by
+    /// them. So the permission must also be a `RandomSource`.
+    ///
+    /// ```
+    /// let (tx, _rx) = unbounded::<&str, u64, _, _>(&rt, rt.alloc())?;
+    /// let (other, _other_rx) = unbounded(&rt, rt.alloc())?;
+    /// assert!(rt; tx.same_channel(&tx.clone()?));
+    /// assert!(rt; !tx.same_channel(&other));
+    /// ```
+    pub fn same_channel(&self, other: &Self) -> bool
+    where
+        R: RandomSource,
+    {
+        self.handle.is_same(&other.handle)
+    }
+
+    /// The number of the channel's senders.
+    ///
+    /// ```
+    /// let (tx, _rx) = unbounded::<&str, u64, _, _>(&rt, rt.alloc())?;
+    /// let other = tx.clone()?;
+    /// assert_eq!(rt; tx.sender_count(), 2);
+    /// drop(other);
+    /// assert_eq!(rt; tx.sender_count(), 1);
+    /// ```
+    pub fn sender_count(&self) -> usize {
+        self.handle.lock().sender_count()
+    }
+
+    /// The number of the channel's receivers.
+    ///
+    /// ```
+    /// let (tx, rx) = unbounded::<&str, u64, _, _>(&rt, rt.alloc())?;
+    /// assert_eq!(rt; tx.receiver_count(), 1);
+    /// drop(rx);
+    /// assert_eq!(rt; tx.receiver_count(), 0);
+    /// ```
+    pub fn receiver_count(&self) -> usize {
+        self.handle.lock().receiver_count()
+    }
+}
+
+/// Another sender or receiver of the channel. Each message goes to one receiver. A clone is refused
+/// if there are more than `usize::MAX / 2`, or if memory is refused. The count is then unchanged.
+///
+/// ```
+/// let (tx, rx) = unbounded(&rt, rt.alloc())?;
+/// let other = tx.clone()?;
+/// let sending = thread::spawn(&rt, move || other.try_send("Foo", 0))?;
+/// assert_eq!(rt; sending.join(&rt), Ok(()));
+/// assert!(rt; !rx.is_closed());
+/// drop(tx);
+/// assert!(rt; rx.is_closed());
+/// ```
+impl<S: Role, T: Drop, P: Ord + Drop, R: Wait + Clone, A: Allocator + Copy> Clone
+    for End<S, T, P, R, A> {
+    ghost use Rattle.async_priority_channel.specs.Handles.{SameChannel};
+
+    ghost is_clone = { SameChannel };
+
+    fn clone(&self) -> Result<Self, AllocError> {
+        let handle = self.handle.share()?;
+        // This comes last, so that a refusal above leaves the count unchanged.
+        if !S::join(&mut self.handle.lock()) {
+            return Err(AllocError);
+        }
+        let role = self.role;
+        Ok(End { handle, role })
+    }
+}
+
+impl<S: Role, T: Drop, P: Ord + Drop, R: Wait + Clone, A: Allocator + Copy> Drop
+    for End<S, T, P, R, A> {
+    fn drop(self) {
+        let End { handle, role: _ } = self;
+        let mut core = handle.lock();
+        let receivers = core.receiver_count();
+        let wakes = S::leave(&mut core);
+        let was_last = receivers > 0 && core.receiver_count() == 0;
+        handle.release(core, wakes);
+        if was_last && handle.lets_go() {
+            let_go(&handle);
+        }
+    }
+}
+
+// Drops the pending messages of a channel without receivers. Each message is dropped after the lock
+// is released, since its drop may use the channel.
+fn let_go<T: Drop, P: Ord + Drop, R: Wait + Clone, A: Allocator + Copy>(
+    handle: &Handle<T, P, R, A>,
+) {
+    let pending = handle.lock().len();
+    for _ in 0..pending {
+        let mut core = handle.lock();
+        let (received, wakes) = core.try_recv();
+        handle.release(core, wakes);
+        drop(received);
+    }
+}
