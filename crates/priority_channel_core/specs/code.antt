@@ -1,4 +1,4 @@
--- Definitions beside the machine that the contracts of the code's calls cite.
+-- What the contracts of the code cite beside the machine.
 pub mod Channel
 pub mod Room
 pub mod Replies

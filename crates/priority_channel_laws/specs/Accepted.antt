@@ -15,18 +15,15 @@ use Rattle.priority_channel_core.specs.machine.Sends.{as_list}
 use Rattle.priority_channel_core.specs.machine.Step.{Calls, Answers}
 use Rattle.priority_channel_core.specs.machine.Run.{Operation}
 
--- the pairs without the rest that came back
 abbrev pub all_but : {A : Type 0} → List A → List A → List A
 all_but rest pairs = take (length pairs - length rest) pairs
 
--- the pairs that a send with this reply accepted
 abbrev pub sent : {A : Type 0} → List A → Result (Unit {0}) (TrySendError (List A)) → List A
 sent pairs (Ok done) = pairs
 sent pairs (Err (send_error.Closed rest)) = []
 sent pairs (Err (send_error.Full rest)) = all_but rest pairs
 sent pairs (Err (send_error.Memory rest)) = all_but rest pairs
 
--- the pairs that a poll of a send with this answer accepted
 abbrev pub poll_sent : {A : Type 0} → List A
     → CorePoll (Result (Unit {0}) (SendFault (List A))) (List A) → List A
 poll_sent pairs (Ready (Ok done)) = pairs
@@ -50,8 +47,7 @@ received_by (answer.TryRecv (Ok pair)) = pair ∷ []
 received_by (answer.PollRecv (Ready (Ok pair))) = pair ∷ []
 received_by _ = []
 
--- the pair that made room for one of greater priority, and the pair that a test took out; neither
--- is received
+-- the pair that made room, and the pair that a test took out; neither is received
 abbrev pub displaced_by : {T P : Type 0} → Answers T P → List (T × P)
 displaced_by (answer.TrySendEvicting (Ok (Some pair))) = pair ∷ []
 displaced_by _ = []
@@ -60,7 +56,7 @@ abbrev pub taken_by : {T P : Type 0} → Answers T P → List (T × P)
 taken_by (answer.TakeWhere (Some pair)) = pair ∷ []
 taken_by _ = []
 
--- all pairs that a run accepted, and all pairs that went each way, in order
+-- over a whole run, in order
 abbrev pub accepted_in : {T P W : Type 0} → List (Operation T P W) → List (T × P)
 accepted_in run = flat_map (λ made. accepted_by made.call made.answer) run
 
@@ -73,6 +69,5 @@ displaced_in run = flat_map (λ made. displaced_by made.answer) run
 abbrev pub taken_in : {T P W : Type 0} → List (Operation T P W) → List (T × P)
 taken_in run = flat_map (λ made. taken_by made.answer) run
 
--- no pair has a greater priority than a pair before it
 abbrev pub NeverRise : {T P : Type 0} → (P → P → Ordering) → List (T × P) → Type 0
 NeverRise cmp pairs = AllPairs (λ before later. is_gt (cmp later.1 before.1) ≡ false) pairs

@@ -1,4 +1,4 @@
--- Runs that are the same, except for the values that the wakers' Clone gave.
+-- Runs that are the same, except for the values that Clone gave for wakers.
 use Rattle.std.specs.Prelude.{◌≡◌, ℕ, ◌⊎◌, Bool, true, false, length, Err}
 use Rattle.std.specs.List.{AllZip}
 use Rattle.priority_channel_core.specs.declared.calls.Answer.TheVariants as answer
@@ -12,7 +12,6 @@ use Rattle.priority_channel_core.specs.machine.Step.{Answers}
 use Rattle.priority_channel_core.specs.machine.Run.{Operation}
 use Rattle.priority_channel_laws.specs.Accepted.{accepted_by}
 
--- whether an answer is Memory
 abbrev pub is_memory : {T P : Type 0} → Answers T P → Bool
 is_memory (answer.TrySend (Err (send_error.Memory pair))) = true
 is_memory (answer.TrySendv (Err (send_error.Memory rest))) = true
@@ -22,7 +21,7 @@ is_memory (answer.PollSendv (Ready (Err (send_fault.Memory rest)))) = true
 is_memory (answer.PollRecv (Ready (Err recv_fault.Memory))) = true
 is_memory _ = false
 
--- the same call, which accepted as many pairs in both, and answered Memory in both or in neither
+-- the same call accepted as many pairs in both, and answered Memory in both or in neither
 pub record IsAlike {T P W : Type 0} (one other : Operation T P W) : Type 0 where
   pub same_call : other.call ≡ one.call
   pub as_many : length (accepted_by other.call other.answer)
@@ -30,7 +29,7 @@ pub record IsAlike {T P W : Type 0} (one other : Operation T P W) : Type 0 where
   pub memory : is_memory other.answer ≡ is_memory one.answer
 
 module _ {W : Type 0} (is_clone : W → W → Type 0) where
-  -- the same ticket, with the same waker or another clone of one waker
+  -- with the same waker, or another clone of one waker
   abbrev pub SameWaiter : ℕ × W → ℕ × W → Type 0
   SameWaiter a b =
       (b.0 ≡ a.0) × ((b.1 ≡ a.1) ⊎ ((waker : W) × is_clone waker a.1 × is_clone waker b.1))
@@ -44,12 +43,10 @@ module _ {W : Type 0} (is_clone : W → W → Type 0) where
     pub message : AllZip SameWaiter one.message other.message
     pub next_ticket : other.next_ticket ≡ one.next_ticket
 
-  -- the same waiters, and all else is the same
   pub record SameState {T P : Type 0} (one other : State T P W) : Type 0 where
     pub waiters : SameWaiters one.waiters other.waiters
     pub others : other ≡ record one { waiters = other.waiters }
 
-  -- the same answer, and the same waiters woken
   pub record SameOutcome {T P : Type 0} (one other : Operation T P W) : Type 0 where
     pub answer : other.answer ≡ one.answer
     pub handed : SameHanded one.handed other.handed

@@ -1,4 +1,4 @@
--- Worlds: a channel with the futures that use it, and the events that may happen to them.
+-- Worlds: a channel with the futures that use it, and what may happen to them.
 use Rattle.std.specs.Prelude.{◌≡◌, ℕ, ◌||◌, Bool, if◌then◌else◌, List, [], ◌∷◌, map, slice_get, slice_set, Option, Some, None, ⊤}
 use Rattle.std.specs.List.{All}
 use Rattle.std.specs.declared.cmp.Ordering.{Ordering}
@@ -10,18 +10,17 @@ use Rattle.priority_channel_core.specs.machine.Step.{Step, Calls, Answers}
 use Rattle.priority_channel_core.specs.Future.{Tasks, Standing, Futures, ticket_of, poll_of, future_after, GivesUpTicket}
 use Rattle.priority_channel_core.specs.Future.Standing.{New, Waiting, Called, Done}
 
--- a channel, and the futures that use it
 pub record World (T P W : Type 0) : Type 0 where
   pub state : State T P W
   pub futures : List (Futures T P W)
 
--- a direct call on the channel, or a poll or the end of the future at a position of the list
+-- a direct call, or a poll or the end of the future at this position
 pub data Event (T P W : Type 0) : Type 0 where
   Makes : Calls T P W → Event T P W
   Polls : ℕ → W → Event T P W
   GivesUp : ℕ → Event T P W
 
--- the calls that no future makes
+-- no future makes this call
 abbrev pub IsDirect : {T P W : Type 0} → Calls T P W → Type 0
 IsDirect (call.PollSend msg priority given waker) = ⊥
 IsDirect (call.PollSendv pairs given waker) = ⊥
@@ -46,8 +45,7 @@ call_out handed futures =
     futures
 
 module _ {T P W : Type 0} (cmp : P → P → Ordering) (is_clone : W → W → Type 0) where
-  -- a poll, with the future's own ticket; the waiting futures are woken before the polled one gets
-  -- its new standing
+  -- a poll with the future's own ticket; others are woken before it gets its new standing
   abbrev pub PollsFuture : World T P W → ℕ → W → Tasks T P → Standing W → Handed W → World T P W
       → Type 0
   PollsFuture old which waker task Done handed new = (handed ≡ nobody) × (new ≡ old)
@@ -57,7 +55,6 @@ module _ {T P W : Type 0} (cmp : P → P → Ordering) (is_clone : W → W → T
       × (new.futures
       ≡ slice_set (call_out handed old.futures) which (future_after task waker reply))
 
-  -- an event, the waiters that it wakes, and the world after it
   abbrev pub Happens : World T P W → Event T P W → Handed W → World T P W → Type 0
   Happens old (Makes made) handed new =
       IsDirect made
@@ -71,13 +68,11 @@ module _ {T P W : Type 0} (cmp : P → P → Ordering) (is_clone : W → W → T
       × GivesUpTicket cmp is_clone old.state (ticket_of future.standing) new.state
       × (new.futures ≡ slice_set old.futures which (record { task = future.task; standing = Done }))
 
-  -- events one after another, whichever waiters they wake
   abbrev pub Leads : World T P W → List (Event T P W) → World T P W → Type 0
   Leads old [] new = new ≡ old
   Leads old (event ∷ more) new =
       (handed : Handed W) × (mid : World T P W) × Happens old event handed mid × Leads mid more new
 
--- a new channel, and new futures
 abbrev pub IsOpening : {T P W : Type 0} → World T P W → Type 0
 IsOpening world =
     IsGood world.state × (world.state ≡ opening world.state.capacity world.state.is_reserved)

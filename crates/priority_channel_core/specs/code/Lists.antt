@@ -4,8 +4,7 @@ use Rattle.std.specs.Iterator.{AlwaysYields}
 use Rattle.std.specs.Iterator.Adapters.{peekable_steps}
 use Rattle.std.specs.declared.iter.Ahead.{Ahead}
 
--- for every answer that `next` may give: call by call, it gives the items of the list in order, and
--- then None
+-- whatever `next` may answer, it gives the items of the list in order, and then None
 pub record HasList {S X : Type 0} (steps : S → Option X → S → Type 0) (msgs : Ahead S X)
     (list : List X) : Type 0 where
   pub runs : AlwaysYields (peekable_steps steps) (λ x. x) msgs list

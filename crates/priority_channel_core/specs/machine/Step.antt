@@ -1,4 +1,4 @@
--- One step of the machine: a call, its answer, the waiters that it wakes, and the state after it.
+-- One step of the machine: a call, its answer, whom it wakes, and the state after it.
 use Rattle.std.specs.Prelude.{◌+◌, ◌-◌, ◌==◌, List, [], ◌∷◌, length, Some}
 use Rattle.std.specs.declared.cmp.Ordering.{Ordering}
 use Rattle.priority_channel_core.specs.declared.calls.Call.{Call}
@@ -14,15 +14,14 @@ use Rattle.priority_channel_core.specs.Waiters.{unlist}
 use Rattle.priority_channel_core.specs.machine.Polls.{send_answer, recv_answer, Polls}
 use Rattle.priority_channel_core.specs.declared.side.Side.TheVariants.{Room, Message}
 
--- the calls and answers of the machine, where a bulk send is given a list, and gives a list back
+-- calls and answers in which a bulk send is given a list, and gives a list back
 abbrev pub Calls : (T P W : Type 0) → Type 0
 Calls T P W = Call T P W (List (T × P))
 
 abbrev pub Answers : (T P : Type 0) → Type 0
 Answers T P = Answer T P (List (T × P))
 
--- `cmp` compares two priorities; `is_clone waker kept` holds if a clone of the waker may give
--- `kept`
+-- `is_clone waker kept` holds if a clone of the waker may give `kept`
 module _ {T P W : Type 0} (cmp : P → P → Ordering) (is_clone : W → W → Type 0) where
   abbrev pub Moves : State T P W → Calls T P W → Answers T P → Handed W → State T P W → Type 0
   Moves old (call.TrySend msg priority) (answer.TrySend reply) =
@@ -58,10 +57,8 @@ module _ {T P W : Type 0} (cmp : P → P → Ordering) (is_clone : W → W → T
       Polls is_clone (Receives cmp old) recv_answer Message given waker answer
   Moves old (call.GiveUp ticket) answer.GiveUp =
       Refuses (record old { waiters = unlist (Some ticket) old.waiters })
-  -- no other answer is given
   Moves old _ _ = λ handed new. ⊥
 
-  -- a step leads to a good state
   pub record Step (old : State T P W) (made : Calls T P W) (reply : Answers T P) (handed : Handed W)
       (new : State T P W) : Type 0 where
     pub moves : Moves old made reply handed new
