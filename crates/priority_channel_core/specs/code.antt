@@ -4,6 +4,7 @@ pub mod Room
 pub mod Replies
 pub mod Lists
 pub mod Front
+pub mod Answers
 pub mod Calls
 pub mod Many
 pub mod Allowed
