@@ -5,11 +5,9 @@ use Rattle.priority_channel_bag.specs.Digits.{digits}
 pub record Contents (T P : Type 0) : Type 0 where
   -- in the order of their acceptance
   pub pending : List (T × P)
-  -- how many were ever pushed
   pub accepted : ℕ
   -- how many fit without asking for memory
   pub slots : ℕ
-  -- comparisons of two priorities so far
   pub comparisons : ℕ
   -- the least pair is known without a search
   pub knows_least : Bool

@@ -1,4 +1,4 @@
--- Where the items of an interval heap are, and how they are ordered.
+-- Where the items of an interval heap are, and their order.
 --
 -- The items are in pairs: a high at each even place, and its low right behind it. Below the pair of
 -- the high at h and the low at l are two pairs, from h * 2 + 2 on, which is l * 2.
@@ -13,7 +13,7 @@ pub data IsOver (a b : ℕ) : Type 0 where
   low : b % 2 ≡ 1 → b * 2 ≤ a → a ≤ b * 2 + 3 → IsOver a b
 
 module _ {X : Type 0} (R : X → X → Ordering) where
-  -- the first n items are an interval heap: no item is less than one that it is over
+  -- of the first n items, none is less than one under it
   unfoldable pub IsIntervalHeapWithin : List X → ℕ → Type 0
   IsIntervalHeapWithin xs n = (a b : ℕ) → IsOver a b → a < n → b < n → ComparesAt R xs a b false
 

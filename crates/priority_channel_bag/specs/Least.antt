@@ -1,4 +1,4 @@
--- Which pair makes room for one of greater priority, and which pair a test takes out.
+-- Which pair makes room for another, and which pair a test takes out.
 use Rattle.std.specs.Prelude.{◌≡◌, Bool, false, List, [], ◌∷◌, ◌++◌}
 use Rattle.std.specs.List.{All}
 use Rattle.std.specs.Fn.{Shared, FnReturns}

@@ -34,7 +34,7 @@ module _ {W : Type 0} where
   enlist Message listed waiters =
       record waiters { message = listed.waiters; next_ticket = listed.next_ticket }
 
-  -- listed under this ticket with a clone of the waker; without a ticket, in neither list
+  -- listed under this ticket, or without a ticket in neither list
   abbrev pub Enlists : (W → W → Type 0) → Side → Option ℕ → W → Option ℕ
       → Waiters W → Waiters W → Type 0
   Enlists is_clone side given waker None old new = new ≡ unlist given old
@@ -51,6 +51,6 @@ module _ {W : Type 0} where
     pub apart : (ticket : ℕ) → is_listed ticket waiters.room ≡ true
         → is_listed ticket waiters.message ≡ false
 
-  -- how many tickets a binary search in both lists compares at most
+  -- tickets that searches in both lists compare at most
   abbrev pub search_bound : Waiters W → ℕ
   search_bound waiters = digits (length waiters.room) + digits (length waiters.message)

@@ -2,7 +2,7 @@
 use Rattle.std.specs.Prelude.{◌≡◌, false, ℕ, ◌+◌, ◌<◌, Bool, not, ◌==◌, if◌then◌else◌, List, [], ◌∷◌, ◌++◌, map, Option, Some, None}
 use Rattle.std.specs.List.{AllPairs, filter, list_any}
 
--- what a listing gives: the ticket of the waiter, the new list and the next ticket
+-- what a listing leads to
 pub record Listing (W : Type 0) : Type 0 where
   pub ticket : ℕ
   pub waiters : List (ℕ × W)
@@ -34,7 +34,7 @@ module _ {W : Type 0} where
   fresh waker waiters next =
       record { ticket = next; waiters = waiters ++ (next, waker) ∷ []; next_ticket = next + 1 }
 
-  -- a waiter keeps its own ticket if that is listed, and otherwise gets the next one
+  -- a waiter keeps a listed ticket, and otherwise gets the next one
   abbrev pub listing : Option ℕ → W → List (ℕ × W) → ℕ → Listing W
   listing None waker waiters next = fresh waker waiters next
   listing (Some ticket) waker waiters next =
@@ -42,7 +42,7 @@ module _ {W : Type 0} where
       then record { ticket = ticket; waiters = with_waker ticket waker waiters; next_ticket = next }
       else fresh waker waiters next
 
-  -- listed in this way, with a clone of the waker
+  -- with a clone of the waker
   abbrev pub IsListing : (W → W → Type 0) → Option ℕ → W → List (ℕ × W) → ℕ → Listing W → Type 0
   IsListing is_clone given waker waiters next listed =
       (kept : W) × is_clone waker kept × (listing given kept waiters next ≡ listed)

@@ -1,4 +1,4 @@
--- The word of a channel: the number of pending pairs, whether it is closed, and the waiters.
+-- The word of a channel; `count` is of pending pairs.
 use Rattle.std.specs.Prelude.{ℕ, ◌%◌, ◌^◌, Bool, List, [], nat_le}
 use Rattle.priority_channel_core.specs.Waiters.{Waiters}
 

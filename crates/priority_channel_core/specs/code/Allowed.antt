@@ -49,13 +49,13 @@ module _ {C : Type 0} (is_clone is_drop : C → Bool) where
     pub drops : DropsFindHandles count calls
     pub clones : list_any is_drop calls ≡ true → count + count_by is_clone calls < 2 ^ 63
 
-pub record ChangesHandles {T P W M : Type 0} (old : State T P W) (made : Call T P W M)
-    (new : State T P W) : Type 0 where
-  pub senders : ChangesCount is_sender_clone is_sender_drop old.sender_count made new.sender_count
-  pub receivers : ChangesCount is_receiver_clone is_receiver_drop old.receiver_count made
-      new.receiver_count
+module _ {T P W M : Type 0} where
+  pub record ChangesHandles (old : State T P W) (made : Call T P W M)
+      (new : State T P W) : Type 0 where
+    pub senders : ChangesCount is_sender_clone is_sender_drop old.sender_count made new.sender_count
+    pub receivers : ChangesCount is_receiver_clone is_receiver_drop old.receiver_count made
+        new.receiver_count
 
-pub record AllowsRun {T P W M : Type 0} (s : State T P W)
-    (calls : List (Call T P W M)) : Type 0 where
-  pub senders : AllowsSide is_sender_clone is_sender_drop s.sender_count calls
-  pub receivers : AllowsSide is_receiver_clone is_receiver_drop s.receiver_count calls
+  pub record AllowsRun (s : State T P W) (calls : List (Call T P W M)) : Type 0 where
+    pub senders : AllowsSide is_sender_clone is_sender_drop s.sender_count calls
+    pub receivers : AllowsSide is_receiver_clone is_receiver_drop s.receiver_count calls

@@ -1,4 +1,4 @@
--- The calls of the code and of the machine: a bulk send is given what holds a list, or the list.
+-- The calls of the code, where a bulk send is given what holds a list.
 use Rattle.std.specs.Prelude.{◌≡◌, List, ◌++◌, map, ⊤}
 use Rattle.std.specs.List.{AllZip}
 use Rattle.std.specs.declared.cmp.Ordering.{Ordering}
@@ -11,19 +11,17 @@ use Rattle.priority_channel_core.specs.machine.Run.{Operation, Run}
 use Rattle.priority_channel_core.specs.code.Answers.{Is, IsMade, SameAnswer}
 pub use Rattle.priority_channel_core.specs.code.Answers.{SameReply, SamePoll}
 
--- what a call gives, with the waiters that it wakes
 pub record Response (T P W M : Type 0) : Type 0 where
   pub answer : Answer T P M
   pub handed : Handed W
 
--- the iterator of a bulk send may be called; a `take_where` of the code has no place
+-- a bulk send may be called; a `take_where` of the code has no place
 abbrev pub MayCall : {T P W M : Type 0} → (M → Type 0) → Call T P W M → Type 0
 MayCall can (TrySendv msgs) = can msgs
 MayCall can (PollSendv msgs given waker) = can msgs
 MayCall can (TakeWhere place) = ⊥
 MayCall can made = ⊤
 
--- `holds m list`: m holds the list
 module _ {T P W M : Type 0} (holds : M → List (T × P) → Type 0) where
   abbrev pub SameCall : Call T P W M → Calls T P W → Type 0
   SameCall (TrySendv msgs) = IsMade (holds msgs) TrySendv

@@ -1,4 +1,4 @@
--- A send that makes room in a full channel: a removal and a send in one step.
+-- A send that makes room: a removal and a send in one step.
 use Rattle.std.specs.Prelude.{◌≡◌, ◌-◌, ◌^◌, ◌⊎◌, false, [], ◌∷◌, Option, Some, None, Result, Ok, Err}
 use Rattle.std.specs.declared.cmp.Ordering.{Ordering}
 use Rattle.std.specs.declared.cmp.Ordering.TheVariants.{Less}
@@ -9,7 +9,7 @@ use Rattle.priority_channel_core.specs.machine.State.{State, Handed, room}
 use Rattle.priority_channel_core.specs.machine.Sends.{Refuses, Sends}
 
 module _ {T P W : Type 0} (cmp : P → P → Ordering) where
-  -- the last of the least pairs goes out of a full channel, for a pair of greater priority
+  -- the last of the least pairs makes room for one of greater priority
   pub record MakesRoom (old : State T P W) (pair out : T × P) (new : State T P W) : Type 0 where
     pub full : room old ≡ 0
     pub less : cmp out.1 pair.1 ≡ Less

@@ -1,4 +1,4 @@
--- Polls: a try, and then a ticket in a waiting list if the channel was full or empty.
+-- Polls: a try, and a ticket in a waiting list if the channel was full or empty.
 use Rattle.std.specs.Prelude.{◌≡◌, ℕ, Option, Some, None, Result, Ok, Err}
 use Rattle.priority_channel_core.specs.declared.calls.CorePoll.{CorePoll}
 use Rattle.priority_channel_core.specs.declared.calls.CorePoll.TheVariants.{Ready, Pending}
@@ -14,8 +14,7 @@ use Rattle.priority_channel_core.specs.declared.errors.RecvFault.TheVariants as 
 use Rattle.priority_channel_core.specs.Waiters.{Enlists}
 use Rattle.priority_channel_core.specs.machine.State.{State, Handed}
 
--- The answer from the reply to the try and the ticket under which the caller now waits. Only
--- Full waits; if the listing was refused, the answer is Memory.
+-- The answer to the poll. Only Full waits, or is Memory if the listing was refused.
 abbrev pub send_answer : {K : Type 0} → Result (Unit {0}) (TrySendError K) → Option ℕ
     → Option (CorePoll (Result (Unit {0}) (SendFault K)) K)
 send_answer (Err (try_send.Full rest)) (Some ticket) = Some (Pending rest ticket)
@@ -36,7 +35,7 @@ recv_answer (Ok pair) None = Some (Ready (Ok pair))
 recv_answer reply (Some ticket) = None
 
 module _ {T P W : Type 0} (is_clone : W → W → Type 0) where
-  -- only the caller waits on this side now or, without a ticket, on neither
+  -- the caller waits on this side or, without a ticket, on neither
   abbrev pub Ends : Side → Option ℕ → W → Option ℕ → State T P W → State T P W → Type 0
   Ends side given waker ticket old new =
       Enlists is_clone side given waker ticket old.waiters new.waiters

@@ -1,4 +1,4 @@
--- Sending a list of pairs. A send of one pair is a send of the list of that pair.
+-- Sending a list of pairs.
 use Rattle.std.specs.Prelude.{◌≡◌, ◌+◌, ◌-◌, ◌<◌, ◌≤◌, ◌^◌, ◌⊎◌, true, false, ◌==◌, if◌then◌else◌, List, [], ◌∷◌, ◌++◌, length, Result, Ok, Err}
 use Rattle.priority_channel_core.specs.declared.errors.TrySendError.{TrySendError}
 use Rattle.priority_channel_core.specs.declared.errors.TrySendError.TheVariants.{Full, Closed, Memory}
