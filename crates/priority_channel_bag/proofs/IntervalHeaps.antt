@@ -222,7 +222,6 @@ module _ {X : Type 0} (R : X → X → Ordering) (o : IsTotalOrder R) where
   unfolding IsIntervalHeapWithin
   is_single xs one a b r p q = absurd (never_itself a b r (omega arith))
 
-  -- for a list of the same items, and no more
   pub agrees : (xs ys : List X) (n m : ℕ) → m ≤ n → ((i : ℕ) (d : X) → i < m → get_or ys i d ≡ get_or xs i d) → IsIntervalHeapWithin R xs n → IsIntervalHeapWithin R ys m
   unfolding IsIntervalHeapWithin
   agrees xs ys n m le same w = λ a b r p q d. (λ k. lt (same a d p k) (same b d q k)) ∙ w a b r (omega arith) (omega arith) d
