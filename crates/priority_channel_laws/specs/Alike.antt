@@ -1,7 +1,7 @@
--- Runs that are the same, except for the values that Clone gave for wakers.
+-- Runs that are the same, except for the clones of wakers.
 use Rattle.std.specs.Prelude.{◌≡◌, ℕ, ◌⊎◌, Bool, true, false, length, Err}
 use Rattle.std.specs.List.{AllZip}
-use Rattle.priority_channel_core.specs.declared.calls.Answer.TheVariants as answer
+use Rattle.priority_channel_core.specs.declared.calls.Answer.TheVariants.{TrySend, TrySendv, TrySendEvicting, PollSend, PollSendv, PollRecv}
 use Rattle.priority_channel_core.specs.declared.calls.CorePoll.TheVariants.{Ready}
 use Rattle.priority_channel_core.specs.declared.errors.TrySendError.TheVariants as send_error
 use Rattle.priority_channel_core.specs.declared.errors.SendFault.TheVariants as send_fault
@@ -13,15 +13,14 @@ use Rattle.priority_channel_core.specs.machine.Run.{Operation}
 use Rattle.priority_channel_laws.specs.Accepted.{accepted_by}
 
 abbrev pub is_memory : {T P : Type 0} → Answers T P → Bool
-is_memory (answer.TrySend (Err (send_error.Memory pair))) = true
-is_memory (answer.TrySendv (Err (send_error.Memory rest))) = true
-is_memory (answer.TrySendEvicting (Err (send_error.Memory pair))) = true
-is_memory (answer.PollSend (Ready (Err (send_fault.Memory pair)))) = true
-is_memory (answer.PollSendv (Ready (Err (send_fault.Memory rest)))) = true
-is_memory (answer.PollRecv (Ready (Err recv_fault.Memory))) = true
+is_memory (TrySend (Err (send_error.Memory pair))) = true
+is_memory (TrySendv (Err (send_error.Memory rest))) = true
+is_memory (TrySendEvicting (Err (send_error.Memory pair))) = true
+is_memory (PollSend (Ready (Err (send_fault.Memory pair)))) = true
+is_memory (PollSendv (Ready (Err (send_fault.Memory rest)))) = true
+is_memory (PollRecv (Ready (Err recv_fault.Memory))) = true
 is_memory _ = false
 
--- the same call accepted as many pairs in both, and answered Memory in both or in neither
 pub record IsAlike {T P W : Type 0} (one other : Operation T P W) : Type 0 where
   pub same_call : other.call ≡ one.call
   pub as_many : length (accepted_by other.call other.answer)

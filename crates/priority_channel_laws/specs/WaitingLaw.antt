@@ -7,7 +7,7 @@ use Rattle.priority_channel_core.specs.machine.State.{State, Handed}
 use Rattle.priority_channel_core.specs.machine.Good.{IsGood}
 use Rattle.priority_channel_core.specs.Future.{Tasks, Futures, ticket_of}
 use Rattle.priority_channel_laws.specs.World.{World}
-use Rattle.priority_channel_core.specs.Future.Task.{Send, Sendv, Recv}
+use Rattle.priority_channel_core.specs.Future.Task.{Recv}
 use Rattle.priority_channel_core.specs.Future.Standing.{New, Waiting, Called, Done}
 
 abbrev pub waker_of : {W : Type 0} → ℕ → List (ℕ × W) → Option W
@@ -15,14 +15,23 @@ waker_of ticket [] = None
 waker_of ticket (a ∷ waiters) = if a.0 == ticket then Some a.1 else waker_of ticket waiters
 
 abbrev pub side_of : {T P : Type 0} → Tasks T P → Side
-side_of (Send msg priority) = Room
-side_of (Sendv pairs) = Room
 side_of Recv = Message
+side_of send = Room
 
--- what the future would wait for is there, or never comes
-abbrev pub CanGoOn : {T P W : Type 0} → State T P W → Side → Type 0
-CanGoOn s Room = (s.is_closed ≡ true) ⊎ (length s.pending ≢ s.capacity)
-CanGoOn s Message = (s.is_closed ≡ true) ⊎ (s.pending ≢ [])
+module _ {T P W : Type 0} where
+  -- what the future would wait for is there, or never comes
+  abbrev pub CanGoOn : State T P W → Side → Type 0
+  CanGoOn s Room = (s.is_closed ≡ true) ⊎ (length s.pending ≢ s.capacity)
+  CanGoOn s Message = (s.is_closed ≡ true) ⊎ (s.pending ≢ [])
+
+  -- a ticket that was given by then was that future's then: no number is given twice
+  abbrev pub GivenOnce : World T P W → World T P W → Type 0
+  GivenOnce past now =
+      (which : ℕ) (future : Futures T P W) (ticket : ℕ)
+      → slice_get now.futures which ≡ Some future → ticket_of future.standing ≡ Some ticket
+      → ticket < past.state.waiters.next_ticket
+      → (earlier : Futures T P W) × (slice_get past.futures which ≡ Some earlier)
+      × (ticket_of earlier.standing ≡ Some ticket)
 
 module _ {T P W : Type 0} (is_clone : W → W → Type 0) where
   -- this future waits on this side; `kept` is a clone of its waker
@@ -63,22 +72,12 @@ module _ {T P W : Type 0} (is_clone : W → W → Type 0) where
         → ticket_of one.standing ≡ Some ticket → ticket_of other.standing ≡ Some ticket
         → first ≡ second
 
--- a ticket that was given by then was that future's then: no number is given twice
-abbrev pub GivenOnce : {T P W : Type 0} → World T P W → World T P W → Type 0
-GivenOnce {T} {P} {W} past now =
-    (which : ℕ) (future : Futures T P W) (ticket : ℕ)
-    → slice_get now.futures which ≡ Some future → ticket_of future.standing ≡ Some ticket
-    → ticket < past.state.waiters.next_ticket
-    → (earlier : Futures T P W) × (slice_get past.futures which ≡ Some earlier)
-    × (ticket_of earlier.standing ≡ Some ticket)
-
--- a future is woken with its own ticket and a clone of the waker of its last poll
-abbrev pub CalledBy : {T P W : Type 0} → (W → W → Type 0) → World T P W → Handed W → World T P W
-    → Type 0
-CalledBy {T} {P} {W} is_clone old handed new =
-    (which : ℕ) (future : Futures T P W) (ticket : ℕ) (waker : W)
-    → slice_get new.futures which ≡ Some future → future.standing ≡ Called ticket waker
-    → (earlier : Futures T P W) × (slice_get old.futures which ≡ Some earlier)
-    × ((earlier.standing ≡ Called ticket waker)
-    ⊎ ((earlier.standing ≡ Waiting ticket waker) × (kept : W) × is_clone waker kept
-    × ((waker_of ticket handed.room ≡ Some kept) ⊎ (waker_of ticket handed.message ≡ Some kept))))
+  -- a future is woken by its own ticket, with a clone of its last waker
+  abbrev pub CalledBy : World T P W → Handed W → World T P W → Type 0
+  CalledBy old handed new =
+      (which : ℕ) (future : Futures T P W) (ticket : ℕ) (waker : W)
+      → slice_get new.futures which ≡ Some future → future.standing ≡ Called ticket waker
+      → (earlier : Futures T P W) × (slice_get old.futures which ≡ Some earlier)
+      × ((earlier.standing ≡ Called ticket waker)
+      ⊎ ((earlier.standing ≡ Waiting ticket waker) × (kept : W) × is_clone waker kept
+      × ((waker_of ticket handed.room ≡ Some kept) ⊎ (waker_of ticket handed.message ≡ Some kept))))
