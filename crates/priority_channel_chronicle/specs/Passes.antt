@@ -32,8 +32,8 @@ module _ {E : Type 0} (who : E → ℕ) where
       All (λ pass. calls_of pass.number history ≡ pass.count) passes
       × ((number : ℕ) → All (λ pass. number ≢ pass.number) passes → calls_of number history ≡ 0)
 
-  -- `new` has seen a legal history: all that `old` had, at least one more, and `last` at its end.
-  -- Under its number it has no fewer entries than calls.
+  -- `new` has seen a legal history: all that `old` had, and then more, with `last` at its end.
+  -- Under its number stand no fewer entries than calls.
   pub record IsTold (is_legal : List E → Type 0) (old : Carried E) (last : E)
       (new : Carried E) : Type 0 where
     pub between : List E

@@ -28,12 +28,12 @@ module _ {T P W M : Type 0} where
   is_receiver_drop made = false
 
 module _ {C : Type 0} (is_clone is_drop : C → Bool) where
-  -- if no clone is refused
+  -- the count after this call, if no clone is refused
   abbrev pub count_after : ℕ → C → ℕ
   count_after count made =
       if is_clone made then count + 1 else if is_drop made then count - 1 else count
 
-  -- or nothing changes, since a clone was refused
+  -- as asked, or not at all if a clone was refused
   abbrev pub ChangesCount : ℕ → C → ℕ → Type 0
   ChangesCount old made new =
       (new ≡ count_after old made) ⊎ ((2 ^ 63 ≤ old) × (new ≡ old) × (is_clone made ≡ true))

@@ -8,7 +8,6 @@ use Rattle.priority_channel_core.specs.machine.Good.{IsGood}
 use Rattle.priority_channel_bag.specs.Bag.{Contents}
 use Rattle.priority_channel_core.specs.Word.{Word}
 
--- `knows_least`: the least pair is known without a search
 pub record CountedState (T P W : Type 0) : Type 0 where
   pub state : State T P W
   pub priority_comparisons : ℕ
