@@ -4,8 +4,8 @@ use Rattle.priority_channel_core.specs.declared.side.Side.{Side}
 use Rattle.priority_channel_core.specs.machine.State.{State}
 use Rattle.priority_channel_core.specs.machine.Polls.{Ends}
 
--- the head by its number and its waiter, and the ticket of its listing; the threads behind it;
--- the next number; and how many threads spin before they join
+-- the head with its waiter and the ticket of its listing, the threads behind it, the next number,
+-- and how many threads spin before they join
 pub record Lined : Type 0 where
   pub first : Option (ℕ × ℕ)
   pub ticket : Option ℕ
@@ -17,6 +17,6 @@ abbrev pub IsFirst : Lined → ℕ → Type 0
 IsFirst line number = (waiter : ℕ) × (line.first ≡ Some (number, waiter))
 
 module _ {T P : Type 0} where
-  -- the channel lists a waiter under this ticket: the given one, if that is listed already
+  -- a listing under this ticket: the given one, if that is listed already
   abbrev pub Lists : Side → Option ℕ → ℕ → Option ℕ → State T P ℕ → State T P ℕ → Type 0
   Lists = Ends (λ waker kept. kept ≡ waker)
