@@ -1,4 +1,4 @@
--- What a caller's pass carries, and what a call adds to it.
+-- The passes of a recorder.
 use Rattle.std.specs.Prelude.{ℕ, List}
 use Rattle.std.specs.declared.cmp.Ordering.{Ordering}
 use Rattle.priority_channel_recorded.specs.declared.book.Entry.{Entry}
