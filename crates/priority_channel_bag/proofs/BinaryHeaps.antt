@@ -14,7 +14,6 @@ module _ {X : Type 0} (lt : X → X → Bool) where
   by : (a b x y : X) → a ≡ x → b ≡ y → lt x y ≡ false → lt a b ≡ false
   by a b x y p q h = (λ k. lt (p k) (q k)) ∙ h
 
-  -- the hole moves from a parent to the greater child
   hole_falls : (xs ys : List X) (j c n : ℕ) → j * 2 + 1 ≤ c → c ≤ j * 2 + 2 → c < n → c < length xs → ys ≡ swap xs j c
       → ((k : ℕ) (d : X) → j * 2 + 1 ≤ k → k ≤ j * 2 + 2 → k < n → lt (get_or xs c d) (get_or xs k d) ≡ false) → IsHeapWithHole lt xs j n → IsHeapWithHole lt ys c n
   hole_falls xs ys j c n from to in' long is best h = (
@@ -53,7 +52,6 @@ module _ {X : Type 0} (R : X → X → Ordering) (o : IsTotalOrder R) where
   unfolding SiftsUp IsHeap
   closes ys zs j leaf in' long was rises = subst (IsHeapWithin (lt_by_cmp R) zs 0) (sym long) (rises (length ys) in' (was, λ k d a b f. absurd (omega arith)))
 
-  -- for a list of the same items, and no more
   pub agrees : (xs ys : List X) → length ys ≤ length xs → ((i : ℕ) (d : X) → i < length ys → get_or ys i d ≡ get_or xs i d) → IsHeap R xs → IsHeap R ys
   unfolding IsHeap
   agrees xs ys le same w p k d lo a b f = by (lt_by_cmp R) _ _ _ _ (same p d (omega arith)) (same k d f) (w p k d lo a b (omega arith))

@@ -49,7 +49,6 @@ module _ {X : Type 0} (key : X → ℕ) where
   every_by_key P [] h = tt
   every_by_key P (x ∷ xs) h = every_put_in P x (by_key key xs) h.0 (every_by_key P xs h.1)
 
-  -- an element of the greatest key goes last
   put_in-push : (y x : X) (s : List X) → key y < key x → put_in key y (s ++ x ∷ []) ≡ put_in key y s ++ x ∷ []
   unfolding put_in
   put_in-push y x [] h = grind (arith, nat_tests)
@@ -83,7 +82,6 @@ module _ {X : Type 0} (key : X → ℕ) where
         upto = (ltb-false (key x) (key z) e, i.upto);
       }
 
-  -- the order of the elements does not matter if their keys differ
   replaced : (r : List X) (j : ℕ) (x d : X) → j < length r → IsDistinct same_key (x ∷ r) → put_in key (get_or r j d) (by_key key (set r j x)) ≡ put_in key x (by_key key r)
   unfolding IsDistinct by_key
   replaced [] j x d p h = absurd (omega arith)
@@ -114,7 +112,6 @@ module _ {X : Type 0} (key : X → ℕ) where
       (IsPermutation-keeps xs (λ l. IsDistinct same_key l × (by_key key l ≡ by_key key xs)) (h, refl)
       (λ l i j p q was. (still_apart l (swap l i j) (IsPermutation-swap l _ i j p q refl) was.0, swapped l i j p q was.0 ∙ was.1)) ys moves).1
 
-  -- no key is less than a key before it
   Rises : List X → Type 0
   Rises [] = ⊤
   Rises (x ∷ s) = AllByRecursion (λ y. key x ≤ key y) s × Rises s

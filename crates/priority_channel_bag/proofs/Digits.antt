@@ -6,7 +6,6 @@ use Rattle.std.proofs.lemmas.Nat.{mul-le}
 use Rattle.std.proofs.lemmas.Int.Digits.{length-digits_of_step, length-digits_of-le, number_lt, all_below_base_digits_of, number_digits_of}
 use Rattle.priority_channel_bag.specs.Digits.{digits}
 
--- a number is below this power of two
 pub lt-digits : (n : ℕ) → n < 2 ^ digits n
 unfolding digits
 lt-digits n =
@@ -19,13 +18,11 @@ digits-mono m n le =
     let h = lt-digits n in
     length-digits_of-le 2 (digits n) m (omega arith) (omega arith)
 
--- a half has one digit less
 pub digits-half : (m n : ℕ) → 0 < n → m ≤ n / 2 → digits m + 1 ≤ digits n
 unfolding digits
 digits-half m n positive le =
     let h = digits-mono m (n / 2) le in let e = length-digits_of_step 2 n (omega arith) positive in omega arith
 
--- and at least the power before it
 pub digits-least : (n : ℕ) → 0 < n → 2 ^ (digits n - 1) ≤ n
 unfolding digits
 digits-least n positive =
@@ -37,15 +34,12 @@ digits-least n positive =
       | inr least ↦ least
     ]
 
--- from a child's position to its parent's
 pub digits_parent : (at : ℕ) → 0 < at → digits ((at - 1) / 2 + 1) + 1 ≤ digits (at + 1)
 digits_parent at positive = digits-half ((at - 1) / 2 + 1) (at + 1) (omega arith) (omega arith)
 
--- from a parent's position to a child's
 pub digits_child : (at child : ℕ) → at * 2 + 1 ≤ child → digits at + 1 ≤ digits child
 digits_child at child le = digits-half at child (omega arith) (omega arith)
 
--- one more push, into a longer bag
 pub push_costs : (n before after : ℕ) → before ≤ after → n * digits before + digits after ≤ (n + 1) * digits after
 push_costs n before after le =
     let h = mul-le n (digits before) n (digits after) (omega arith) (digits-mono before after le) in

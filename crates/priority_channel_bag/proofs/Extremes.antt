@@ -17,7 +17,6 @@ module _ {A : Type 0} (Before Behind : A → A → Type 0) (never : (x y : A) �
   in_middle F [] x a h = h.0
   in_middle F (y ∷ b) x a h = in_middle F b x a h.1
 
-  -- the head x of a list, and y further on
   not_both : (x y : A) (b a rest : List A) → rest ≡ b ++ y ∷ a → AllByRecursion (Behind x) rest → Before y x → ⊥
   not_both x y b a rest e h before = never x y (in_middle (Behind x) b y a (subst (AllByRecursion (Behind x)) e h)) before
 

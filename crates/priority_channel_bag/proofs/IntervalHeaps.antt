@@ -162,9 +162,6 @@ module _ {X : Type 0} (R : X → X → Ordering) (o : IsTotalOrder R) where
   pub is_least : (xs : List X) → 1 < length xs → IsIntervalHeap R xs → IsLeastAt R xs 1
   is_least xs more w k p = least_second xs (length xs) w k k (omega arith) p more
 
-  pub is_alone : (xs : List X) → length xs ≡ 1 → IsLeastAt R xs 0
-  is_alone xs one k p = let e : 0 ≡ k = omega arith in subst (λ m. ComparesAt R xs m 0 false) e (λ d. itself (get_or xs 0 d))
-
   -- A step of each fall.
   module _ (xs : List X) (h c : ℕ) (w : InOrderBut R xs h) (cn : c < length xs) where
     -- c is the greater of the highs of both pairs below
@@ -222,7 +219,6 @@ module _ {X : Type 0} (R : X → X → Ordering) (o : IsTotalOrder R) where
   unfolding IsIntervalHeapWithin
   is_single xs one a b r p q = absurd (never_itself a b r (omega arith))
 
-  -- for a list of the same items, and no more
   pub agrees : (xs ys : List X) (n m : ℕ) → m ≤ n → ((i : ℕ) (d : X) → i < m → get_or ys i d ≡ get_or xs i d) → IsIntervalHeapWithin R xs n → IsIntervalHeapWithin R ys m
   unfolding IsIntervalHeapWithin
   agrees xs ys n m le same w = λ a b r p q d. (λ k. lt (same a d p k) (same b d q k)) ∙ w a b r (omega arith) (omega arith) d

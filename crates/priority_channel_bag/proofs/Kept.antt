@@ -24,7 +24,6 @@ use Rattle.priority_channel_bag.proofs.ItemOrder.{item_total}
 use Rattle.priority_channel_bag.proofs.Ordered.{greatest_first}
 
 module _ {X : Type 0} where
-  -- what holds of all elements of a list holds of all elements of both its parts
   pub every_part : (P : X → Type 0) (xs ys : List X) → AllByRecursion P (xs ++ ys) → AllByRecursion P xs × AllByRecursion P ys
   every_part P [] ys h = (tt, h)
   every_part P (x ∷ xs) ys h = let r = every_part P xs ys h.1 in ((h.0, r.0), r.1)
@@ -62,7 +61,6 @@ module _ {T P : Type 0} where
     }
 
     module _ (two : Bool) (xs : List (Item T P)) (n : ℕ) (was : IsKept cmp two xs n) where
-      -- the same items in another order, in either kind of heap
       pub kept_moved : (other : Bool) (zs : List (Item T P)) → IsPermutation xs zs → IsOrdered R other zs → IsKept cmp other zs n
       kept_moved other zs moves order = record {
         order = order;
@@ -94,7 +92,6 @@ module _ {T P : Type 0} where
           ap (map pair_of) (keys.by_key_permutation number (xs ++ x ∷ []) zs moves apart ∙ keys.by_key-push number xs x below)
           ∙ map-append pair_of (by_key number xs) (x ∷ [])
 
-    -- `x` is above `y`
     first_below : (x y : Item T P) → is_lt (R x y) ≡ false → y.number < x.number → cmp y.priority x.priority ≡ Less
     first_below x y h p = by_case (cmp x.priority y.priority) refl
       where
@@ -192,11 +189,9 @@ module _ {T P : Type 0} where
       pub kept_without : IsOrdered R two zs → IsKept cmp two zs n
       kept_without order = record { order = order; apart = apart_left; numbered = numbered_left }
 
-      -- what holds of each item that is left
       abbrev Left : Item T P → Type 0
       Left y = (is_lt (R x y) ≡ false) × (same_number x y ≡ false)
 
-      -- the item is above all others
       pub takes_greatest : AllByRecursion (λ y. is_lt (R x y) ≡ false) xs → TakesGreatest cmp (in_order_of_numbers xs) (pair_of x) (in_order_of_numbers zs)
       unfolding IsDistinct by_key
       takes_greatest bound =
@@ -219,7 +214,6 @@ module _ {T P : Type 0} where
                 (every_weaker Left (λ y. is_gt (cmp y.priority x.priority) ≡ false) (λ y h. never_above x y h.0) i.back parts.1));
           }
 
-      -- the item is below all others
       pub takes_least : AllByRecursion (λ y. is_lt (R y x) ≡ false) xs → TakesLeast cmp (in_order_of_numbers xs) (pair_of x) (in_order_of_numbers zs)
       unfolding by_key
       takes_least bound =
@@ -241,7 +235,6 @@ module _ {T P : Type 0} where
                 (every_weaker (λ y. (is_lt (R y x) ≡ false) × (x.number < y.number)) (λ y. cmp y.priority x.priority ≡ Greater) (λ y h. later_above x y h.0 h.1) s.back back));
           }
 
-    -- the first item stays
     pub shows_greatest : (two : Bool) (xs : List (Item T P)) (x : Item T P) (n : ℕ) → IsKept cmp two xs n → 0 < length xs → x ≡ get_or xs 0 x
         → (rest : List (T × P)) × TakesGreatest cmp (in_order_of_numbers xs) (pair_of x) rest
     shows_greatest two xs x n was some first = (
@@ -249,7 +242,6 @@ module _ {T P : Type 0} where
       takes_greatest two xs (swap_remove xs 0 x) x n was (IsPermutation-swap_remove xs 0 x some first) (greatest_first R (item_total o) two xs x first was.order),
     )
 
-    -- if not even the least item is below a priority, no pair is
     pub none_below : (xs : List (Item T P)) (x : Item T P) (priority : P) → AllByRecursion (λ y. is_lt (R y x) ≡ false) xs → is_lt (cmp x.priority priority) ≡ false → NoneBelow cmp (in_order_of_numbers xs) priority
     none_below xs x priority least h =
         All-map (λ other. is_lt (cmp other.1 priority) ≡ false) pair_of (by_key number xs)

@@ -15,12 +15,10 @@ use Rattle.priority_channel_bag.specs.IntervalHeap.{IsIntervalHeap, IsIntervalHe
 use Rattle.priority_channel_bag.proofs.BinaryHeaps as binary
 use Rattle.priority_channel_bag.proofs.IntervalHeaps as interval
 
--- ys is a prefix of xs
 abbrev Begins : {X : Type 0} → List X → List X → Type 0
 Begins {X} ys xs = (length ys ≤ length xs) × ((i : ℕ) (d : X) → i < length ys → get_or ys i d ≡ get_or xs i d)
 
 module _ {X : Type 0} (xs ys : List X) (h : ℕ) (x : X) (hn : h < length xs) (first : x ≡ get_or xs h x) where
-  -- one item was taken out, and put back
   put_back : ys ≡ swap_remove xs h x → Begins (set ys h x) xs
   put_back is =
       let n = length xs - 1 in
@@ -35,7 +33,6 @@ module _ {X : Type 0} (xs ys : List X) (h : ℕ) (x : X) (hn : h < length xs) (f
         ],
       )
 
-  -- one item was replaced, and put back
   set_back : (y : X) → ys ≡ set xs h y → Begins (set ys h x) xs
   set_back y is =
       let long = ap length is ∙ length-set xs h y in
@@ -58,7 +55,6 @@ module _ {X : Type 0} (R : X → X → Ordering) (o : IsTotalOrder R) where
   pub replaced : (two : Bool) (xs ys zs : List X) (h : ℕ) (x y : X) → h < length xs → x ≡ get_or xs h x → ys ≡ set xs h y → MendsAt R two h ys zs → IsOrdered R two xs → IsOrdered R two zs
   replaced two xs ys zs h x y hn first is mends w = mends x (agrees two xs (set ys h x) (set_back xs ys h x hn first y is) w)
 
-  -- the last item was just added
   pub risen : (xs zs : List X) (h : ℕ) → h + 1 ≡ length xs → length zs ≡ length xs → SiftsUp R xs h zs → IsHeap R (take (length xs - 1) xs) → IsHeap R zs
   risen xs zs h last long rises w =
       let e : length xs - 1 ≡ h = omega arith in
@@ -71,13 +67,11 @@ module _ {X : Type 0} (R : X → X → Ordering) (o : IsTotalOrder R) where
       let front = length-take-le n xs (omega arith) in
       settles (interval.agrees R o (take n xs) xs (length (take n xs)) n (omega arith) (λ i d p. sym (get_or-take n xs i d p)) w)
 
-  -- the first item is the greatest
   pub greatest_first : (two : Bool) (xs : List X) (x : X) → x ≡ get_or xs 0 x → IsOrdered R two xs → AllByRecursion (λ y. lt_by_cmp R x y ≡ false) xs
   greatest_first false xs x first w = heap.greatest o xs x first w
   greatest_first true xs x first w = every_of (λ y. lt_by_cmp R x y ≡ false) xs x
       (λ k p. ap (λ y. lt_by_cmp R y (get_or xs k x)) first ∙ interval.greatest_first R o xs (length xs) w k k (omega arith) p x)
 
-  -- What `arrange` preserves: a prefix of the items is in order.
   pub none_yet : (two : Bool) (xs : List X) → IsOrdered R two (take 0 xs)
   none_yet false xs = heap.empty o [] refl
   none_yet true xs = interval.is_single R o [] (omega arith)
@@ -87,7 +81,6 @@ module _ {X : Type 0} (R : X → X → Ordering) (o : IsTotalOrder R) where
       let long = length-take n xs in
       agrees two (take n xs) xs (omega arith, λ i d p. sym (get_or-take n xs i d (omega arith))) w
 
-  -- one more of the first items is settled
   pub one_more : (two : Bool) (xs ys : List X) (n : ℕ) → n < length xs → IsPermutation (take (n + 1) xs) ys
       → (IsOrdered R two (take (length (take (n + 1) xs) - 1) (take (n + 1) xs)) → IsOrdered R two ys)
       → IsOrdered R two (take n xs) → IsOrdered R two (take (n + 1) (ys ++ drop (n + 1) xs))
@@ -105,7 +98,6 @@ module _ {X : Type 0} (R : X → X → Ordering) (o : IsTotalOrder R) where
       (settles (agrees two before first
       (omega arith, λ i d q. get_or-take (length (take (n + 1) xs) - 1) (take (n + 1) xs) i d (omega arith) ∙ get_or-take (n + 1) xs i d (omega arith) ∙ sym (get_or-take n xs i d (omega arith))) w))
 
--- no item is less than the item at the least place
 pub none_less : {X : Type 0} (R : X → X → Ordering) (xs : List X) (h : ℕ) (x : X) → x ≡ get_or xs h x → IsLeastAt R xs h → AllByRecursion (λ y. lt_by_cmp R y x ≡ false) xs
 none_less R xs h x is least = every_of (λ y. lt_by_cmp R y x ≡ false) xs x (λ k p. ap (λ y. lt_by_cmp R (get_or xs k x) y) is ∙ least k p x)
 

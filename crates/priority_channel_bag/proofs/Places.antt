@@ -14,17 +14,13 @@ never_both a b (low e p u) (high f q r) = omega arith
 never_both a b (low e p u) (low f q r) = omega arith
 
 pub never_itself : (a b : ℕ) → IsOver a b → a ≢ b
-never_itself a b (own_low f q) e = omega arith
-never_itself a b (high f q r) e = omega arith
-never_itself a b (low f q r) e = omega arith
+never_itself a b over e = let o : IsOver b b = rw e at over in never_both b b o o
 
--- only the high of the pair above is over a high
 pub over_high : (h a : ℕ) → h % 2 ≡ 0 → IsOver a h → (1 < h) × (a ≡ (h - 2) / 4 * 2)
 over_high h a e (own_low f q) = absurd (omega arith)
 over_high h a e (high f q r) = (omega arith, omega arith)
 over_high h a e (low f q r) = absurd (omega arith)
 
--- only the low of that pair is under a low
 pub under_low : (h b : ℕ) → h % 2 ≡ 1 → IsOver h b → (1 < h) × (b ≡ (h - 2) / 4 * 2 + 1)
 under_low h b e (own_low f q) = absurd (omega arith)
 under_low h b e (high f q r) = absurd (omega arith)
@@ -36,7 +32,6 @@ parent_high h lt = high (omega arith) (omega arith) (omega arith)
 pub parent_low : (h : ℕ) → 1 < h → IsOver h ((h - 2) / 4 * 2 + 1)
 parent_low h lt = low (omega arith) (omega arith) (omega arith)
 
--- a place over the last place is over each place under the last place
 pub across_last : (h a b : ℕ) → IsOver a h → IsOver h b → a ≤ h → b ≤ h → IsOver a b
 across_last h a b (own_low e p) (own_low f q) s t = absurd (omega arith)
 across_last h a b (own_low e p) (high f q r) s t = absurd (omega arith)

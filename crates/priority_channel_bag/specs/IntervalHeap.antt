@@ -1,32 +1,29 @@
--- Where the items of an interval heap are, and how they are ordered.
+-- Where the items of an interval heap are, and their order.
 --
--- The items are in pairs: a high at each even place, and its low right behind it. Below a pair are
--- two more pairs. If the high of a pair is at h and its low at l, the four items below it are from
--- h * 2 + 2 on, which is l * 2.
+-- The items are in pairs: a high at each even place, and its low right behind it. Below the pair of
+-- the high at h and the low at l are two pairs, from h * 2 + 2 on, which is l * 2.
 use Rattle.std.specs.Prelude.{◌≡◌, ℕ, ◌+◌, ◌*◌, ◌%◌, ◌<◌, ◌≤◌, ◌≢◌, false, List, length}
 use Rattle.std.specs.BinaryHeap.Sift.{ComparesAt}
 use Rattle.std.specs.declared.cmp.Ordering.{Ordering}
 
--- the item at a may not be less than the item at b: a high is over its low, and each item of the
--- two pairs below is between both
+-- a high is over its low, and each item of the two pairs below is between both
 pub data IsOver (a b : ℕ) : Type 0 where
   own_low : a % 2 ≡ 0 → b ≡ a + 1 → IsOver a b
   high : a % 2 ≡ 0 → a * 2 + 2 ≤ b → b ≤ a * 2 + 5 → IsOver a b
   low : b % 2 ≡ 1 → b * 2 ≤ a → a ≤ b * 2 + 3 → IsOver a b
 
 module _ {X : Type 0} (R : X → X → Ordering) where
-  -- the first n items are an interval heap
+  -- of the first n items, none is less than one under it
   unfoldable pub IsIntervalHeapWithin : List X → ℕ → Type 0
   IsIntervalHeapWithin xs n = (a b : ℕ) → IsOver a b → a < n → b < n → ComparesAt R xs a b false
 
   abbrev pub IsIntervalHeap : List X → Type 0
   IsIntervalHeap xs = IsIntervalHeapWithin xs (length xs)
 
-  -- no item is less than the item at i
   abbrev pub IsLeastAt : List X → ℕ → Type 0
   IsLeastAt xs i = (k : ℕ) → k < length xs → ComparesAt R xs k i false
 
-  -- xs is an interval heap except for the item at h, whatever that is
+  -- an interval heap except for the item at h
   pub record InOrderBut (xs : List X) (h : ℕ) : Type 0 where
     pub apart : (a b : ℕ) → IsOver a b → a < length xs → b < length xs → a ≢ h → b ≢ h
         → ComparesAt R xs a b false

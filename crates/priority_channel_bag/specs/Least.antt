@@ -1,4 +1,4 @@
--- Which pending pair makes room for a pair of greater priority, and which pair a test takes out.
+-- Which pair makes room for another, and which pair a test takes out.
 use Rattle.std.specs.Prelude.{◌≡◌, Bool, false, List, [], ◌∷◌, ◌++◌}
 use Rattle.std.specs.List.{All}
 use Rattle.std.specs.Fn.{Shared, FnReturns}
@@ -8,8 +8,7 @@ use Rattle.std.specs.declared.cmp.Ordering.{Ordering}
 use Rattle.std.specs.declared.cmp.Ordering.TheVariants.{Less, Greater}
 
 module _ {T P : Type 0} (cmp : P → P → Ordering) where
-  -- `pair` has the least priority in `pending`, and is the last pair of that priority; `rest` is
-  -- the others
+  -- `pair` is the last of the pairs of least priority; `rest` is the others
   pub record TakesLeast (pending : List (T × P)) (pair : T × P) (rest : List (T × P))
       : Type 0 where
     pub before : List (T × P)
@@ -19,11 +18,10 @@ module _ {T P : Type 0} (cmp : P → P → Ordering) where
     pub not_below : All (λ other. is_lt (cmp other.1 pair.1) ≡ false) before
     pub above : All (λ other. cmp other.1 pair.1 ≡ Greater) after
 
-  -- no pair of `pending` has a lesser priority than this
   abbrev pub NoneBelow : List (T × P) → P → Type 0
   NoneBelow pending priority = All (λ other. is_lt (cmp other.1 priority) ≡ false) pending
 
-  -- the least pair `out` makes room for `pair`, and has a lesser priority than `pair`
+  -- the least pair `out` makes room for `pair`
   pub record Displaces (pending : List (T × P)) (pair out : T × P) (new : List (T × P))
       : Type 0 where
     pub rest : List (T × P)
@@ -31,7 +29,7 @@ module _ {T P : Type 0} (cmp : P → P → Ordering) where
     pub least : TakesLeast pending out rest
     pub added : new ≡ rest ++ pair ∷ []
 
--- `pair` is one of `pending`, and `rest` is the others, in their order
+-- `rest` is the others, in their order
 pub record TakesOne {T P : Type 0} (pending : List (T × P)) (pair : T × P) (rest : List (T × P))
     : Type 0 where
   pub before : List (T × P)
@@ -39,7 +37,6 @@ pub record TakesOne {T P : Type 0} (pending : List (T × P)) (pair : T × P) (re
   pub split : pending ≡ before ++ pair ∷ after
   pub closed_up : rest ≡ before ++ after
 
--- these pairs are taken out, one after another
 abbrev pub TakesAll : {T P : Type 0} → List (T × P) → List (T × P) → List (T × P) → Type 0
 TakesAll pending [] rest = rest ≡ pending
 TakesAll {T} {P} pending (pair ∷ more) rest =

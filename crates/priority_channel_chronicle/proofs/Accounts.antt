@@ -15,7 +15,6 @@ module _ {A : Type 0} (f g : A → ℕ) where
   sums_le (x ∷ xs) h =
       omega (arith, sum_by-cons f x xs, sum_by-cons g x xs, All-head (λ y. f y ≤ g y) x xs h, sums_le xs (All-tail (λ y. f y ≤ g y) x xs h))
 
-  -- where none is above, and the sum is not, all are equal
   pub same_sums : (xs : List A) → All (λ x. f x ≤ g x) xs → sum_by g xs ≤ sum_by f xs → All (λ x. g x ≡ f x) xs
   same_sums [] h le = All-nil (λ x. g x ≡ f x)
   same_sums (x ∷ xs) h le =
@@ -27,11 +26,9 @@ module _ {A : Type 0} (f g : A → ℕ) where
       All-cons (λ y. g y ≡ f y) x xs (omega (arith, first, less, fs, gs, le)) (same_sums xs others (omega (arith, first, less, fs, gs, le)))
 
 module _ {E : Type 0} (who : E → ℕ) where
-  -- whether the entry stands under this number
   abbrev pub hit : ℕ → E → ℕ
   hit number entry = cond (who entry == number) 1 0
 
-  -- no fewer entries stand under a number than in what was seen
   pub calls_seen : (number count : ℕ) (seen history : List E) → IsPrefix seen history → count ≤ calls_of who number seen
       → count ≤ calls_of who number history
   calls_seen number count seen history front counted =
@@ -43,7 +40,6 @@ module _ {E : Type 0} (who : E → ℕ) where
       let one : hit number last ≡ 1 = grind (arith, nat_tests) in
       omega (arith, calls_seen number count seen kept front counted, one, sum_by_push (hit number) kept last)
 
-  -- after a call a pass has seen all that was kept, and its own entry
   pub told_more : (is_legal : List E → Type 0) (old new : Carried E) (kept : List E) (last : E) → IsPrefix old.seen kept
       → old.count ≤ calls_of who old.number old.seen → who last ≡ old.number → new.number ≡ old.number → new.count ≡ old.count + 1
       → new.seen ≡ kept ++ last ∷ [] → is_legal new.seen → IsTold who is_legal old last new
@@ -54,7 +50,6 @@ module _ {E : Type 0} (who : E → ℕ) where
     counted = rw (number, count, is) (calls_with old.number old.count old.seen kept last front counted who_is);
   }
 
-  -- the passes' numbers count on from this one
   abbrev IsNumberedFrom : ℕ → List (Carried E) → Type 0
   IsNumberedFrom first passes =
       (i : ℕ) → i < length passes → (pass : Carried E) × (slice_get passes i ≡ Some pass) × (pass.number ≡ first + i)
@@ -73,15 +68,12 @@ module _ {E : Type 0} (who : E → ℕ) where
       λ same. absurd (omega (arith, same, ap (λ (p : Carried E). p.number) is, at.2, ap (λ (p : Carried E). p.number) own, zeroth.2))) in
       (different, numbered_apart (first + 1) others next)
 
-  -- new passes have different numbers
   pub new_apart : (passes : List (Carried E)) → AreNew passes → AreApart passes
   new_apart passes new = numbered_apart 0 passes (λ i within. (record { number = i; count = 0; seen = [] }, new i within, omega arith))
 
-  -- under how many of the passes' numbers it stands
   abbrev hits : E → List (Carried E) → ℕ
   hits entry passes = sum_by (λ pass. hit pass.number entry) passes
 
-  -- how many entries stand under each of the passes' numbers, together
   abbrev under : List E → List (Carried E) → ℕ
   under history passes = sum_by (λ pass. calls_of who pass.number history) passes
 
@@ -120,7 +112,6 @@ module _ {E : Type 0} (who : E → ℕ) where
   under_first entry more (pass ∷ passes) =
       omega (arith, sum_by-cons (λ q. calls_of who q.number (entry ∷ more)) pass passes, sum_by-cons (λ q. hit q.number entry) pass passes, sum_by-cons (λ q. calls_of who q.number more) pass passes, sum_by-cons (λ (e : E). hit pass.number e) entry more, under_first entry more passes)
 
-  -- an entry stands under at most one of different numbers
   under_all : (history : List E) (passes : List (Carried E)) → AreApart passes → under history passes ≤ length history
   under_all [] passes apart = omega (arith, under_none passes)
   under_all (entry ∷ more) passes apart = omega (arith, under_first entry more passes, one_hit entry passes apart, under_all more passes apart)

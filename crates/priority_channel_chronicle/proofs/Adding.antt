@@ -11,7 +11,6 @@ use Rattle.priority_channel_chronicle.specs.Log.{IsLogOf, IsLogOfSome, IsLog, Ma
 use Rattle.priority_channel_chronicle.proofs.Fronts.{prefix_whole}
 use Rattle.priority_channel_chronicle.proofs.Lines.{entries_append, entries_front, same_opening}
 
--- the one word of a log with so many entries
 abbrev word_at : ℕ → List Cell
 word_at n = (n, true) ∷ []
 
@@ -23,7 +22,6 @@ module _ {E : Type 0} (legal : ℕ → Bool → List E → Type 0) where
   abbrev pub moved : List (Line E) → List (Line E) → ℕ → Type 0
   moved before after answer = Unit {0}
 
-  -- a log that gets no line keeps the rule
   still_a_log : (log : List (Line E)) (n : ℕ) → IsLog legal (word_at n) log → IsLog legal (word_at n) (log ++ [])
   still_a_log log n rule = subst (IsLog legal (word_at n)) (sym (append-nil log)) rule
 

@@ -11,12 +11,10 @@ module _ {E : Type 0} where
   entries_append (Opened capacity is_reserved ∷ xs) ys = entries_append xs ys
   entries_append (Made entry ∷ xs) ys = ap (λ (l : List E). entry ∷ l) (entries_append xs ys)
 
-  -- what begins a log has the entries that begin its entries
   pub entries_front : (xs ys : List (Line E)) → IsPrefix xs ys → IsPrefix (entries_in xs) (entries_in ys)
   entries_front xs ys front =
       (entries_in front.0, sym (entries_append xs front.0) ∙ ap (λ (l : List (Line E)). entries_in l) front.1)
 
-  -- a log that is only opened has no entries
   pub no_entries : (log : List (Line E)) → log ≡ opened (capacity_in log) (is_reserved_in log) → entries_in log ≡ []
   no_entries log is = ap (λ (l : List (Line E)). entries_in l) is
 
@@ -24,7 +22,6 @@ module _ {E : Type 0} where
     pub log_none : (capacity : ℕ) (is_reserved : Bool) → IsLogOf legal capacity is_reserved (opened capacity is_reserved)
     log_none capacity is_reserved = record { calls = []; opens = refl; is_legal = begins capacity is_reserved }
 
-    -- the word and the log of a channel that is only opened
     pub log_new : (capacity : ℕ) (is_reserved : Bool) → IsLog legal ((0, true) ∷ []) (opened capacity is_reserved)
     log_new capacity is_reserved = record {
       word = refl;
@@ -38,7 +35,6 @@ module _ {E : Type 0} where
         (sym (is ∙ rw (at, kind) refl)) (log_none capacity is_reserved)
 
   module _ (legal : ℕ → Bool → List E → Type 0) where
-    -- what a log of such a channel begins is a log of such a channel
     pub same_opening : (capacity : ℕ) (is_reserved : Bool) (xs ys : List (Line E)) → IsLogOf legal capacity is_reserved xs → IsPrefix xs ys
         → IsLogOfSome legal ys → IsLogOf legal capacity is_reserved ys
     same_opening capacity is_reserved xs ys this front that =

@@ -1,11 +1,10 @@
--- The log that the callers of one channel share: what its word says, and what one step on it tells.
+-- The log that the callers of one channel share.
 use Rattle.std.specs.Prelude.{◌≡◌, ◌==◌, ◌≤◌, ℕ, Bool, true, false, List, [], ◌∷◌, ◌++◌, length, MatchBool}
 use Rattle.logbook.specs.Pages.{Cell, Step, View, Book, Named}
 use Rattle.priority_channel_chronicle.specs.declared.log.Line.{Line}
 use Rattle.priority_channel_chronicle.specs.declared.log.Line.TheVariants.{Opened, Made}
 
--- the names of a channel: of its log, what it was opened as, the name of its ledger, and how many
--- passes share that
+-- a channel's log, what it was opened as, its ledger, and how many passes share that
 pub record Names : Type 0 where
   pub log : Book
   pub capacity : ℕ
@@ -22,7 +21,6 @@ names log capacity is_reserved ledger passes = record {
   passes = passes;
 }
 
--- the word of a log
 abbrev pub word_of : Book → Named
 word_of b = record { tracked = true; key = 0; book = b }
 
@@ -38,41 +36,37 @@ module _ {E : Type 0} where
   is_reserved_in (Opened capacity is_reserved ∷ log) = is_reserved
   is_reserved_in other = false
 
-  -- the entries of its calls
   abbrev pub entries_in : List (Line E) → List E
   entries_in [] = []
   entries_in (Opened capacity is_reserved ∷ log) = entries_in log
   entries_in (Made entry ∷ log) = entry ∷ entries_in log
 
 module _ {E : Type 0} (legal : ℕ → Bool → List E → Type 0) where
-  -- the log of such a channel begins with its opening, and its entries are a legal history
   pub record IsLogOf (capacity : ℕ) (is_reserved : Bool) (log : List (Line E)) : Type 0 where
     pub calls : List (Line E)
     pub opens : log ≡ Opened capacity is_reserved ∷ calls
     pub is_legal : legal capacity is_reserved (entries_in log)
 
-  -- it is the log of some channel
   pub record IsLogOfSome (log : List (Line E)) : Type 0 where
     pub capacity : ℕ
     pub is_reserved : Bool
     pub whole : IsLogOf capacity is_reserved log
 
-  -- the log's word is the number of its entries
+  -- the word is the number of entries
   pub record IsLog (cells : List Cell) (log : List (Line E)) : Type 0 where
     pub word : cells ≡ (length (entries_in log), true) ∷ []
     pub of_some : IsLogOfSome log
 
-  -- at least `count` entries were seen; where they are no more, the entry may come next
+  -- at least `count` entries were seen; if they are no more, the entry may come next
   abbrev pub MayFollow : ℕ → Bool → List E → ℕ → E → Type 0
   MayFollow capacity is_reserved seen count entry =
       (count ≤ length seen) × (length seen ≡ count → legal capacity is_reserved (seen ++ entry ∷ []))
 
-  -- the log was seen, and how many entries it has was found
+  -- the log was seen, and has `found` entries
   abbrev pub Looks : Step (Line E) → View (Line E) ℕ → ℕ → View (Line E) ℕ → Type 0
   Looks step before found after = (length (entries_in after.0) ≡ found) × IsLogOfSome after.0
 
-  -- what was seen was the whole log, and the entry was added; or the log had another length, and
-  -- was seen
+  -- the entry came behind the whole log; or the log had another length, and was seen
   abbrev pub Adds : Step (Line E) → View (Line E) ℕ → ℕ → View (Line E) ℕ → Type 0
   Adds step before found after =
       MatchBool (found == step.old)

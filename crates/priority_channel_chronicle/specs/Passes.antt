@@ -2,20 +2,18 @@
 use Rattle.std.specs.Prelude.{◌≡◌, ◌≢◌, ◌==◌, ◌≤◌, ℕ, List, [], ◌∷◌, ◌++◌, count_by, All, EachIndex, slice_get, Some}
 use Rattle.std.specs.List.{sum_by}
 
--- a pass's number, how many calls were made with it, and the history that it has seen
 pub record Carried (E : Type 0) : Type 0 where
   pub number : ℕ
   pub count : ℕ
   pub seen : List E
 
 module _ {E : Type 0} where
-  -- passes that have made no call, numbered from 0 on
+  -- with no call, numbered from 0 on
   abbrev pub AreNew : List (Carried E) → Type 0
   AreNew passes =
       EachIndex passes
       (λ i. slice_get passes i ≡ Some (record { number = i; count = 0; seen = [] }))
 
-  -- how many calls were made with these passes
   abbrev pub calls_made : List (Carried E) → ℕ
   calls_made passes = sum_by (λ pass. pass.count) passes
 
@@ -25,18 +23,17 @@ module _ {E : Type 0} where
   AreApart (pass ∷ others) = All (λ other. pass.number ≢ other.number) others × AreApart others
 
 module _ {E : Type 0} (who : E → ℕ) where
-  -- how many entries stand under this number
   abbrev pub calls_of : ℕ → List E → ℕ
   calls_of number history = count_by (λ entry. who entry == number) history
 
-  -- under each pass's number stand as many entries as its count, and under other numbers none
+  -- the passes' calls are the entries of the history
   abbrev pub Accounts : List (Carried E) → List E → Type 0
   Accounts passes history =
       All (λ pass. calls_of pass.number history ≡ pass.count) passes
       × ((number : ℕ) → All (λ pass. number ≢ pass.number) passes → calls_of number history ≡ 0)
 
-  -- Now a legal history was seen that begins with all that had been seen, is longer, and ends with
-  -- this entry. Under the pass's number it has at least as many entries as the pass has made calls.
+  -- `new` has seen a legal history: all that `old` had, and then more, with `last` at its end.
+  -- Under its number stand no fewer entries than calls.
   pub record IsTold (is_legal : List E → Type 0) (old : Carried E) (last : E)
       (new : Carried E) : Type 0 where
     pub between : List E

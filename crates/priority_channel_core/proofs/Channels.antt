@@ -39,7 +39,6 @@ module _ {T P W : Type 0} (bag bag' : Contents T P) (word word' : Word W) (hande
         good = good_adds Old New front handed adds sound.good opened (omega (arith, m)) limit fits orderly;
       }
 
-  -- in a reserved channel there is a slot for each pair that has room
   pub refused_in_channel : IsSound bag word Old → n < capacity - length bag.pending → bag.slots ≤ bag'.slots → bag'.accepted < 2 ^ 64
       → (bag'.accepted + 1 < 2 ^ 64 → bag'.slots ≤ length bag'.pending) → (is_reserved ≡ false) ⊎ (bag.accepted + n ≡ 2 ^ 64 - 1)
   refused_in_channel sound within grown fits full =
@@ -52,7 +51,6 @@ module _ {T P W : Type 0} (bag bag' : Contents T P) (word word' : Word W) (hande
           let longer : length bag'.pending ≡ length bag.pending + n = rw pending (omega (arith, l, long)) in
           absurd (omega arith)
 
--- a search in shorter lists
 pub digits_shorter : {X : Type 0} (xs ys us vs : List X) → length us ≤ length xs → length vs ≤ length ys
     → digits (length us) + digits (length vs) ≤ digits (length xs) + digits (length ys)
 digits_shorter xs ys us vs p q = omega (arith, digits-mono (length us) (length xs) p, digits-mono (length vs) (length ys) q)

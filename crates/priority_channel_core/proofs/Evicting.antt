@@ -28,7 +28,6 @@ none_or_some {T} {P} cmp pending priority some none =
     let not_less = (every_part (λ (other : T × P). is_lt (cmp other.1 priority) ≡ false) some.before (some.pair ∷ some.after) all).1.0 in
     let less : is_lt (cmp some.pair.1 priority) ≡ true = ap is_lt some.less in cc
 
--- the displaced pair has a lesser priority
 pub one_below : {T P : Type 0} (cmp : P → P → Ordering) (pending new : List (T × P)) (pair out : T × P) → Displaces cmp pending pair out new → SomeBelow cmp pending pair.1
 one_below cmp pending new pair out displaced = record {
   pair = out;
@@ -96,7 +95,6 @@ module _ {T P W : Type 0} (cmp : P → P → Ordering) (bag after : Contents T P
   pub evicts_refused : (held : T × P) → held ≡ pair → NoneBelow cmp bag.pending pair.1 → New ≡ Old → Evicts cmp Old pair (Err (Full held)) nobody New
   evicts_refused held same none unchanged = (none, rw (same, unchanged) (refuses_full Old (pair ∷ []) no_room opened))
 
--- a channel stays good if a pair and the waiting senders are taken out
 pub good_frees : {T P W : Type 0} (old new : State T P W) (handed : Handed W) → Frees old handed new → (pair : T × P) → TakesOne old.pending pair new.pending → IsGood old → HasOwnTickets new.waiters → IsGood new
 good_frees old new handed frees pair taken good tickets =
     let long : length old.pending ≡ length new.pending + 1 =

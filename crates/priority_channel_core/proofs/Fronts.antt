@@ -15,7 +15,6 @@ no_items [] none = refl
 no_items (x ∷ list) none = absurd (none (omega arith))
 
 module _ {S X : Type 0} {steps : S → Option X → S → Type 0} where
-  -- a peek leaves the list unchanged
   pub takes_peeked : {msgs left : Ahead S X} {front : List X} (peeked : Ahead S X) → Takes steps msgs front left
       → ((list : List X) → HasList steps left list → HasList steps peeked list) → Takes steps msgs front peeked
   takes_peeked peeked takes same =
@@ -32,7 +31,6 @@ module _ {S X : Type 0} {steps : S → Option X → S → Type 0} where
       record { at = λ list has. no_items list (λ some. let is : answer ≡ true = (tells list has).1 some in absurd (cc)) }
 
 module _ {S T P : Type 0} {steps : S → Option (T × P) → S → Type 0} where
-  -- after a peek the next pair moves
   pub moved_more : {old mid : Contents T P} {msgs left : Ahead S (T × P)} {n : ℕ} (new : Contents T P) (peeked more : Ahead S (T × P))
       (pair : T × P) → MovesFront steps old msgs n mid left
       → ((list : List (T × P)) → HasList steps left list → HasList steps peeked list) → peekable_steps steps peeked (Some pair) more
@@ -50,7 +48,6 @@ module _ {S T P : Type 0} {steps : S → Option (T × P) → S → Type 0} where
   }
 
 module _ {S X : Type 0} (steps : S → Option X → S → Type 0) where
-  -- no more items are sent than there is room for
   pub sent_within : (is_refused : ℕ → Type 0) (room : ℕ) (stop : Stop) (left : Ahead S X) → StopsFor steps is_refused room stop left → sent_before stop ≤ room
   sent_within is_refused room (Ended n) left stops = omega (arith, stops.0)
   sent_within is_refused room (Filled n) left stops = omega (arith, stops)
@@ -64,7 +61,6 @@ module _ {S X : Type 0} (steps : S → Option X → S → Type 0) where
   stops_for was is_refused room (Filled n) left means stops = stops
   stops_for was is_refused room (Memory n) left means stops = (stops.0, stops.1, means stops.0 stops.2)
 
--- a peek sends nothing
 pub sent_peeked : {S T P W : Type 0} {steps : S → Option (T × P) → S → Type 0} {old new : State T P W} {handed : Handed W} {msgs left : Ahead S (T × P)} {n : ℕ}
     (peeked : Ahead S (T × P)) → SendsFront steps old msgs n handed new left
     → ((list : List (T × P)) → HasList steps left list → HasList steps peeked list) → SendsFront steps old msgs n handed new peeked

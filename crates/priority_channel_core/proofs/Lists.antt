@@ -7,7 +7,6 @@ use Rattle.std.specs.declared.iter.Ahead.{Ahead}
 use Rattle.priority_channel_core.specs.code.Lists.{HasList}
 
 module _ {S A : Type 0} (steps : S → Option A → S → Type 0) where
-  -- the next answer is the peeked one
   peeked-gives : (t j : Ahead S A) (o r : Option A) → peekable_peeked t ≡ Some o → PeekedOrNext steps t r j → (r ≡ o) × (peekable_source j ≡ peekable_source t)
   peeked-gives t j o r e q = let P : Option (Option A) → Type 0 = (λ z. MatchOption z (steps (peekable_source t) r (peekable_source j)) (λ k. (r ≡ k) × (peekable_source j ≡ peekable_source t))) in subst P e q
 
@@ -16,11 +15,9 @@ module _ {S A : Type 0} (steps : S → Option A → S → Type 0) where
       → MatchOption (peekable_peeked s) (steps (peekable_source s) r v) (λ k. (r ≡ k) × (v ≡ peekable_source s))
   step-along s o r u v e f p = rw (e, f) p
 
-  -- after a peek the same calls follow as before it
   step-after_peek : (s t : Ahead S A) → PeeksNext steps s t → (r : Option A) (j : Ahead S A) → peekable_steps steps t r j → peekable_steps steps s r j
   step-after_peek s t p r j q = let k = peeked-gives t j p.0 r p.2 q.1 in (q.0, step-along s p.0 r (peekable_source t) (peekable_source j) k.0 k.1 p.1)
 
-  -- t with nothing peeked
   taken : Ahead S A → Ahead S A
   taken t = record { iter = t.iter; peeked = None }
 
@@ -28,13 +25,11 @@ module _ {S A : Type 0} (steps : S → Option A → S → Type 0) where
   unfolding taken
   peeked-step t o e = (refl, let P : Option (Option A) → Type 0 = (λ z. MatchOption z (steps (peekable_source t) o (peekable_source t)) (λ k. (o ≡ k) × (peekable_source t ≡ peekable_source t))) in subst P (sym e) (refl, refl))
 
-  -- if each step from t is a step from s, t has the list of s
   list_from_steps : (s t : Ahead S A) (list : List A) → ((r : Option A) (j : Ahead S A) → peekable_steps steps t r j → peekable_steps steps s r j) → HasList steps s list → HasList steps t list
   list_from_steps s t [] k h = record { runs = λ x j q. h.runs x j (k (Some x) j q) }
   list_from_steps s t (y ∷ ys) k h = record { runs = ((λ j q. h.runs.0 j (k None j q)), (λ x j q. h.runs.1 x j (k (Some x) j q))) }
 
 module _ {S A : Type 0} {steps : S → Option A → S → Type 0} where
-  -- a call that gave None, and one that gave an item
   pub list_at_none : {s : Ahead S A} (t : Ahead S A) {list : List A} → HasList steps s list → peekable_steps steps s None t → list ≡ []
   list_at_none t {list = []} h q = refl
   list_at_none t {list = y ∷ ys} h q = absurd (h.runs.0 t q)
@@ -43,7 +38,6 @@ module _ {S A : Type 0} {steps : S → Option A → S → Type 0} where
   list_at_some t {list = []} x h q = absurd (h.runs x t q)
   list_at_some t {list = y ∷ ys} x h q = (ys, ap (λ z. z ∷ ys) (sym (h.runs.1 x t q).0), record { runs = (h.runs.1 x t q).1 })
 
-  -- a peek leaves the list unchanged
   pub list_after_peek : {s : Ahead S A} (t : Ahead S A) {list : List A} → HasList steps s list → PeeksNext steps s t → HasList steps t list
   list_after_peek {s} t {list} h p = list_from_steps steps s t list (step-after_peek steps s t p) h
 

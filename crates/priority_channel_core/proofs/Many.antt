@@ -60,7 +60,6 @@ module _ {T P W : Type 0} (cmp : P → P → Ordering) (is_clone : W → W → T
         nobody_waits = ap (λ (s : State T P W). s.waiters.room) s.moves.1.1;
       }
 
-  -- a first receive, which wakes all waiting senders, and then the other receives
   pub received_first : (old mid new : State T P W) (before first now pairs : List (T × P)) (pair : T × P) (handed : Handed W)
       → Step cmp is_clone old call.TryRecv (answer.TryRecv (Ok pair)) handed mid → first ≡ before ++ pair ∷ []
       → now ≡ first ++ pairs → ReceivesInTurn cmp is_clone mid pairs nobody new
@@ -75,7 +74,6 @@ module _ {T P W : Type 0} (cmp : P → P → Ordering) (is_clone : W → W → T
   none_pending old new Empty handed s = s.moves.0
   none_pending old new Closed handed s = s.moves.0
 
-  -- a receive that is refused compares nothing
   pub refusal_costs : (old new : State T P W) (error : TryRecvError) (handed : Handed W)
       → Step cmp is_clone old call.TryRecv (answer.TryRecv (Err error)) handed new → digits (length old.pending) ≡ 0
   refusal_costs old new error handed s = ap (λ (l : List (T × P)). digits (length l)) (none_pending old new error handed s) ∙ none_costs
@@ -84,7 +82,6 @@ module _ {T P W : Type 0} (cmp : P → P → Ordering) (is_clone : W → W → T
       → Step cmp is_clone old call.TryRecv (answer.TryRecv (Ok pair)) handed mid → length old.pending ≡ length mid.pending + 1
   first_length old mid pair handed s = taken_length cmp old.pending mid.pending pair s.moves.0
 
--- the lesser of two numbers that are each increased by one
 pub min_next : (n x y a b : ℕ) → n ≡ min x y → x + 1 ≡ a → y + 1 ≡ b → n + 1 ≡ min a b
 min_next n x y a b e p q =
     elim (cases_lt x y) [
@@ -92,14 +89,12 @@ min_next n x y a b e p q =
       | inr ge ↦ let m : min x y ≡ y = min-eq_right (omega arith) in let k : min a b ≡ b = min-eq_right (omega arith) in omega arith
     ]
 
--- one more receive, from a shorter bag
 pub receive_costs : (n left all : ℕ) → left ≤ all → n * (2 * digits all) + 2 * digits left ≤ (n + 1) * (2 * digits all)
 receive_costs n left all le =
     let h = digits-mono left all le in
     let e : (n + 1) * (2 * digits all) ≡ n * (2 * digits all) + 2 * digits all = grind arith in
     omega (arith, h, e)
 
--- the receives from a shorter bag, after a first one
 pub receives_cost : (n left all : ℕ) → left ≤ all → 2 * digits all + n * (2 * digits left) ≤ (n + 1) * (2 * digits all)
 receives_cost n left all le =
     let h = mul-le n (2 * digits left) n (2 * digits all) (omega arith) (omega (arith, digits-mono left all le)) in

@@ -51,17 +51,23 @@ lists_full cmp is_clone old new pair given listed waker poll blocked ends good i
   good = good;
 }
 
+-- what holds of each answer to a poll of a send, with the reply and the ticket that it is made from
+pub send_answers : {K : Type 0} (Q : Result (Unit {0}) (TrySendError K) → Option ℕ → CorePoll (Result (Unit {0}) (SendFault K)) K → Type 0)
+    → ((done : Unit {0}) → Q (Ok done) None (Ready (Ok done))) → ((rest : K) → Q (Err (Closed rest)) None (Ready (Err (send.Closed (record { 0 = rest })))))
+    → ((rest : K) → Q (Err (Memory rest)) None (Ready (Err (send.Memory rest)))) → ((rest : K) → Q (Err (Full rest)) None (Ready (Err (send.Memory rest))))
+    → ((rest : K) (ticket : ℕ) → Q (Err (Full rest)) (Some ticket) (Pending rest ticket))
+    → (reply : Result (Unit {0}) (TrySendError K)) (listed : Option ℕ) (poll : CorePoll (Result (Unit {0}) (SendFault K)) K) → send_answer reply listed ≡ Some poll → Q reply listed poll
+send_answers Q done closed memory refused waits (Ok sent) None poll h = let e : poll ≡ Ready (Ok sent) = cc in rw e (done sent)
+send_answers Q done closed memory refused waits (Err (Closed rest)) None poll h = let e : poll ≡ Ready (Err (send.Closed (record { 0 = rest }))) = cc in rw e (closed rest)
+send_answers Q done closed memory refused waits (Err (Memory rest)) None poll h = let e : poll ≡ Ready (Err (send.Memory rest)) = cc in rw e (memory rest)
+send_answers Q done closed memory refused waits (Err (Full rest)) None poll h = let e : poll ≡ Ready (Err (send.Memory rest)) = cc in rw e (refused rest)
+send_answers Q done closed memory refused waits (Err (Full rest)) (Some ticket) poll h = let e : poll ≡ Pending rest ticket = cc in rw e (waits rest ticket)
+send_answers Q done closed memory refused waits reply (Some ticket) poll h = absurd (cc)
+
 -- a caller that is answered no longer waits, and a caller that waits has a ticket
 pub send_waits_under : {K : Type 0} (reply : Result (Unit {0}) (TrySendError K)) (listed : Option ℕ) (poll : CorePoll (Result (Unit {0}) (SendFault K)) K)
     → send_answer reply listed ≡ Some poll → listed ≡ waits_under poll
-send_waits_under (Ok done) None poll h = let e : poll ≡ Ready (Ok done) = cc in rw e refl
-send_waits_under (Err (Closed rest)) None poll h = let e : poll ≡ Ready (Err (send.Closed (record { 0 = rest }))) = cc in rw e refl
-send_waits_under (Err (Memory rest)) None poll h = let e : poll ≡ Ready (Err (send.Memory rest)) = cc in rw e refl
-send_waits_under (Err (Full rest)) None poll h = let e : poll ≡ Ready (Err (send.Memory rest)) = cc in rw e refl
-send_waits_under (Err (Full rest)) (Some ticket) poll h = let e : poll ≡ Pending rest ticket = cc in rw e refl
-send_waits_under (Ok done) (Some ticket) poll h = absurd (cc)
-send_waits_under (Err (Closed rest)) (Some ticket) poll h = absurd (cc)
-send_waits_under (Err (Memory rest)) (Some ticket) poll h = absurd (cc)
+send_waits_under = send_answers (λ reply listed poll. listed ≡ waits_under poll) (λ done. refl) (λ rest. refl) (λ rest. refl) (λ rest. refl) (λ rest ticket. refl)
 
 pub recv_waits_under : {A : Type 0} (reply : Result A TryRecvError) (listed : Option ℕ) (poll : CorePoll (Result A RecvFault) (Unit {0}))
     → recv_answer reply listed ≡ Some poll → listed ≡ waits_under poll
@@ -69,20 +75,13 @@ recv_waits_under (Ok pair) None poll h = let e : poll ≡ Ready (Ok pair) = cc i
 recv_waits_under (Err try_recv.Closed) None poll h = let e : poll ≡ Ready (Err (recv.Closed (record {}))) = cc in rw e refl
 recv_waits_under (Err try_recv.Empty) None poll h = let e : poll ≡ Ready (Err recv.Memory) = cc in rw e refl
 recv_waits_under (Err try_recv.Empty) (Some ticket) poll h = let e : poll ≡ Pending tt ticket = cc in rw e refl
-recv_waits_under (Ok pair) (Some ticket) poll h = absurd (cc)
-recv_waits_under (Err try_recv.Closed) (Some ticket) poll h = absurd (cc)
+recv_waits_under reply (Some ticket) poll h = absurd (cc)
 
--- what is kept can be polled again
 pub kept_callable : {M : Type 0} (can : M → Type 0) (reply : Result (Unit {0}) (TrySendError M)) (listed : Option ℕ) (poll : CorePoll (Result (Unit {0}) (SendFault M)) M)
     → IfErr reply (λ error. can (rest_of error)) → send_answer reply listed ≡ Some poll → IfSome (kept_by poll) can
-kept_callable can (Ok done) None poll h is = let e : poll ≡ Ready (Ok done) = cc in rw e tt
-kept_callable can (Err (Closed rest)) None poll h is = let e : poll ≡ Ready (Err (send.Closed (record { 0 = rest }))) = cc in rw e h
-kept_callable can (Err (Memory rest)) None poll h is = let e : poll ≡ Ready (Err (send.Memory rest)) = cc in rw e h
-kept_callable can (Err (Full rest)) None poll h is = let e : poll ≡ Ready (Err (send.Memory rest)) = cc in rw e h
-kept_callable can (Err (Full rest)) (Some ticket) poll h is = let e : poll ≡ Pending rest ticket = cc in rw e h
-kept_callable can (Ok done) (Some ticket) poll h is = absurd (cc)
-kept_callable can (Err (Closed rest)) (Some ticket) poll h is = absurd (cc)
-kept_callable can (Err (Memory rest)) (Some ticket) poll h is = absurd (cc)
+kept_callable can reply listed poll h is =
+    send_answers (λ reply listed poll. IfErr reply (λ error. can (rest_of error)) → IfSome (kept_by poll) can)
+    (λ done h. tt) (λ rest h. h) (λ rest h. h) (λ rest h. h) (λ rest ticket h. h) reply listed poll is h
 
 -- if nothing changes except that a ticket is given up, a poll ends without a ticket
 pub ends_unlisted : {T P W : Type 0} (is_clone : W → W → Type 0) (side : Side) (given : Option ℕ) (waker : W) (mid new : State T P W)
@@ -91,7 +90,6 @@ ends_unlisted {T} {P} {W} is_clone side given waker mid new gone =
     let left = ap (λ (s : State T P W). s.waiters) gone in
     (left, gone ∙ sym (ap (λ (w : Waiters W). record mid { waiters = w }) left))
 
--- a send does not make the search longer
 pub sent_searches_less : {T P W : Type 0} (old mid : State T P W) (front : List (T × P)) (handed : Handed W) → AddsFront old front handed mid
     → search_bound mid.waiters ≤ search_bound old.waiters
 sent_searches_less {T} {P} {W} old mid front handed adds =
@@ -101,7 +99,6 @@ sent_searches_less {T} {P} {W} old mid front handed adds =
     elim (eqb_tells (length front) 0) [ inl h ↦ let e = h.0 in rw e (omega arith) | inr h ↦ let e = h.0 in rw e (omega arith) ] in
     digits_shorter old.waiters.room old.waiters.message mid.waiters.room mid.waiters.message (omega (arith, room)) (omega (arith, message, shorter))
 
--- nor does a receive
 pub received_searches_less : {T P W : Type 0} (cmp : P → P → Ordering) (old mid : State T P W) (reply : Result (T × P) TryRecvError) (handed : Handed W)
     → Receives cmp old reply handed mid → search_bound mid.waiters ≤ search_bound old.waiters
 received_searches_less {T} {P} {W} cmp old mid (Ok pair) handed received =
@@ -120,7 +117,6 @@ module _ {T P W : Type 0} (is_clone : W → W → Type 0) (old mid new : Counted
       let same = ap (λ (s : State T P W). n * digits (length s.pending)) ends.1 in
       (omega (arith, tried.0, waited.0, same), omega (arith, tried.1, waited.1, sent_searches_less old.state mid.state front handed adds), λ known. waited.2 (tried.2 known))
 
-  -- a poll of a bulk send, whether or not its iterator has one list
   pub polls_front : ComparesAtMost (length front * digits (length mid.state.pending)) 0 old mid
       → ComparesAtMost 0 (search_bound mid.state.waiters) mid new
       → (f : List (T × P)) × PollsFront is_clone old.state given waker f handed new.state
@@ -133,20 +129,14 @@ module _ {T P M : Type 0} (holds : M → List (T × P) → Type 0) where
   pub same_answer : (reply : Result (Unit {0}) (TrySendError M)) (told : Result (Unit {0}) (TrySendError (List (T × P)))) (listed : Option ℕ)
       (poll : CorePoll (Result (Unit {0}) (SendFault M)) M) → SameReply holds reply told → send_answer reply listed ≡ Some poll
       → (p : CorePoll (Result (Unit {0}) (SendFault (List (T × P)))) (List (T × P))) × (send_answer told listed ≡ Some p) × SamePoll holds poll p
-  same_answer (Ok done) told None poll same is =
-      let e : poll ≡ Ready (Ok done) = cc in rw (e, same) (Ready (Ok tt), refl, refl)
-  same_answer (Err (Closed m)) told None poll same is =
-      let e : poll ≡ Ready (Err (send.Closed (record { 0 = m }))) = cc in
-      rw (e, same.1) (Ready (Err (send.Closed (record { 0 = same.0 }))), refl, (same.0, refl, same.2))
-  same_answer (Err (Memory m)) told None poll same is =
-      let e : poll ≡ Ready (Err (send.Memory m)) = cc in rw (e, same.1) (Ready (Err (send.Memory same.0)), refl, (same.0, refl, same.2))
-  same_answer (Err (Full m)) told None poll same is =
-      let e : poll ≡ Ready (Err (send.Memory m)) = cc in rw (e, same.1) (Ready (Err (send.Memory same.0)), refl, (same.0, refl, same.2))
-  same_answer (Err (Full m)) told (Some ticket) poll same is =
-      let e : poll ≡ Pending m ticket = cc in rw (e, same.1) (Pending same.0 ticket, refl, (same.0, refl, same.2))
-  same_answer (Ok done) told (Some ticket) poll same is = absurd (cc)
-  same_answer (Err (Closed m)) told (Some ticket) poll same is = absurd (cc)
-  same_answer (Err (Memory m)) told (Some ticket) poll same is = absurd (cc)
+  same_answer reply told listed poll same is =
+      send_answers (λ reply listed poll. SameReply holds reply told
+      → (p : CorePoll (Result (Unit {0}) (SendFault (List (T × P)))) (List (T × P))) × (send_answer told listed ≡ Some p) × SamePoll holds poll p)
+      (λ done same. rw same (Ready (Ok tt), refl, refl))
+      (λ rest same. rw same.1 (Ready (Err (send.Closed (record { 0 = same.0 }))), refl, (same.0, refl, same.2)))
+      (λ rest same. rw same.1 (Ready (Err (send.Memory same.0)), refl, (same.0, refl, same.2)))
+      (λ rest same. rw same.1 (Ready (Err (send.Memory same.0)), refl, (same.0, refl, same.2)))
+      (λ rest ticket same. rw same.1 (Pending same.0 ticket, refl, (same.0, refl, same.2))) reply listed poll is same
 
   -- a try of a bulk send and then the end of its poll are a poll, for every list that the iterator
   -- has
@@ -177,7 +167,6 @@ false_if : (b : Bool) → (b ≡ true → ⊥) → b ≡ false
 false_if true h = absurd (h refl)
 false_if false h = refl
 
--- while a sender is listed, the channel is open and full
 pub listed_for_room : {T P W : Type 0} (s : State T P W) → IsGood s → (given : Option ℕ) → is_given_listed given s.waiters.room ≡ true → IsBlocked Room s
 listed_for_room s good given listed = (
   false_if s.is_closed (λ closed. nobody_listed given s.waiters.room (good.no_waiters_if_closed closed).0 listed),

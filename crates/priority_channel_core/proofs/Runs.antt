@@ -9,8 +9,7 @@ use Rattle.priority_channel_core.specs.declared.calls.Call.{Call}
 use Rattle.priority_channel_core.specs.machine.State.{State}
 use Rattle.priority_channel_core.specs.machine.Step.{Step, Calls}
 use Rattle.priority_channel_core.specs.machine.Run.{Operation, Run}
-use Rattle.priority_channel_core.specs.code.Calls.{Response}
-use Rattle.priority_channel_core.specs.code.Calls.{SameCall, SameOperation, Performs, RunsFront}
+use Rattle.priority_channel_core.specs.code.Calls.{Response, SameCall, SameOperation, Performs, RunsFront}
 
 pub zip_push : {A B : Type 0} (R : A → B → Type 0) (xs : List A) (ys : List B) (x : A) (y : B) → AllZip R xs ys → R x y → AllZip R (xs ++ x ∷ []) (ys ++ y ∷ [])
 zip_push R [] [] x y a r = (r, tt)
@@ -25,11 +24,9 @@ module _ {T P W : Type 0} (cmp : P → P → Ordering) (is_clone : W → W → T
   Run-more old mid new (m ∷ run) made r s = (r.0, r.1, Run-more r.0 mid new run made r.2 s)
 
 module _ {T P W M : Type 0} (holds : M → List (T × P) → Type 0) (cmp : P → P → Ordering) (is_clone : W → W → Type 0) where
-  -- no call was made yet
   pub RunsFront-none : (old : State T P W) (calls : List (Call T P W M)) → RunsFront holds cmp is_clone old calls [] calls old
   RunsFront-none old calls = record { at = λ meant same. ([], meant, refl, tt, same, refl) }
 
-  -- the next call was made
   pub RunsFront-more : (old mid new : State T P W) (calls left : List (Call T P W M)) (dones : List (Response T P W M)) (next : Call T P W M) (done : Response T P W M)
       → RunsFront holds cmp is_clone old calls dones (next ∷ left) mid
       → Performs holds cmp is_clone mid next done.answer done.handed new
@@ -54,11 +51,9 @@ module _ {T P W M : Type 0} (holds : M → List (T × P) → Type 0) (cmp : P �
             Run-more cmp is_clone old mid new run made r s.2,
           )
 
--- what holds for an `Ok` holds if `is_ok` returned true
 pub at_ok : {X E : Type 0} {P : Type 0} (r : Result X E) (b : Bool) → b ≡ is_ok r → b ≡ true → OnOk r P → P
 at_ok (Ok x) b e h p = p
 at_ok (Err x) b e h p = cc
 
--- the part of a rest behind its first item
 pub drop-past : {A : Type 0} (n : ℕ) (items : List A) (first : A) (rest : List A) → first ∷ rest ≡ drop n items → rest ≡ drop (n + 1) items
 drop-past n items first rest is = ap (drop 1) is ∙ drop-drop 1 n items

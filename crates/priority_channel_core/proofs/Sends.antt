@@ -13,28 +13,23 @@ use Rattle.priority_channel_core.specs.machine.Sends.{AddsFront, Sends}
 module _ {T P W : Type 0} where
   module _ (old new : State T P W) (handed : Handed W) (pairs front rest : List (T × P)) (opened : old.is_closed ≡ false)
       (adds : AddsFront old front handed new) (parts : pairs ≡ front ++ rest) where
-    -- there was no room for more
     pub sent_full : length front ≡ room old → 0 < length rest → Sends old pairs (Err (Full rest)) handed new
     sent_full filled more = (front, parts, filled, inr more, (opened, adds))
 
-    -- the list ended
     pub sent_all : rest ≡ [] → 0 < room old → length front ≤ room old → Sends old pairs (Ok tt) handed new
     sent_all none some within =
         let all : pairs ≡ front = parts ∙ rw none (append-nil front) in
         rw all (some, within, (opened, adds))
 
-    -- memory or a number was refused for another pair
     pub sent_cut : length front < room old → 0 < length rest → (old.is_reserved ≡ false) ⊎ (old.accepted + length front ≡ 2 ^ 64 - 1)
         → Sends old pairs (Err (Memory rest)) handed new
     sent_cut within more why = (front, parts, within, more, (opened, adds), why)
 
-  -- nothing is added to the pairs of a channel
   pub adds_none : (s : State T P W) → AddsFront s [] nobody s
   adds_none s =
       let none : s.accepted + 0 ≡ s.accepted = omega arith in
       record { handed_is = refl; new_is = rw (append-nil s.pending, none) refl }
 
-  -- whatever a send replies, it added a prefix
   pub sends_front : (old new : State T P W) (pairs : List (T × P)) (reply : Result (Unit {0}) (TrySendError (List (T × P)))) (handed : Handed W)
       → Sends old pairs reply handed new → (front : List (T × P)) × AddsFront old front handed new
   sends_front old new pairs (Ok done) handed sends = (pairs, sends.2.1)
@@ -42,11 +37,9 @@ module _ {T P W : Type 0} where
   sends_front old new pairs (Err (Full rest)) handed sends = (sends.0, sends.4.1)
   sends_front old new pairs (Err (Memory rest)) handed sends = (sends.0, sends.4.1)
 
-  -- a full open channel refuses a list without changes
   pub refuses_full : (s : State T P W) (pairs : List (T × P)) → room s ≡ 0 → s.is_closed ≡ false → Sends s pairs (Err (Full pairs)) nobody s
   refuses_full s pairs none opened = ([], refl, sym none, inl none, (opened, adds_none s))
 
-  -- an open channel with room refuses the first pair of a list
   pub refuses_first : (s : State T P W) (pairs : List (T × P)) → 0 < length pairs → 0 < room s → s.is_closed ≡ false
       → (s.is_reserved ≡ false) ⊎ (s.accepted + 1 ≡ 2 ^ 64) → Sends s pairs (Err (Memory pairs)) nobody s
   refuses_first s pairs some more opened why =

@@ -31,7 +31,6 @@ module _ {T P W : Type 0} (cmp : P → P → Ordering) (is_clone : W → W → T
       → HasOwnTickets mid.waiters → Step cmp is_clone old (call.TakeWhere (length one.before)) (answer.TakeWhere (Some pair)) handed mid
   taking old mid pair handed one frees good tickets = record { moves = (one, refl, frees); good = good_frees old mid handed frees pair one good tickets }
 
-  -- takings in a row from a channel without waiting senders
   takings : (old : State T P W) (pairs rest : List (T × P)) → TakesAll old.pending pairs rest → old.waiters.room ≡ [] → IsGood old
       → (taken : List (Placed T P)) × (map (λ one. one.pair) taken ≡ pairs) × Run cmp is_clone old (in_turn takes taken nobody) (record old { pending = rest })
       × IsGood (record old { pending = rest })

@@ -15,10 +15,6 @@ module _ {W : Type 0} where
   pub unlisted_above : (xs : List (ℕ × W)) (n t : ℕ) → All (λ a. a.0 < n) xs → n ≤ t → is_listed t xs ≡ false
   unlisted_above xs n t below le = list_any_none (λ a. a.0 == t) xs (λ k d lt. let b = below k d lt in ne_eqb _ t (omega arith))
 
-  pub below_listed : (xs : List (ℕ × W)) (n t : ℕ) → All (λ a. a.0 < n) xs → is_listed t xs ≡ true → t < n
-  below_listed xs n t below here =
-      elim (cases_lt t n) [ inl l ↦ l | inr l ↦ let e = unlisted_above xs n t below l in absurd (cc) ]
-
   unlisted-without : (xs : List (ℕ × W)) (t u : ℕ) → is_listed t xs ≡ false → is_listed t (without u xs) ≡ false
   unlisted-without xs t u none =
       list_any_none (λ a. a.0 == t) (without u xs) (All-filter (λ a. not (a.0 == u)) (λ a. (a.0 == t) ≡ false) xs (all_from_unlisted xs t none))

@@ -1,9 +1,8 @@
 -- A ticket in a waiting list whose tickets rise.
-use Rattle.std.proofs.Common.{◌≡◌, ℕ, zero, suc, ◌+◌, ◌<◌, ◌≤◌, ◌≢◌, Bool, true, false, not, List, [], ◌∷◌, length, get_or, set, refl, sym, ap, ◌∙◌, subst, arith, inl, inr}
+use Rattle.std.proofs.Common.{◌≡◌, ℕ, zero, suc, ◌+◌, ◌<◌, ◌≤◌, ◌≢◌, Bool, true, false, not, List, [], ◌∷◌, length, get_or, set, refl, sym, ap, ◌∙◌, subst, arith, inl, inr, eq-eqb}
 use Rattle.std.specs.Prelude.{◌==◌, ◌++◌, if◌then◌else◌, Option, Some, None, option_to_list}
 use Rattle.std.specs.List.{All, AllWithin, HoldsAt, filter, remove}
 use Rattle.std.proofs.lemmas.Bool.{cases_lt, ne_eqb}
-use Rattle.std.proofs.Common.{eq-eqb}
 use Rattle.std.proofs.lemmas.List.{same_lists, length-set, length-map, get_or-set_same, get_or-set_other, get_or-map}
 use Rattle.std.proofs.lemmas.List.Elements.{AllWithin-more, All-head, All-tail}
 use Rattle.std.proofs.lemmas.List.Folds.{list_any_none, list_any_at}
@@ -34,7 +33,6 @@ module _ {W : Type 0} where
         | inr l ↦ let e : i ≡ k = omega arith in let P : ℕ → Type 0 = λ j. t < (get_or xs j d).0 in subst P e (here d)
       ]
 
-  -- a ticket that is between two neighbours
   pub absent_between : (xs : List (ℕ × W)) (t low high : ℕ) → high ≤ low → AllWithin (λ a. a.0 < t) xs 0 low → AllWithin (λ a. t < a.0) xs high (length xs) → is_listed t xs ≡ false
   absent_between xs t low high le below above =
       list_any_none (λ a. a.0 == t) xs (λ k d lt. ne_eqb _ t (λ e.
@@ -51,7 +49,6 @@ module _ {W : Type 0} where
         | inr l ↦ let r = rising i k d (omega arith) lk in omega arith
       ])
 
-  -- a write at the position of the ticket
   pub set_rising : (xs : List (ℕ × W)) (t i : ℕ) (w : W) → IsRising xs → i < length xs → HoldsAt (λ a. a.0 ≡ t) xs i → set xs i (t, w) ≡ with_waker t w xs
   set_rising xs t i w rising lt here =
       let f : ℕ × W → ℕ × W = λ a. if a.0 == t then (t, w) else a in
@@ -68,7 +65,6 @@ module _ {W : Type 0} where
         ]
       ])
 
-  -- no ticket changes if a waker does
   pub same_ticket : (t : ℕ) (w : W) (a : ℕ × W) → (if a.0 == t then (t, w) else a).0 ≡ a.0
   same_ticket t w a = elim (eqb_tells a.0 t) [ inl h ↦ let e = h.0 in rw e (sym h.1) | inr h ↦ let e = h.0 in rw e refl ]
 
@@ -82,7 +78,6 @@ module _ {W : Type 0} where
   tail_rising : (x : ℕ × W) (xs : List (ℕ × W)) → IsRising (x ∷ xs) → IsRising xs
   tail_rising x xs rising = λ i j d l m. rising (suc i) (suc j) d (omega arith) (omega arith)
 
-  -- the list after the position of the ticket was removed
   pub remove_rising : (xs : List (ℕ × W)) (t i : ℕ) → IsRising xs → i < length xs → HoldsAt (λ a. a.0 ≡ t) xs i → remove xs i ≡ without t xs
   remove_rising [] t i rising lt here = absurd (omega arith)
   remove_rising (x ∷ xs) t zero rising lt here =
@@ -110,7 +105,6 @@ module _ {W : Type 0} where
   without_unlisted xs t none =
       filter_kept (λ a. not (a.0 == t)) xs (λ k d lt. let e : ((get_or xs k d).0 == t) ≡ false = all_from_unlisted xs t none k d lt in rw e refl)
 
-  -- a renewed ticket stays
   pub listing_renewed : (xs : List (ℕ × W)) (t next : ℕ) (w : W) → is_listed t xs ≡ true
       → listing (Some t) w xs next ≡ record { ticket = t; waiters = with_waker t w xs; next_ticket = next }
   listing_renewed xs t next w h = rw h refl
@@ -118,7 +112,6 @@ module _ {W : Type 0} where
   pub rising-without : (xs : List (ℕ × W)) (t : ℕ) → IsRising xs → IsRising (without t xs)
   rising-without xs t rising = AllPairs-filter (λ a b. a.0 < b.0) (λ a. not (a.0 == t)) xs rising
 
-  -- the tickets behind the first rise as before
   pub rising-behind : (first : Option (ℕ × W)) (others : List (ℕ × W)) → IsRising (option_to_list first ++ others) → IsRising others
   rising-behind None others rising = rising
   rising-behind (Some first) others rising = λ i j d before within. rising (suc i) (suc j) d (omega arith) (omega arith)

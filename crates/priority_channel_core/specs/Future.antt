@@ -2,64 +2,59 @@
 use Rattle.std.specs.Prelude.{◌≡◌, ℕ, List, Option, Some, None}
 use Rattle.std.specs.declared.cmp.Ordering.{Ordering}
 use Rattle.priority_channel_core.specs.declared.calls.Call.{Call}
-use Rattle.priority_channel_core.specs.declared.calls.Call.TheVariants as call
+use Rattle.priority_channel_core.specs.declared.calls.Call.TheVariants.{PollSend, PollSendv, PollRecv, GiveUp}
 use Rattle.priority_channel_core.specs.declared.calls.Answer.{Answer}
 use Rattle.priority_channel_core.specs.declared.calls.Answer.TheVariants as answer
 use Rattle.priority_channel_core.specs.declared.calls.CorePoll.TheVariants.{Pending}
 use Rattle.priority_channel_core.specs.machine.State.{State, nobody}
 use Rattle.priority_channel_core.specs.machine.Step.{Step}
 
--- what a future is still to do; `M` is the type that holds the pairs of a bulk send
+-- `M` holds the pairs of a bulk send
 pub data Task (T P M : Type 0) : Type 0 where
   Send : T → P → Task T P M
   Sendv : M → Task T P M
   Recv : Task T P M
 
--- how far a future has come: its ticket and the waker of its last poll, while it has them
+-- with the ticket and the waker of the last poll
 pub data Standing (W : Type 0) : Type 0 where
   New : Standing W
   Waiting : ℕ → W → Standing W
   Called : ℕ → W → Standing W
   Done : Standing W
 
--- a future of a world
 pub record Future (T P W M : Type 0) : Type 0 where
   pub task : Task T P M
   pub standing : Standing W
 
--- the tasks and futures of the machine, where a bulk send has a list
 abbrev pub Tasks : (T P : Type 0) → Type 0
 Tasks T P = Task T P (List (T × P))
 
 abbrev pub Futures : (T P W : Type 0) → Type 0
 Futures T P W = Future T P W (List (T × P))
 
--- the ticket of a future that has been polled and is not done
 abbrev pub ticket_of : {W : Type 0} → Standing W → Option ℕ
-ticket_of New = None
 ticket_of (Waiting ticket waker) = Some ticket
 ticket_of (Called ticket waker) = Some ticket
-ticket_of Done = None
+ticket_of standing = None
 
--- the call that polls a future
-abbrev pub poll_of : {T P W M : Type 0} → Task T P M → Option ℕ → W → Call T P W M
-poll_of (Send msg priority) given waker = call.PollSend msg priority given waker
-poll_of (Sendv msgs) given waker = call.PollSendv msgs given waker
-poll_of Recv given waker = call.PollRecv given waker
+module _ {T P W M : Type 0} where
+  abbrev pub poll_of : Task T P M → Option ℕ → W → Call T P W M
+  poll_of (Send msg priority) given waker = PollSend msg priority given waker
+  poll_of (Sendv msgs) given waker = PollSendv msgs given waker
+  poll_of Recv given waker = PollRecv given waker
 
--- the future after its poll: waiting with what was not sent, or done
-abbrev pub future_after : {T P W M : Type 0} → Task T P M → W → Answer T P M → Future T P W M
-future_after task waker (answer.PollSend (Pending pair ticket)) =
-    record { task = Send pair.0 pair.1; standing = Waiting ticket waker }
-future_after task waker (answer.PollSendv (Pending rest ticket)) =
-    record { task = Sendv rest; standing = Waiting ticket waker }
-future_after task waker (answer.PollRecv (Pending kept ticket)) =
-    record { task = Recv; standing = Waiting ticket waker }
-future_after task waker _ = record { task = task; standing = Done }
+  -- waiting with what was not sent, or done
+  abbrev pub future_after : Task T P M → W → Answer T P M → Future T P W M
+  future_after task waker (answer.PollSend (Pending pair ticket)) =
+      record { task = Send pair.0 pair.1; standing = Waiting ticket waker }
+  future_after task waker (answer.PollSendv (Pending rest ticket)) =
+      record { task = Sendv rest; standing = Waiting ticket waker }
+  future_after task waker (answer.PollRecv (Pending kept ticket)) =
+      record { task = Recv; standing = Waiting ticket waker }
+  future_after task waker _ = record { task = task; standing = Done }
 
--- a future that is given up gives up its ticket, if it has one
 module _ {T P W : Type 0} (cmp : P → P → Ordering) (is_clone : W → W → Type 0) where
   abbrev pub GivesUpTicket : State T P W → Option ℕ → State T P W → Type 0
   GivesUpTicket old None new = new ≡ old
   GivesUpTicket old (Some ticket) new =
-      Step cmp is_clone old (call.GiveUp ticket) answer.GiveUp nobody new
+      Step cmp is_clone old (GiveUp ticket) answer.GiveUp nobody new

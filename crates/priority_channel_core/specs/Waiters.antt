@@ -1,4 +1,4 @@
--- The waiters of a channel, on each of its two sides.
+-- The waiters on both sides of a channel.
 use Rattle.std.specs.Prelude.{◌≡◌, true, false, ℕ, ◌+◌, ◌<◌, List, [], length, Option, Some, None}
 use Rattle.std.specs.List.{All}
 use Rattle.priority_channel_bag.specs.Digits.{digits}
@@ -7,8 +7,7 @@ use Rattle.priority_channel_core.specs.declared.side.Side.TheVariants.{Room, Mes
 use Rattle.priority_channel_core.specs.Waiting.{Listing, IsRising, is_listed, without_given, listing}
 
 pub record Waiters (W : Type 0) : Type 0 where
-  -- the waiting senders (`room`) and the waiting receivers (`message`), each with its waker under
-  -- its ticket
+  -- the waiting senders (`room`) and receivers (`message`): each waker under its ticket
   pub room : List (ℕ × W)
   pub message : List (ℕ × W)
   pub next_ticket : ℕ
@@ -21,22 +20,21 @@ module _ {W : Type 0} where
   on_side Room waiters = waiters.room
   on_side Message waiters = waiters.message
 
-  -- the given ticket, if there is one, in neither list
+  -- the given ticket in neither list
   abbrev pub unlist : Option ℕ → Waiters W → Waiters W
   unlist given waiters = record waiters {
     room = without_given given waiters.room;
     message = without_given given waiters.message;
   }
 
-  -- the waiters after a waiter was listed on a side
+  -- after a listing on this side
   abbrev pub enlist : Side → Listing W → Waiters W → Waiters W
   enlist Room listed waiters =
       record waiters { room = listed.waiters; next_ticket = listed.next_ticket }
   enlist Message listed waiters =
       record waiters { message = listed.waiters; next_ticket = listed.next_ticket }
 
-  -- a waiter is listed on a side under this ticket, with a clone of its waker; without a ticket it
-  -- is in neither list
+  -- listed under this ticket, or without a ticket in neither list
   abbrev pub Enlists : (W → W → Type 0) → Side → Option ℕ → W → Option ℕ
       → Waiters W → Waiters W → Type 0
   Enlists is_clone side given waker None old new = new ≡ unlist given old
@@ -45,7 +43,6 @@ module _ {W : Type 0} where
       × (let listed = listing given kept (on_side side old) old.next_ticket in
       (ticket ≡ listed.ticket) × (new ≡ enlist side listed old))
 
-  -- in each list the tickets rise, each is below the next ticket, and none is in both lists
   pub record HasOwnTickets (waiters : Waiters W) : Type 0 where
     pub room_rises : IsRising waiters.room
     pub message_rises : IsRising waiters.message
@@ -54,6 +51,6 @@ module _ {W : Type 0} where
     pub apart : (ticket : ℕ) → is_listed ticket waiters.room ≡ true
         → is_listed ticket waiters.message ≡ false
 
-  -- the greatest number of tickets that a binary search in both lists compares
+  -- tickets that searches in both lists compare at most
   abbrev pub search_bound : Waiters W → ℕ
   search_bound waiters = digits (length waiters.room) + digits (length waiters.message)

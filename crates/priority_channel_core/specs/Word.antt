@@ -1,4 +1,4 @@
--- The word of a channel: the number of pending pairs, whether it is closed, and the waiters.
+-- The word of a channel; `count` is of pending pairs.
 use Rattle.std.specs.Prelude.{ℕ, ◌%◌, ◌^◌, Bool, List, [], nat_le}
 use Rattle.priority_channel_core.specs.Waiters.{Waiters}
 
@@ -7,13 +7,11 @@ pub record Word (W : Type 0) : Type 0 where
   pub count : ℕ
   pub waiters : Waiters W
 
--- a word, and how many comparisons of two tickets it has made
 pub record CountedWord (W : Type 0) : Type 0 where
   pub word : Word W
   pub comparisons : ℕ
 
--- the waiters that a step wakes, that is, takes off the lists for the caller to wake: the waiting
--- senders (`room`) and the waiting receivers (`message`)
+-- the waiters that a step takes off the lists, for the caller to wake
 pub record Handed (W : Type 0) : Type 0 where
   pub room : List (ℕ × W)
   pub message : List (ℕ × W)

@@ -1,9 +1,10 @@
--- Definitions beside the machine that the contracts of the code's calls cite.
+-- What the contracts of the code cite beside the machine.
 pub mod Channel
 pub mod Room
 pub mod Replies
 pub mod Lists
 pub mod Front
+pub mod Answers
 pub mod Calls
 pub mod Many
 pub mod Allowed

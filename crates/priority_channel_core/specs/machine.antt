@@ -1,4 +1,4 @@
--- The machine, in the best order to read it.
+-- The machine, in reading order.
 pub mod State
 pub mod Good
 pub mod Sends

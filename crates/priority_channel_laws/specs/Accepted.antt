@@ -3,7 +3,7 @@ use Rattle.std.specs.Prelude.{◌≡◌, ◌-◌, false, List, [], ◌∷◌, le
 use Rattle.std.specs.List.{AllPairs, flat_map}
 use Rattle.std.specs.Ordering.{is_gt}
 use Rattle.std.specs.declared.cmp.Ordering.{Ordering}
-use Rattle.priority_channel_core.specs.declared.calls.Call.TheVariants as call
+use Rattle.priority_channel_core.specs.declared.calls.Call.TheVariants.{TrySend, TrySendv, TrySendEvicting, PollSend, PollSendv}
 use Rattle.priority_channel_core.specs.declared.calls.Answer.TheVariants as answer
 use Rattle.priority_channel_core.specs.declared.calls.CorePoll.{CorePoll}
 use Rattle.priority_channel_core.specs.declared.calls.CorePoll.TheVariants.{Ready, Pending}
@@ -15,64 +15,62 @@ use Rattle.priority_channel_core.specs.machine.Sends.{as_list}
 use Rattle.priority_channel_core.specs.machine.Step.{Calls, Answers}
 use Rattle.priority_channel_core.specs.machine.Run.{Operation}
 
--- the pairs without the rest that came back
-abbrev pub all_but : {A : Type 0} → List A → List A → List A
-all_but rest pairs = take (length pairs - length rest) pairs
+module _ {A : Type 0} where
+  abbrev pub all_but : List A → List A → List A
+  all_but rest pairs = take (length pairs - length rest) pairs
 
--- the pairs that a send with this reply accepted
-abbrev pub sent : {A : Type 0} → List A → Result (Unit {0}) (TrySendError (List A)) → List A
-sent pairs (Ok done) = pairs
-sent pairs (Err (send_error.Closed rest)) = []
-sent pairs (Err (send_error.Full rest)) = all_but rest pairs
-sent pairs (Err (send_error.Memory rest)) = all_but rest pairs
+  abbrev pub sent : List A → Result (Unit {0}) (TrySendError (List A)) → List A
+  sent pairs (Ok done) = pairs
+  sent pairs (Err (send_error.Closed rest)) = []
+  sent pairs (Err (send_error.Full rest)) = all_but rest pairs
+  sent pairs (Err (send_error.Memory rest)) = all_but rest pairs
 
--- the pairs that a poll of a send with this answer accepted
-abbrev pub poll_sent : {A : Type 0} → List A
-    → CorePoll (Result (Unit {0}) (SendFault (List A))) (List A) → List A
-poll_sent pairs (Ready (Ok done)) = pairs
-poll_sent pairs (Ready (Err (send_fault.Closed e))) = []
-poll_sent pairs (Ready (Err (send_fault.Memory rest))) = all_but rest pairs
-poll_sent pairs (Pending rest ticket) = all_but rest pairs
+  abbrev pub poll_sent : List A → CorePoll (Result (Unit {0}) (SendFault (List A))) (List A)
+      → List A
+  poll_sent pairs (Ready (Ok done)) = pairs
+  poll_sent pairs (Ready (Err (send_fault.Closed e))) = []
+  poll_sent pairs (Ready (Err (send_fault.Memory rest))) = all_but rest pairs
+  poll_sent pairs (Pending rest ticket) = all_but rest pairs
 
-abbrev pub accepted_by : {T P W : Type 0} → Calls T P W → Answers T P → List (T × P)
-accepted_by (call.TrySend msg priority) (answer.TrySend reply) =
-    sent ((msg, priority) ∷ []) (as_list reply)
-accepted_by (call.TrySendv pairs) (answer.TrySendv reply) = sent pairs reply
-accepted_by (call.TrySendEvicting msg priority) (answer.TrySendEvicting (Ok displaced)) =
-    (msg, priority) ∷ []
-accepted_by (call.PollSend msg priority given waker) (answer.PollSend (Ready (Ok done))) =
-    (msg, priority) ∷ []
-accepted_by (call.PollSendv pairs given waker) (answer.PollSendv reply) = poll_sent pairs reply
-accepted_by _ _ = []
+module _ {T P : Type 0} where
+  abbrev pub received_by : Answers T P → List (T × P)
+  received_by (answer.TryRecv (Ok pair)) = pair ∷ []
+  received_by (answer.PollRecv (Ready (Ok pair))) = pair ∷ []
+  received_by _ = []
 
-abbrev pub received_by : {T P : Type 0} → Answers T P → List (T × P)
-received_by (answer.TryRecv (Ok pair)) = pair ∷ []
-received_by (answer.PollRecv (Ready (Ok pair))) = pair ∷ []
-received_by _ = []
+  -- the pair that made room, and the pair that a test took out; neither is received
+  abbrev pub displaced_by : Answers T P → List (T × P)
+  displaced_by (answer.TrySendEvicting (Ok (Some pair))) = pair ∷ []
+  displaced_by _ = []
 
--- the pair that made room for one of greater priority, and the pair that a test took out; neither
--- is received
-abbrev pub displaced_by : {T P : Type 0} → Answers T P → List (T × P)
-displaced_by (answer.TrySendEvicting (Ok (Some pair))) = pair ∷ []
-displaced_by _ = []
+  abbrev pub taken_by : Answers T P → List (T × P)
+  taken_by (answer.TakeWhere (Some pair)) = pair ∷ []
+  taken_by _ = []
 
-abbrev pub taken_by : {T P : Type 0} → Answers T P → List (T × P)
-taken_by (answer.TakeWhere (Some pair)) = pair ∷ []
-taken_by _ = []
+  abbrev pub NeverRise : (P → P → Ordering) → List (T × P) → Type 0
+  NeverRise cmp pairs = AllPairs (λ before later. is_gt (cmp later.1 before.1) ≡ false) pairs
 
--- all pairs that a run accepted, and all pairs that went each way, in order
-abbrev pub accepted_in : {T P W : Type 0} → List (Operation T P W) → List (T × P)
-accepted_in run = flat_map (λ made. accepted_by made.call made.answer) run
+module _ {T P W : Type 0} where
+  abbrev pub accepted_by : Calls T P W → Answers T P → List (T × P)
+  accepted_by (TrySend msg priority) (answer.TrySend reply) =
+      sent ((msg, priority) ∷ []) (as_list reply)
+  accepted_by (TrySendv pairs) (answer.TrySendv reply) = sent pairs reply
+  accepted_by (TrySendEvicting msg priority) (answer.TrySendEvicting (Ok displaced)) =
+      (msg, priority) ∷ []
+  accepted_by (PollSend msg priority given waker) (answer.PollSend (Ready (Ok done))) =
+      (msg, priority) ∷ []
+  accepted_by (PollSendv pairs given waker) (answer.PollSendv reply) = poll_sent pairs reply
+  accepted_by _ _ = []
 
-abbrev pub received_in : {T P W : Type 0} → List (Operation T P W) → List (T × P)
-received_in run = flat_map (λ made. received_by made.answer) run
+  -- over a whole run, in order
+  abbrev pub accepted_in : List (Operation T P W) → List (T × P)
+  accepted_in run = flat_map (λ made. accepted_by made.call made.answer) run
 
-abbrev pub displaced_in : {T P W : Type 0} → List (Operation T P W) → List (T × P)
-displaced_in run = flat_map (λ made. displaced_by made.answer) run
+  abbrev pub received_in : List (Operation T P W) → List (T × P)
+  received_in run = flat_map (λ made. received_by made.answer) run
 
-abbrev pub taken_in : {T P W : Type 0} → List (Operation T P W) → List (T × P)
-taken_in run = flat_map (λ made. taken_by made.answer) run
+  abbrev pub displaced_in : List (Operation T P W) → List (T × P)
+  displaced_in run = flat_map (λ made. displaced_by made.answer) run
 
--- no pair has a greater priority than a pair before it
-abbrev pub NeverRise : {T P : Type 0} → (P → P → Ordering) → List (T × P) → Type 0
-NeverRise cmp pairs = AllPairs (λ before later. is_gt (cmp later.1 before.1) ≡ false) pairs
+  abbrev pub taken_in : List (Operation T P W) → List (T × P)
+  taken_in run = flat_map (λ made. taken_by made.answer) run

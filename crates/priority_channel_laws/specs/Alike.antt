@@ -1,7 +1,7 @@
--- Runs that are the same, except for the values that the wakers' Clone gave.
+-- Runs that are the same, except for the clones of wakers.
 use Rattle.std.specs.Prelude.{◌≡◌, ℕ, ◌⊎◌, Bool, true, false, length, Err}
 use Rattle.std.specs.List.{AllZip}
-use Rattle.priority_channel_core.specs.declared.calls.Answer.TheVariants as answer
+use Rattle.priority_channel_core.specs.declared.calls.Answer.TheVariants.{TrySend, TrySendv, TrySendEvicting, PollSend, PollSendv, PollRecv}
 use Rattle.priority_channel_core.specs.declared.calls.CorePoll.TheVariants.{Ready}
 use Rattle.priority_channel_core.specs.declared.errors.TrySendError.TheVariants as send_error
 use Rattle.priority_channel_core.specs.declared.errors.SendFault.TheVariants as send_fault
@@ -12,17 +12,15 @@ use Rattle.priority_channel_core.specs.machine.Step.{Answers}
 use Rattle.priority_channel_core.specs.machine.Run.{Operation}
 use Rattle.priority_channel_laws.specs.Accepted.{accepted_by}
 
--- whether an answer is Memory
 abbrev pub is_memory : {T P : Type 0} → Answers T P → Bool
-is_memory (answer.TrySend (Err (send_error.Memory pair))) = true
-is_memory (answer.TrySendv (Err (send_error.Memory rest))) = true
-is_memory (answer.TrySendEvicting (Err (send_error.Memory pair))) = true
-is_memory (answer.PollSend (Ready (Err (send_fault.Memory pair)))) = true
-is_memory (answer.PollSendv (Ready (Err (send_fault.Memory rest)))) = true
-is_memory (answer.PollRecv (Ready (Err recv_fault.Memory))) = true
+is_memory (TrySend (Err (send_error.Memory pair))) = true
+is_memory (TrySendv (Err (send_error.Memory rest))) = true
+is_memory (TrySendEvicting (Err (send_error.Memory pair))) = true
+is_memory (PollSend (Ready (Err (send_fault.Memory pair)))) = true
+is_memory (PollSendv (Ready (Err (send_fault.Memory rest)))) = true
+is_memory (PollRecv (Ready (Err recv_fault.Memory))) = true
 is_memory _ = false
 
--- the same call, which accepted as many pairs in both, and answered Memory in both or in neither
 pub record IsAlike {T P W : Type 0} (one other : Operation T P W) : Type 0 where
   pub same_call : other.call ≡ one.call
   pub as_many : length (accepted_by other.call other.answer)
@@ -30,7 +28,7 @@ pub record IsAlike {T P W : Type 0} (one other : Operation T P W) : Type 0 where
   pub memory : is_memory other.answer ≡ is_memory one.answer
 
 module _ {W : Type 0} (is_clone : W → W → Type 0) where
-  -- the same ticket, with the same waker or another clone of one waker
+  -- with the same waker, or another clone of one waker
   abbrev pub SameWaiter : ℕ × W → ℕ × W → Type 0
   SameWaiter a b =
       (b.0 ≡ a.0) × ((b.1 ≡ a.1) ⊎ ((waker : W) × is_clone waker a.1 × is_clone waker b.1))
@@ -44,12 +42,10 @@ module _ {W : Type 0} (is_clone : W → W → Type 0) where
     pub message : AllZip SameWaiter one.message other.message
     pub next_ticket : other.next_ticket ≡ one.next_ticket
 
-  -- the same waiters, and all else is the same
   pub record SameState {T P : Type 0} (one other : State T P W) : Type 0 where
     pub waiters : SameWaiters one.waiters other.waiters
     pub others : other ≡ record one { waiters = other.waiters }
 
-  -- the same answer, and the same waiters woken
   pub record SameOutcome {T P : Type 0} (one other : Operation T P W) : Type 0 where
     pub answer : other.answer ≡ one.answer
     pub handed : SameHanded one.handed other.handed

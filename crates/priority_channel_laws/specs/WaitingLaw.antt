@@ -7,27 +7,34 @@ use Rattle.priority_channel_core.specs.machine.State.{State, Handed}
 use Rattle.priority_channel_core.specs.machine.Good.{IsGood}
 use Rattle.priority_channel_core.specs.Future.{Tasks, Futures, ticket_of}
 use Rattle.priority_channel_laws.specs.World.{World}
-use Rattle.priority_channel_core.specs.Future.Task.{Send, Sendv, Recv}
+use Rattle.priority_channel_core.specs.Future.Task.{Recv}
 use Rattle.priority_channel_core.specs.Future.Standing.{New, Waiting, Called, Done}
 
--- the waker under a ticket
 abbrev pub waker_of : {W : Type 0} → ℕ → List (ℕ × W) → Option W
 waker_of ticket [] = None
 waker_of ticket (a ∷ waiters) = if a.0 == ticket then Some a.1 else waker_of ticket waiters
 
--- sends wait on the send side (`Room`), receives on the receive side (`Message`)
 abbrev pub side_of : {T P : Type 0} → Tasks T P → Side
-side_of (Send msg priority) = Room
-side_of (Sendv pairs) = Room
 side_of Recv = Message
+side_of send = Room
 
--- a send can go on if the channel is closed or not full, and a receive if it is closed or not empty
-abbrev pub CanGoOn : {T P W : Type 0} → State T P W → Side → Type 0
-CanGoOn s Room = (s.is_closed ≡ true) ⊎ (length s.pending ≢ s.capacity)
-CanGoOn s Message = (s.is_closed ≡ true) ⊎ (s.pending ≢ [])
+module _ {T P W : Type 0} where
+  -- what the future would wait for is there, or never comes
+  abbrev pub CanGoOn : State T P W → Side → Type 0
+  CanGoOn s Room = (s.is_closed ≡ true) ⊎ (length s.pending ≢ s.capacity)
+  CanGoOn s Message = (s.is_closed ≡ true) ⊎ (s.pending ≢ [])
+
+  -- a ticket that was given by then was that future's then: no number is given twice
+  abbrev pub GivenOnce : World T P W → World T P W → Type 0
+  GivenOnce past now =
+      (which : ℕ) (future : Futures T P W) (ticket : ℕ)
+      → slice_get now.futures which ≡ Some future → ticket_of future.standing ≡ Some ticket
+      → ticket < past.state.waiters.next_ticket
+      → (earlier : Futures T P W) × (slice_get past.futures which ≡ Some earlier)
+      × (ticket_of earlier.standing ≡ Some ticket)
 
 module _ {T P W : Type 0} (is_clone : W → W → Type 0) where
-  -- a future that waits under this ticket, on this side; `kept` is a clone of its waker
+  -- this future waits on this side; `kept` is a clone of its waker
   pub record HasWaiting (futures : List (Futures T P W)) (side : Side) (ticket : ℕ)
       (kept : W) : Type 0 where
     pub which : ℕ
@@ -40,7 +47,7 @@ module _ {T P W : Type 0} (is_clone : W → W → Type 0) where
 
   pub record NobodyIsForgotten (world : World T P W) : Type 0 where
     pub good : IsGood world.state
-    -- the two waiting lists have exactly the waiting futures, each with a clone of its waker
+    -- the waiting lists have exactly the waiting futures, each with a clone of its waker
     pub waiting_is_listed : (which : ℕ) (future : Futures T P W) (ticket : ℕ) (waker : W)
         → slice_get world.futures which ≡ Some future → future.standing ≡ Waiting ticket waker
         → (kept : W) × is_clone waker kept
@@ -48,44 +55,29 @@ module _ {T P W : Type 0} (is_clone : W → W → Type 0) where
     pub listed_is_waiting : (side : Side) (ticket : ℕ) (kept : W)
         → waker_of ticket (on_side side world.state.waiters) ≡ Some kept
         → HasWaiting world.futures side ticket kept
-    -- no waiting future can go on
     pub waiting_cannot_go_on : (which : ℕ) (future : Futures T P W) (ticket : ℕ) (waker : W)
         → slice_get world.futures which ≡ Some future → future.standing ≡ Waiting ticket waker
         → CanGoOn world.state (side_of future.task) → ⊥
-    -- a future that was polled, has not answered and can go on was woken since (`Called`)
+    -- one that was polled, has not answered and can go on was woken since
     pub called_if_can_go_on : (which : ℕ) (future : Futures T P W)
         → slice_get world.futures which ≡ Some future → future.standing ≢ New
         → future.standing ≢ Done
         → CanGoOn world.state (side_of future.task)
         → (ticket : ℕ) × (waker : W) × (future.standing ≡ Called ticket waker)
-    -- each ticket that a future has was given
     pub tickets_were_given : (which : ℕ) (future : Futures T P W) (ticket : ℕ)
         → slice_get world.futures which ≡ Some future → ticket_of future.standing ≡ Some ticket
         → ticket < world.state.waiters.next_ticket
-    -- different futures have different tickets
     pub tickets_differ : (first second : ℕ) (one other : Futures T P W) (ticket : ℕ)
         → slice_get world.futures first ≡ Some one → slice_get world.futures second ≡ Some other
         → ticket_of one.standing ≡ Some ticket → ticket_of other.standing ≡ Some ticket
         → first ≡ second
 
--- a ticket that was given by then, and that a future has now, was that future's then: no number is
--- given twice
-abbrev pub GivenOnce : {T P W : Type 0} → World T P W → World T P W → Type 0
-GivenOnce {T} {P} {W} past now =
-    (which : ℕ) (future : Futures T P W) (ticket : ℕ)
-    → slice_get now.futures which ≡ Some future → ticket_of future.standing ≡ Some ticket
-    → ticket < past.state.waiters.next_ticket
-    → (earlier : Futures T P W) × (slice_get past.futures which ≡ Some earlier)
-    × (ticket_of earlier.standing ≡ Some ticket)
-
--- a future that an event wakes (`Called`) has its ticket among the tickets that the event wakes,
--- with a clone of the waker of its last poll
-abbrev pub CalledBy : {T P W : Type 0} → (W → W → Type 0) → World T P W → Handed W → World T P W
-    → Type 0
-CalledBy {T} {P} {W} is_clone old handed new =
-    (which : ℕ) (future : Futures T P W) (ticket : ℕ) (waker : W)
-    → slice_get new.futures which ≡ Some future → future.standing ≡ Called ticket waker
-    → (earlier : Futures T P W) × (slice_get old.futures which ≡ Some earlier)
-    × ((earlier.standing ≡ Called ticket waker)
-    ⊎ ((earlier.standing ≡ Waiting ticket waker) × (kept : W) × is_clone waker kept
-    × ((waker_of ticket handed.room ≡ Some kept) ⊎ (waker_of ticket handed.message ≡ Some kept))))
+  -- a future is woken by its own ticket, with a clone of its last waker
+  abbrev pub CalledBy : World T P W → Handed W → World T P W → Type 0
+  CalledBy old handed new =
+      (which : ℕ) (future : Futures T P W) (ticket : ℕ) (waker : W)
+      → slice_get new.futures which ≡ Some future → future.standing ≡ Called ticket waker
+      → (earlier : Futures T P W) × (slice_get old.futures which ≡ Some earlier)
+      × ((earlier.standing ≡ Called ticket waker)
+      ⊎ ((earlier.standing ≡ Waiting ticket waker) × (kept : W) × is_clone waker kept
+      × ((waker_of ticket handed.room ≡ Some kept) ⊎ (waker_of ticket handed.message ≡ Some kept))))

@@ -1,8 +1,8 @@
--- Worlds: a channel with the futures that use it, and the events that may happen to them.
-use Rattle.std.specs.Prelude.{◌≡◌, ℕ, ◌||◌, Bool, if◌then◌else◌, List, [], ◌∷◌, map, slice_get, slice_set, Option, Some, None, ⊤}
+-- A channel with its futures, and what may happen to them.
+use Rattle.std.specs.Prelude.{◌≡◌, ℕ, ◌||◌, Bool, if◌then◌else◌, List, [], ◌∷◌, map, slice_get, slice_set, Some, ⊤}
 use Rattle.std.specs.List.{All}
 use Rattle.std.specs.declared.cmp.Ordering.{Ordering}
-use Rattle.priority_channel_core.specs.declared.calls.Call.TheVariants as call
+use Rattle.priority_channel_core.specs.declared.calls.Call.TheVariants.{PollSend, PollSendv, PollRecv, GiveUp}
 use Rattle.priority_channel_core.specs.machine.State.{State, Handed, nobody, opening}
 use Rattle.priority_channel_core.specs.Waiting.{is_listed}
 use Rattle.priority_channel_core.specs.machine.Good.{IsGood}
@@ -10,75 +10,73 @@ use Rattle.priority_channel_core.specs.machine.Step.{Step, Calls, Answers}
 use Rattle.priority_channel_core.specs.Future.{Tasks, Standing, Futures, ticket_of, poll_of, future_after, GivesUpTicket}
 use Rattle.priority_channel_core.specs.Future.Standing.{New, Waiting, Called, Done}
 
--- a channel, and the futures that use it
 pub record World (T P W : Type 0) : Type 0 where
   pub state : State T P W
   pub futures : List (Futures T P W)
 
--- a direct call on the channel, or a poll or the end of the future at a position of the list
+-- a direct call, or a poll or the end of the future at this place
 pub data Event (T P W : Type 0) : Type 0 where
   Makes : Calls T P W → Event T P W
   Polls : ℕ → W → Event T P W
   GivesUp : ℕ → Event T P W
 
--- the calls that no future makes
-abbrev pub IsDirect : {T P W : Type 0} → Calls T P W → Type 0
-IsDirect (call.PollSend msg priority given waker) = ⊥
-IsDirect (call.PollSendv pairs given waker) = ⊥
-IsDirect (call.PollRecv given waker) = ⊥
-IsDirect (call.GiveUp ticket) = ⊥
-IsDirect _ = ⊤
+module _ {W : Type 0} where
+  -- its ticket is in the woken lists
+  abbrev pub is_handed : ℕ → Handed W → Bool
+  is_handed ticket handed = is_listed ticket handed.room || is_listed ticket handed.message
 
--- a waiting future is woken (`Called`) when its ticket is in the woken lists
-abbrev pub is_handed : {W : Type 0} → ℕ → Handed W → Bool
-is_handed ticket handed = is_listed ticket handed.room || is_listed ticket handed.message
+  abbrev pub standing_after : Handed W → Standing W → Standing W
+  standing_after handed (Waiting ticket waker) =
+      if is_handed ticket handed then Called ticket waker else Waiting ticket waker
+  standing_after handed standing = standing
 
-abbrev pub standing_after : {W : Type 0} → Handed W → Standing W → Standing W
-standing_after handed New = New
-standing_after handed (Waiting ticket waker) =
-    if is_handed ticket handed then Called ticket waker else Waiting ticket waker
-standing_after handed (Called ticket waker) = Called ticket waker
-standing_after handed Done = Done
+module _ {T P W : Type 0} where
+  -- no future makes this call
+  abbrev pub IsDirect : Calls T P W → Type 0
+  IsDirect (PollSend msg priority given waker) = ⊥
+  IsDirect (PollSendv pairs given waker) = ⊥
+  IsDirect (PollRecv given waker) = ⊥
+  IsDirect (GiveUp ticket) = ⊥
+  IsDirect _ = ⊤
 
-abbrev pub call_out : {T P W : Type 0} → Handed W → List (Futures T P W) → List (Futures T P W)
-call_out handed futures =
-    map (λ future. record { task = future.task; standing = standing_after handed future.standing })
-    futures
+  abbrev pub call_out : Handed W → List (Futures T P W) → List (Futures T P W)
+  call_out handed futures =
+      map (λ future. record {
+        task = future.task;
+        standing = standing_after handed future.standing;
+      }) futures
+
+  abbrev pub IsOpening : World T P W → Type 0
+  IsOpening world =
+      IsGood world.state × (world.state ≡ opening world.state.capacity world.state.is_reserved)
+      × All (λ future. future.standing ≡ New) world.futures
 
 module _ {T P W : Type 0} (cmp : P → P → Ordering) (is_clone : W → W → Type 0) where
-  -- a poll, with the future's own ticket; the waiting futures are woken before the polled one gets
-  -- its new standing
-  abbrev pub PollsFuture : World T P W → ℕ → W → Tasks T P → Standing W → Handed W → World T P W
-      → Type 0
-  PollsFuture old which waker task Done handed new = (handed ≡ nobody) × (new ≡ old)
-  PollsFuture old which waker task standing handed new =
-      (reply : Answers T P)
-      × Step cmp is_clone old.state (poll_of task (ticket_of standing) waker) reply handed new.state
-      × (new.futures
-      ≡ slice_set (call_out handed old.futures) which (future_after task waker reply))
+  module _ (old : World T P W) where
+    -- a poll with the future's own ticket; others are woken before it gets its new standing
+    abbrev pub PollsFuture : ℕ → W → Tasks T P → Standing W → Handed W → World T P W → Type 0
+    PollsFuture which waker task Done handed new = (handed ≡ nobody) × (new ≡ old)
+    PollsFuture which waker task standing handed new =
+        (reply : Answers T P)
+        × Step cmp is_clone old.state (poll_of task (ticket_of standing) waker) reply handed
+        new.state
+        × (new.futures
+        ≡ slice_set (call_out handed old.futures) which (future_after task waker reply))
 
-  -- an event, the waiters that it wakes, and the world after it
-  abbrev pub Happens : World T P W → Event T P W → Handed W → World T P W → Type 0
-  Happens old (Makes made) handed new =
-      IsDirect made
-      × (reply : Answers T P) × Step cmp is_clone old.state made reply handed new.state
-      × (new.futures ≡ call_out handed old.futures)
-  Happens old (Polls which waker) handed new =
-      (future : Futures T P W) × (slice_get old.futures which ≡ Some future)
-      × PollsFuture old which waker future.task future.standing handed new
-  Happens old (GivesUp which) handed new =
-      (future : Futures T P W) × (slice_get old.futures which ≡ Some future) × (handed ≡ nobody)
-      × GivesUpTicket cmp is_clone old.state (ticket_of future.standing) new.state
-      × (new.futures ≡ slice_set old.futures which (record { task = future.task; standing = Done }))
+    abbrev pub Happens : Event T P W → Handed W → World T P W → Type 0
+    Happens (Makes made) handed new =
+        IsDirect made
+        × (reply : Answers T P) × Step cmp is_clone old.state made reply handed new.state
+        × (new.futures ≡ call_out handed old.futures)
+    Happens (Polls which waker) handed new =
+        (future : Futures T P W) × (slice_get old.futures which ≡ Some future)
+        × PollsFuture which waker future.task future.standing handed new
+    Happens (GivesUp which) handed new =
+        (future : Futures T P W) × (slice_get old.futures which ≡ Some future) × (handed ≡ nobody)
+        × GivesUpTicket cmp is_clone old.state (ticket_of future.standing) new.state
+        × (new.futures ≡ slice_set old.futures which (record future { standing = Done }))
 
-  -- events one after another, whichever waiters they wake
   abbrev pub Leads : World T P W → List (Event T P W) → World T P W → Type 0
   Leads old [] new = new ≡ old
   Leads old (event ∷ more) new =
       (handed : Handed W) × (mid : World T P W) × Happens old event handed mid × Leads mid more new
-
--- a new channel, and new futures
-abbrev pub IsOpening : {T P W : Type 0} → World T P W → Type 0
-IsOpening world =
-    IsGood world.state × (world.state ≡ opening world.state.capacity world.state.is_reserved)
-    × All (λ future. future.standing ≡ New) world.futures

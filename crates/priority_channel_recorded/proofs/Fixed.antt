@@ -17,7 +17,6 @@ use Rattle.priority_channel_recorded.specs.declared.book.Reply.{Reply}
 use Rattle.priority_channel_recorded.specs.declared.book.Entry.{Entry}
 use Rattle.priority_channel_recorded.specs.History.{Machine, call_of, reply_of, Records, IsHistory}
 
--- who gets the only pair back has sent nothing
 no_front : {X : Type 0} (x y : X) (front : List X) → x ∷ [] ≡ front ++ y ∷ [] → front ≡ []
 no_front x y [] e = refl
 no_front x y (z ∷ front) e = let l = ap length e in let m = length-append front (y ∷ []) in absurd (omega arith)
@@ -26,28 +25,18 @@ module _ {T P : Type 0} {cmp : P → P → Ordering} (o : IsTotalOrder cmp) wher
   abbrev Goes : Machine T P → Call T P → Answers T P → Handed (Unit {0}) → Machine T P → Type 0
   Goes old call told handed new = Moves cmp (λ waker kept. kept ≡ waker) old (call_of call) told handed new
 
-  -- what is recorded of an answer to a call tells the answer
   same_answer : (old new other : Machine T P) (handed others : Handed (Unit {0})) (call : Call T P) (told again : Answers T P) (reply : Reply T P)
       → Goes old call told handed new → Goes old call again others other → reply_of told ≡ Some reply → reply_of again ≡ Some reply → told ≡ again
   same_answer old new other handed others (TrySend msg priority) (answer.TrySend one) (answer.TrySend two) reply m n e f = cc
-  same_answer old new other handed others (TrySend msg priority) (answer.TrySend one) _ reply m n e f = absurd n
   same_answer old new other handed others (TrySendEvicting msg priority) (answer.TrySendEvicting one) (answer.TrySendEvicting two) reply m n e f = cc
-  same_answer old new other handed others (TrySendEvicting msg priority) (answer.TrySendEvicting one) _ reply m n e f = absurd n
   same_answer old new other handed others TryRecv (answer.TryRecv one) (answer.TryRecv two) reply m n e f = cc
-  same_answer old new other handed others TryRecv (answer.TryRecv one) _ reply m n e f = absurd n
   same_answer old new other handed others Close (answer.Close one) (answer.Close two) reply m n e f = cc
-  same_answer old new other handed others Close (answer.Close one) _ reply m n e f = absurd n
   same_answer old new other handed others IsClosed (answer.IsClosed one) (answer.IsClosed two) reply m n e f = cc
-  same_answer old new other handed others IsClosed (answer.IsClosed one) _ reply m n e f = absurd n
   same_answer old new other handed others IsEmpty (answer.IsEmpty one) (answer.IsEmpty two) reply m n e f = cc
-  same_answer old new other handed others IsEmpty (answer.IsEmpty one) _ reply m n e f = absurd n
   same_answer old new other handed others IsFull (answer.IsFull one) (answer.IsFull two) reply m n e f = cc
-  same_answer old new other handed others IsFull (answer.IsFull one) _ reply m n e f = absurd n
   same_answer old new other handed others Len (answer.Len one) (answer.Len two) reply m n e f = cc
-  same_answer old new other handed others Len (answer.Len one) _ reply m n e f = absurd n
-  same_answer old new other handed others _ _ _ reply m n e f = absurd m
+  same_answer old new other handed others call told again reply m n e f = absurd (assumption)
 
-  -- where nothing was added
   adds_none : (old new other : Machine T P) (handed others : Handed (Unit {0})) (front again : List (T × P)) → front ≡ [] → again ≡ []
       → AddsFront old front handed new → AddsFront old again others other → new ≡ other
   adds_none old new other handed others front again e f m n = m.new_is ∙ rw (e, f) refl ∙ sym n.new_is
@@ -56,7 +45,6 @@ module _ {T P : Type 0} {cmp : P → P → Ordering} (o : IsTotalOrder cmp) wher
       → Sends old (pair ∷ []) (Ok tt) others other → new ≡ other
   all_sent old new other handed others pair m n = m.2.1.new_is ∙ sym n.2.1.new_is
 
-  -- two steps with one answer lead to one state
   same_state : (old new other : Machine T P) (handed others : Handed (Unit {0})) (call : Call T P) (told : Answers T P)
       → Goes old call told handed new → Goes old call told others other → new ≡ other
   same_state old new other handed others (TrySend msg priority) (answer.TrySend (Ok sent)) m n = all_sent old new other handed others (msg, priority) m n
@@ -96,7 +84,6 @@ module _ {T P : Type 0} {cmp : P → P → Ordering} (o : IsTotalOrder cmp) wher
   same_state old new other handed others Len (answer.Len told) m n = m.1.1 ∙ sym n.1.1
   same_state old new other handed others _ _ m n = absurd m
 
-  -- two steps of one entry lead to one state
   same_step : (entry : Entry T P) (made again : Operation T P (Unit {0})) (old new other : Machine T P) → Records entry made → Records entry again
       → Step cmp (λ waker kept. kept ≡ waker) old made.call made.answer made.handed new
       → Step cmp (λ waker kept. kept ≡ waker) old again.call again.answer again.handed other → new ≡ other
@@ -110,7 +97,6 @@ module _ {T P : Type 0} {cmp : P → P → Ordering} (o : IsTotalOrder cmp) wher
       same_state old new other made.handed again.handed entry.call made.answer m
       (subst (λ reply. Goes old entry.call reply again.handed other) told n)
 
-  -- two runs of one history lead to one state
   same_end : (history : List (Entry T P)) (run again : List (Operation T P (Unit {0}))) (old new other : Machine T P)
       → AllZip Records history run → AllZip Records history again
       → Run cmp (λ waker kept. kept ≡ waker) old run new → Run cmp (λ waker kept. kept ≡ waker) old again other → new ≡ other

@@ -1,5 +1,5 @@
 -- A history that grows by an entry.
-use Rattle.std.proofs.Common.{◌≡◌, ℕ, true, false, List, [], ◌∷◌, ◌++◌, refl, sym, subst, inl, inr, Some, None, Ok, Err}
+use Rattle.std.proofs.Common.{◌≡◌, ℕ, true, List, [], ◌∷◌, ◌++◌, refl, sym, subst, inl, inr, Some, None, Ok, Err}
 use Rattle.std.specs.declared.cmp.Ordering.{Ordering}
 use Rattle.priority_channel_core.specs.declared.calls.Answer.TheVariants as answer
 use Rattle.priority_channel_core.specs.declared.errors.TrySendError.TheVariants as send_error
@@ -19,8 +19,6 @@ module _ {T P : Type 0} (cmp : P → P → Ordering) where
       → Moves cmp (λ waker kept. kept ≡ waker) old (call_of call) told handed new → new.capacity ≡ old.capacity
   same_capacity old new handed (TrySend msg priority) (answer.TrySend (Ok sent)) m = cc
   same_capacity old new handed (TrySend msg priority) (answer.TrySend (Err (send_error.Closed pair))) m = cc
-  same_capacity old new handed (TrySend msg priority) (answer.TrySend (Err (send_error.Full pair))) m = cc
-  same_capacity old new handed (TrySend msg priority) (answer.TrySend (Err (send_error.Memory pair))) m = cc
   same_capacity old new handed (TrySendEvicting msg priority) (answer.TrySendEvicting (Ok None)) m = cc
   same_capacity old new handed (TrySendEvicting msg priority) (answer.TrySendEvicting (Ok (Some out))) m = let n = m.1.same in let k = m.2.2.1.new_is in cc
   same_capacity old new handed (TrySendEvicting msg priority) (answer.TrySendEvicting (Err (send_error.Closed pair))) m = cc
@@ -29,14 +27,12 @@ module _ {T P : Type 0} (cmp : P → P → Ordering) where
   same_capacity old new handed (TrySendEvicting msg priority) (answer.TrySendEvicting (Err (send_error.Memory pair))) (inr m) = let n = m.4.1 in cc
   same_capacity old new handed TryRecv (answer.TryRecv (Ok pair)) m = let n = m.1.1 in cc
   same_capacity old new handed TryRecv (answer.TryRecv (Err recv_error.Closed)) m = cc
-  same_capacity old new handed TryRecv (answer.TryRecv (Err recv_error.Empty)) m = cc
   same_capacity old new handed Close (answer.Close true) m = cc
-  same_capacity old new handed Close (answer.Close false) m = cc
   same_capacity old new handed IsClosed (answer.IsClosed told) m = cc
   same_capacity old new handed IsEmpty (answer.IsEmpty told) m = cc
   same_capacity old new handed IsFull (answer.IsFull told) m = cc
   same_capacity old new handed Len (answer.Len told) m = cc
-  same_capacity old new handed _ _ m = absurd m
+  same_capacity old new handed call told m = first_of (cc, search)
 
   pub step_capacity : (old new : Machine T P) (call : Call T P) (reply : Reply T P) → IsStep cmp old call reply new
       → new.capacity ≡ old.capacity
@@ -54,11 +50,9 @@ module _ {T P : Type 0} (cmp : P → P → Ordering) where
         leads = Run-more cmp _ (opening old.capacity true) old new legal.run made legal.leads step.step;
       })
 
-  -- nothing was recorded yet
   pub history_none : (capacity : ℕ) → IsHistory {T = T} cmp capacity [] (opening capacity true)
   history_none capacity = record { run = []; records = tt; leads = refl }
 
-  -- a history of a channel of this capacity is legal
   pub legal_at : (capacity : ℕ) (history : List (Entry T P)) (state : Machine T P) → state.capacity ≡ capacity
       → IsHistory cmp state.capacity history state → IsLegal cmp capacity history
   legal_at capacity history state is run = record { state = state; run = subst (λ (c : ℕ). IsHistory cmp c history state) is run }

@@ -13,11 +13,11 @@ use Rattle.priority_channel_recorded.specs.declared.book.Reply.{Reply}
 use Rattle.priority_channel_recorded.specs.declared.book.Reply.TheVariants.{Sent, Displaced, Received, Bool as Truth, Len as Count}
 use Rattle.priority_channel_recorded.specs.declared.book.Entry.{Entry}
 
--- the state of a recorded channel, for which nobody waits
+-- nobody waits for a recorded channel
 abbrev pub Machine : Type 0 → Type 0 → Type 0
 Machine T P = State T P (Unit {0})
 
--- a channel's state, the history of its calls, and for how many entries there is memory
+-- `slots`: for how many entries there is memory
 pub record Chronicle (T P : Type 0) : Type 0 where
   pub state : Machine T P
   pub history : List (Entry T P)
@@ -30,7 +30,6 @@ module _ {T P : Type 0} where
   abbrev pub who_of : Entry T P → ℕ
   who_of entry = entry.who
 
-  -- a recorded call is the machine's call of the same name
   abbrev pub call_of : Call T P → Calls T P (Unit {0})
   call_of (TrySend msg priority) = call.TrySend msg priority
   call_of (TrySendEvicting msg priority) = call.TrySendEvicting msg priority
@@ -41,7 +40,6 @@ module _ {T P : Type 0} where
   call_of IsFull = call.IsFull
   call_of Len = call.Len
 
-  -- what is recorded of the machine's answer
   abbrev pub reply_of : Answers T P → Option (Reply T P)
   reply_of (answer.TrySend reply) = Some (Sent reply)
   reply_of (answer.TrySendEvicting reply) = Some (Displaced reply)
@@ -53,12 +51,10 @@ module _ {T P : Type 0} where
   reply_of (answer.Len told) = Some (Count told)
   reply_of other = None
 
-  -- the entry is of this call of a run
   abbrev pub Records : Entry T P → Operation T P (Unit {0}) → Type 0
   Records entry made = (made.call ≡ call_of entry.call) × (reply_of made.answer ≡ Some entry.reply)
 
   module _ (cmp : P → P → Ordering) where
-    -- the call is a step of the machine, of whose answer this is recorded
     pub record IsStep (old : Machine T P) (made : Call T P) (reply : Reply T P)
         (new : Machine T P) : Type 0 where
       pub answer : Answers T P
@@ -66,20 +62,17 @@ module _ {T P : Type 0} where
       pub replies : reply_of answer ≡ Some reply
       pub step : Step cmp (λ waker kept. kept ≡ waker) old (call_of made) answer handed new
 
-    -- the entries are those of a run of the machine, from the opening of a reserved channel of this
-    -- capacity to this state
+    -- a run from the opening of a reserved channel of this capacity
     pub record IsHistory (capacity : ℕ) (history : List (Entry T P))
         (state : Machine T P) : Type 0 where
       pub run : List (Operation T P (Unit {0}))
       pub records : AllZip Records history run
       pub leads : Run cmp (λ waker kept. kept ≡ waker) (opening capacity true) run state
 
-    -- a legal history is a run of the machine from the opening state of a channel of this capacity
     pub record IsLegal (capacity : ℕ) (history : List (Entry T P)) : Type 0 where
       pub state : Machine T P
       pub run : IsHistory capacity history state
 
-    -- nothing was recorded yet
     pub legal_none : (capacity : ℕ) → IsLegal capacity []
     legal_none capacity = record {
       state = opening capacity true;

@@ -1,4 +1,4 @@
--- What a caller's pass carries, and what a call adds to it.
+-- The passes of a recorder.
 use Rattle.std.specs.Prelude.{ℕ, List}
 use Rattle.std.specs.declared.cmp.Ordering.{Ordering}
 use Rattle.priority_channel_recorded.specs.declared.book.Entry.{Entry}
@@ -6,17 +6,13 @@ use Rattle.priority_channel_recorded.specs.History.{who_of, IsLegal}
 use Rattle.priority_channel_chronicle.specs.Passes as chronicle
 pub use Rattle.priority_channel_chronicle.specs.Passes.{AreNew, calls_made, AreApart}
 
--- a pass's number, how many calls were made with it, and the history that it has seen
 abbrev pub Carried : Type 0 → Type 0 → Type 0
 Carried T P = chronicle.Carried (Entry T P)
 
 module _ {T P : Type 0} where
-  -- under each pass's number stand as many entries as its count, and under other numbers none
   abbrev pub Accounts : List (Carried T P) → List (Entry T P) → Type 0
   Accounts = chronicle.Accounts who_of
 
-  -- Now a legal history of a channel of this capacity was seen that begins with all that had been
-  -- seen, is longer, and ends with this entry. Under the pass's number it has at least as many
-  -- entries as the pass has made calls.
+  -- for legal histories of a channel of this capacity
   abbrev pub IsTold : (P → P → Ordering) → ℕ → Carried T P → Entry T P → Carried T P → Type 0
   IsTold cmp capacity = chronicle.IsTold who_of (IsLegal cmp capacity)

@@ -40,8 +40,7 @@ sendv_left msgs waker (Pending kept ticket) = record { task = refl; ticket = ref
 pub unsent_kept : {M : Type 0} (Q : M → Type 0) (reply : CorePoll (Result (Unit {0}) (SendFault M)) M)
     → IfSome (kept_by reply) Q → IfSome (handed_back (told_by reply)) Q
 unsent_kept Q (Ready (Ok sent)) h = h
-unsent_kept Q (Ready (Err (send_fault.Closed e))) h = h
-unsent_kept Q (Ready (Err (send_fault.Memory held))) h = h
+unsent_kept Q (Ready (Err fault)) h = h
 unsent_kept Q (Pending held ticket) h = tt
 
 module _ {T P W M K R : Type 0} (Performs : State T P W → Call T P W M → Answer T P M → Handed W → State T P W → Type 0)
@@ -54,7 +53,6 @@ module _ {T P W M K R : Type 0} (Performs : State T P W → Call T P W M → Ans
   polls_kept holding left kept given waker old new handed reply told is tells leaves step k =
       rw is (record { reply = reply; tells = tells; step = step; leaves = rw leaves k })
 
--- a fact of the value, if there is one
 pub if_some : {M : Type 0} (Q : M → Type 0) (held : Option M) → ((m : M) → held ≡ Some m → Q m) → IfSome held Q
 if_some Q None h = tt
 if_some Q (Some m) h = h m refl
@@ -65,7 +63,6 @@ pub left_kept : {M : Type 0} (Q : M → Type 0) (reply : CorePoll (Result (Unit 
 left_kept Q (Ready outcome) h = tt
 left_kept Q (Pending held ticket) h = h
 
--- what comes back from a send is a tail
 rest_at : {T P W : Type 0} (old new : State T P W) (handed : Handed W) (back : TrySendError (List (T × P))) (list : List (T × P))
     → Sends old list (Err back) handed new → (n : ℕ) × (rest_of back ≡ drop n list)
 rest_at old new handed (send_error.Closed rest) list h = (0, h.1)
@@ -79,7 +76,6 @@ tails old new handed (Err back) list h = rest_at old new handed back list h
 
 module _ {T P W M : Type 0} (holds : M → List (T × P) → Type 0) (cmp : P → P → Ordering) (is_clone : W → W → Type 0)
     (old new : State T P W) (handed : Handed W) (msgs : M) where
-  -- what comes back from a bulk send of the code holds what comes back in the machine
   same_refused : (error : TrySendError M) (told : Result (Unit {0}) (TrySendError (List (T × P)))) → SameReply holds (Err error) told
       → (back : TrySendError (List (T × P))) × (told ≡ Err back) × holds (rest_of error) (rest_of back)
   same_refused (send_error.Closed m) told h = (send_error.Closed h.0, h.1, h.2)
@@ -107,7 +103,6 @@ module _ {T P W M : Type 0} (holds : M → List (T × P) → Type 0) (cmp : P �
     kept_is : (m held : M) → Some m ≡ Some held → (list : List (T × P)) → holds m list → holds held list
     kept_is m held is list h = let same : m ≡ held = cc in subst (λ x. holds x list) same h
 
-    -- the same for a poll
     same_kept : (poll : CorePoll (Result (Unit {0}) (SendFault M)) M) (told : CorePoll (Result (Unit {0}) (SendFault (List (T × P)))) (List (T × P)))
         → SamePoll holds poll told → (held : M) → kept_by poll ≡ Some held
         → (rest : List (T × P)) × (kept_by told ≡ Some rest) × holds held rest

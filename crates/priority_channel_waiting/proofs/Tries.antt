@@ -41,7 +41,6 @@ given_up cmp is_clone mid new None good same = (same, rw same good)
 given_up cmp is_clone mid new (Some ticket) good gave = (gave.moves.1, gave.good)
 
 module _ {T P W : Type 0} (cmp : P → P → Ordering) (is_clone : W → W → Type 0) (old mid new : State T P W) (handed : Handed W) where
-  -- a try that is answered, followed by giving up the ticket, is a poll with any waker
   polled_at_once : {R A : Type 0} {tries : R → Handed W → State T P W → Type 0} {answer_by : R → Option ℕ → Option A} {answered : A} (side : Side)
       (given : Option ℕ) (reply : R) (waker : W) → tries reply handed mid → answer_by reply None ≡ Some answered
       → new ≡ record mid { waiters = unlist given mid.waiters } → Polls is_clone tries answer_by side given waker answered handed new
@@ -105,14 +104,12 @@ module _ {T P W : Type 0} (cmp : P → P → Ordering) (is_clone : W → W → T
   sent_at_once holding left tried told pair given is tells leaves step gave =
       rw (is, tells, leaves) (sent tried pair given step (rw tells at gave))
 
-  -- a try does not make the search longer
   pub tried_searches_less : (tried : Result (Unit {0}) (TrySendError (T × P))) (msg : T) (priority : P)
       → Step cmp is_clone old (call.TrySend msg priority) (answer.TrySend tried) handed mid → search_bound mid.waiters ≤ search_bound old.waiters
   tried_searches_less tried msg priority step =
       let front = sends_front old mid ((msg, priority) ∷ []) (as_list tried) handed step.moves in
       sent_searches_less old mid front.0 handed front.1
 
--- giving up a ticket takes no pair
 pub pending_stays : {T P W R : Type 0} (cmp : P → P → Ordering) (is_clone : W → W → Type 0) (mid new : CountedState T P W) (told : Poll R) (given : Option ℕ)
     → IsGood mid.state → IfReady told (λ _. GivesUpTicket cmp is_clone mid.state given new.state) → OnPending told (new ≡ mid)
     → length new.state.pending ≡ length mid.state.pending

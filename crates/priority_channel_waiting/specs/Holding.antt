@@ -1,4 +1,4 @@
--- The state of a future between its polls, as the code keeps it.
+-- What the code keeps of a future between its polls.
 use Rattle.std.specs.Prelude.{◌≡◌, ℕ, List, drop, Option, Some, None, Result, Ok, Err}
 use Rattle.std.specs.Option.{option_map}
 use Rattle.futures.specs.Poll.{IfReady, OnPending}
@@ -20,49 +20,45 @@ use Rattle.priority_channel_core.specs.Future.{Task, Tasks, Standing, Future, ti
 use Rattle.priority_channel_core.specs.Future.Task.{Send, Recv}
 use Rattle.priority_channel_core.specs.Future.Standing.{Done}
 
--- the state of a future between polls: its remaining work (None once done) and its ticket
+-- its remaining work (None once done) and its ticket
 pub record Holding (K : Type 0) : Type 0 where
   pub kept : Option K
   pub ticket : Option ℕ
 
--- before the first poll
-abbrev pub unpolled : {K : Type 0} → K → Holding K
-unpolled kept = record { kept = Some kept; ticket = None }
+module _ {K : Type 0} where
+  abbrev pub unpolled : K → Holding K
+  unpolled kept = record { kept = Some kept; ticket = None }
 
-abbrev pub done : {K : Type 0} → Holding K
-done = record { kept = None; ticket = None }
+  abbrev pub done : Holding K
+  done = record { kept = None; ticket = None }
 
--- the result of a poll, if the core's poll returns this
-abbrev pub told_by : {R K : Type 0} → CorePoll R K → Poll R
-told_by (Ready answer) = poll.Ready answer
-told_by (Pending kept ticket) = poll.Pending
+  -- the result of a poll, and the state after it
+  abbrev pub told_by : {R : Type 0} → CorePoll R K → Poll R
+  told_by (Ready answer) = poll.Ready answer
+  told_by (Pending kept ticket) = poll.Pending
 
--- the state after that poll
-abbrev pub left_by : {R K : Type 0} → CorePoll R K → Holding K
-left_by (Ready answer) = done
-left_by (Pending kept ticket) = record { kept = Some kept; ticket = Some ticket }
+  abbrev pub left_by : {R : Type 0} → CorePoll R K → Holding K
+  left_by (Ready answer) = done
+  left_by (Pending kept ticket) = record { kept = Some kept; ticket = Some ticket }
 
--- the result of a try to send that need not wait
-abbrev pub told_at_once : {K : Type 0} → Result (Unit {0}) (TrySendError K)
-    → Poll (Result (Unit {0}) (SendFault K))
-told_at_once (Ok sent) = poll.Ready (Ok tt)
-told_at_once (Err (send_error.Closed held)) =
-    poll.Ready (Err (send_fault.Closed (record { 0 = held })))
-told_at_once (Err (send_error.Memory held)) = poll.Ready (Err (send_fault.Memory held))
-told_at_once (Err (send_error.Full held)) = poll.Pending
+  -- the same for a try to send; what is unsent keeps the old ticket
+  abbrev pub told_at_once : Result (Unit {0}) (TrySendError K)
+      → Poll (Result (Unit {0}) (SendFault K))
+  told_at_once (Ok sent) = poll.Ready (Ok tt)
+  told_at_once (Err (send_error.Closed held)) =
+      poll.Ready (Err (send_fault.Closed (record { 0 = held })))
+  told_at_once (Err (send_error.Memory held)) = poll.Ready (Err (send_fault.Memory held))
+  told_at_once (Err (send_error.Full held)) = poll.Pending
 
--- the state after that try: the unsent part, under the old ticket
-abbrev pub left_at_once : {K : Type 0} → Option ℕ → Result (Unit {0}) (TrySendError K) → Holding K
-left_at_once ticket (Err (send_error.Full held)) = record { kept = Some held; ticket = ticket }
-left_at_once ticket tried = done
+  abbrev pub left_at_once : Option ℕ → Result (Unit {0}) (TrySendError K) → Holding K
+  left_at_once ticket (Err (send_error.Full held)) = record { kept = Some held; ticket = ticket }
+  left_at_once ticket tried = done
 
--- what the poll of a send gives back, if it ends in an error
-abbrev pub handed_back : {K : Type 0} → Poll (Result (Unit {0}) (SendFault K)) → Option K
-handed_back (poll.Ready (Err fault)) = Some (unsent fault)
-handed_back polled = None
+  abbrev pub handed_back : Poll (Result (Unit {0}) (SendFault K)) → Option K
+  handed_back (poll.Ready (Err fault)) = Some (unsent fault)
+  handed_back polled = None
 
--- A try of a bulk send sends this prefix, if it sends any. If the try is answered, its ticket is in
--- neither list afterwards.
+-- A try of a bulk send sends this prefix, if any. Answered, its ticket is in neither list.
 pub record TriesFront {T P W R : Type 0} (old : State T P W) (given : Option ℕ)
     (front : List (T × P)) (told : Poll R)
     (handed : Handed W) (new : State T P W) : Type 0 where
@@ -71,36 +67,33 @@ pub record TriesFront {T P W R : Type 0} (old : State T P W) (given : Option ℕ
   pub answered : IfReady told (λ _. new ≡ record mid { waiters = unlist given mid.waiters })
   pub waits : OnPending told (new ≡ mid)
 
--- for every list that the old one holds, the new one holds a tail of that list
+-- for every list that `old` holds, `new` holds a tail of it
 pub record HoldsTail {X M : Type 0} (holds : M → List X → Type 0) (old new : M) : Type 0 where
   pub at : (list : List X) → holds old list → (n : ℕ) × holds new (drop n list)
 
--- the task of a send, which keeps its pair, and the task of a receive, which keeps nothing
-abbrev pub send_of : {T P : Type 0} → T × P → Tasks T P
-send_of pair = Send pair.0 pair.1
+module _ {T P : Type 0} where
+  -- the tasks of a send and of a receive, from what they keep
+  abbrev pub send_of : T × P → Tasks T P
+  send_of pair = Send pair.0 pair.1
 
-abbrev pub recv_of : {T P : Type 0} → Unit {0} → Tasks T P
-recv_of kept = Recv
+  abbrev pub recv_of : Unit {0} → Tasks T P
+  recv_of kept = Recv
 
--- the task of a future, unless the future is done
 abbrev pub task_left : {T P W M : Type 0} → Task T P M → Standing W → Option (Task T P M)
 task_left task Done = None
 task_left task standing = Some task
 
--- `holding` is the state of the future: its task, unless it is done, and its ticket. `task_of`
--- gives the task for the remaining work.
+-- `holding` is the state of the future; `task_of` gives its remaining task
 pub record IsKeptOf {T P W M K : Type 0} (task_of : K → Task T P M) (holding : Holding K)
     (future : Future T P W M) : Type 0 where
   pub task : option_map task_of holding.kept ≡ task_left future.task future.standing
   pub ticket : holding.ticket ≡ ticket_of future.standing
 
--- For one kind of future: the steps of the core that poll it, the task for its remaining work, and
--- the core's answers to its polls.
+-- for one kind of future
 module _ {T P W M K R : Type 0}
     (Performs : State T P W → Call T P W M → Answer T P M → Handed W → State T P W → Type 0)
     (task_of : K → Task T P M) (as_answer : CorePoll R K → Answer T P M) where
-  -- A future with this remaining work and this ticket is polled with the waker. The poll returns
-  -- what the core answers, and the state afterwards is that of the polled future.
+  -- this poll returns what the core answers, and leaves the state of the polled future
   pub record PollsKept (kept : K) (given : Option ℕ) (waker : W) (old : State T P W) (told : Poll R)
       (handed : Handed W)
       (new : State T P W) (left : Holding K) : Type 0 where

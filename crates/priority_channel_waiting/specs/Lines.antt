@@ -1,13 +1,11 @@
--- Queues of the threads that wait on one side. A thread is known by its number, which is given
--- once.
+-- Queues of the threads that wait on one side, by numbers that are given once.
 use Rattle.std.specs.Prelude.{◌≡◌, ℕ, List, Option, Some}
 use Rattle.priority_channel_core.specs.declared.side.Side.{Side}
 use Rattle.priority_channel_core.specs.machine.State.{State}
 use Rattle.priority_channel_core.specs.machine.Polls.{Ends}
 
--- the head (`first`), by its number and the waiter under which it sleeps; the ticket under which
--- the channel has listed it; the other threads behind it; the next number; and how many threads
--- spin before they join
+-- the head with its waiter and the ticket of its listing, the threads behind it, the next number,
+-- and how many threads spin before they join
 pub record Lined : Type 0 where
   pub first : Option (ℕ × ℕ)
   pub ticket : Option ℕ
@@ -15,11 +13,10 @@ pub record Lined : Type 0 where
   pub next_number : ℕ
   pub spinning : ℕ
 
--- the thread of this number is the head
 abbrev pub IsFirst : Lined → ℕ → Type 0
 IsFirst line number = (waiter : ℕ) × (line.first ≡ Some (number, waiter))
 
 module _ {T P : Type 0} where
-  -- the channel lists a waiter under this ticket: under the given one, if that is listed already
+  -- a listing under this ticket: the given one, if that is listed already
   abbrev pub Lists : Side → Option ℕ → ℕ → Option ℕ → State T P ℕ → State T P ℕ → Type 0
   Lists = Ends (λ waker kept. kept ≡ waker)

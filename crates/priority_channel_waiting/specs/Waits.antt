@@ -1,5 +1,4 @@
--- What a call that waits on its thread does on the core, and what it returns if it waited without
--- success.
+-- What a call that waits on its thread does, and what it returns without success.
 use Rattle.std.specs.Prelude.{◌≡◌, ℕ, List, Option, Some, None, ⊤, Result, Ok, Err, codes}
 use Rattle.priority_channel_core.specs.declared.calls.CorePoll.{CorePoll}
 use Rattle.priority_channel_core.specs.declared.calls.CorePoll.TheVariants.{Ready, Pending}
@@ -22,32 +21,29 @@ use Rattle.priority_channel_waiting.specs.declared.timeouts.SendTimeoutError.The
 use Rattle.priority_channel_waiting.specs.declared.timeouts.RecvTimeoutError.{RecvTimeoutError}
 use Rattle.priority_channel_waiting.specs.declared.timeouts.RecvTimeoutError.TheVariants as recv_timeout
 
--- what comes back from an attempt
-abbrev pub left_over : {D C : Type 0} → Outcome D C → Option C
-left_over (Done done) = None
-left_over (Blocked rest) = Some rest
-left_over (Closed rest) = Some rest
-left_over (Memory rest) = Some rest
+module _ {D C : Type 0} where
+  abbrev pub left_over : Outcome D C → Option C
+  left_over (Done done) = None
+  left_over (Blocked rest) = Some rest
+  left_over (Closed rest) = Some rest
+  left_over (Memory rest) = Some rest
 
--- a fact that holds if the outcome is that there was no room, or no message
-abbrev pub OnBlocked : {D C : Type 0} → Outcome D C → Type 0 → Type 0
-OnBlocked (Blocked rest) fact = fact
-OnBlocked outcome fact = ⊤
+  abbrev pub OnBlocked : Outcome D C → Type 0 → Type 0
+  OnBlocked (Blocked rest) fact = fact
+  OnBlocked outcome fact = ⊤
 
--- the outcome of a try of a send, from the core's answer
+-- the outcome of a try or a poll
 abbrev pub outcome_of_try : {C : Type 0} → Result (Unit {0}) (TrySendError C) → Outcome (Unit {0}) C
 outcome_of_try (Ok done) = Done done
 outcome_of_try (Err (try_send.Full rest)) = Blocked rest
 outcome_of_try (Err (try_send.Closed rest)) = Closed rest
 outcome_of_try (Err (try_send.Memory rest)) = Memory rest
 
--- the outcome of a try of a receive
 abbrev pub recv_tried : {X : Type 0} → Receive → Result X TryRecvError → Outcome X Receive
 recv_tried call (Ok pair) = Done pair
 recv_tried call (Err try_recv.Empty) = Blocked call
 recv_tried call (Err try_recv.Closed) = Closed call
 
--- the outcome of a poll of a receive
 abbrev pub recv_polled : {X : Type 0} → Receive → CorePoll (Result X RecvFault) (Unit {0})
     → Outcome X Receive
 recv_polled call (Ready (Ok pair)) = Done pair
@@ -55,61 +51,59 @@ recv_polled call (Ready (Err (recv_fault.Closed error))) = Closed call
 recv_polled call (Ready (Err recv_fault.Memory)) = Memory call
 recv_polled call (Pending kept ticket) = Blocked call
 
--- what a wait that ended without success gives back
-abbrev pub given_back : {C O : Type 0} → Ended C O → C
-given_back (ended.Over call over) = call
-given_back (ended.Closed call) = call
-given_back (ended.Memory call) = call
+module _ {C O : Type 0} where
+  abbrev pub given_back : Ended C O → C
+  given_back (ended.Over call over) = call
+  given_back (ended.Closed call) = call
+  given_back (ended.Memory call) = call
 
--- what was not sent in time
-abbrev pub unsent_in_time : {A : Type 0} → SendTimeoutError A → A
-unsent_in_time (send_timeout.Timeout held) = held
-unsent_in_time (send_timeout.Closed held) = held
-unsent_in_time (send_timeout.Memory held) = held
+  -- the error tells why a wait ended without success
+  abbrev pub TellsSendFault : Ended C O → SendFault C → Type 0
+  TellsSendFault (ended.Over call over) fault = ⊥
+  TellsSendFault (ended.Closed call) fault = fault ≡ send_fault.Closed (record { 0 = call })
+  TellsSendFault (ended.Memory call) fault = fault ≡ send_fault.Memory call
 
--- Each kind of error tells why a wait ended without success.
-abbrev pub TellsSendFault : {C O : Type 0} → Ended C O → SendFault C → Type 0
-TellsSendFault (ended.Over call over) fault = ⊥
-TellsSendFault (ended.Closed call) fault = fault ≡ send_fault.Closed (record { 0 = call })
-TellsSendFault (ended.Memory call) fault = fault ≡ send_fault.Memory call
+  abbrev pub TellsSendTimeout : Ended C O → SendTimeoutError C → Type 0
+  TellsSendTimeout (ended.Over call over) error = error ≡ send_timeout.Timeout call
+  TellsSendTimeout (ended.Closed call) error = error ≡ send_timeout.Closed call
+  TellsSendTimeout (ended.Memory call) error = error ≡ send_timeout.Memory call
 
-abbrev pub TellsSendTimeout : {C O : Type 0} → Ended C O → SendTimeoutError C → Type 0
-TellsSendTimeout (ended.Over call over) error = error ≡ send_timeout.Timeout call
-TellsSendTimeout (ended.Closed call) error = error ≡ send_timeout.Closed call
-TellsSendTimeout (ended.Memory call) error = error ≡ send_timeout.Memory call
+  abbrev pub TellsRecvFault : Ended C O → RecvFault → Type 0
+  TellsRecvFault (ended.Over call over) fault = ⊥
+  TellsRecvFault (ended.Closed call) fault = (e : RecvError) × (fault ≡ recv_fault.Closed e)
+  TellsRecvFault (ended.Memory call) fault = fault ≡ recv_fault.Memory
 
-abbrev pub TellsRecvFault : {C O : Type 0} → Ended C O → RecvFault → Type 0
-TellsRecvFault (ended.Over call over) fault = ⊥
-TellsRecvFault (ended.Closed call) fault = (e : RecvError) × (fault ≡ recv_fault.Closed e)
-TellsRecvFault (ended.Memory call) fault = fault ≡ recv_fault.Memory
+  abbrev pub TellsRecvTimeout : Ended C O → RecvTimeoutError → Type 0
+  TellsRecvTimeout (ended.Over call over) error = error ≡ recv_timeout.Timeout
+  TellsRecvTimeout (ended.Closed call) error = error ≡ recv_timeout.Closed
+  TellsRecvTimeout (ended.Memory call) error = error ≡ recv_timeout.Memory
 
-abbrev pub TellsRecvTimeout : {C O : Type 0} → Ended C O → RecvTimeoutError → Type 0
-TellsRecvTimeout (ended.Over call over) error = error ≡ recv_timeout.Timeout
-TellsRecvTimeout (ended.Closed call) error = error ≡ recv_timeout.Closed
-TellsRecvTimeout (ended.Memory call) error = error ≡ recv_timeout.Memory
+module _ {A : Type 0} where
+  abbrev pub unsent_in_time : SendTimeoutError A → A
+  unsent_in_time (send_timeout.Timeout held) = held
+  unsent_in_time (send_timeout.Closed held) = held
+  unsent_in_time (send_timeout.Memory held) = held
 
--- the same error, as one of a call that waits for a limited time
-abbrev pub send_fault_in_time : {A : Type 0} → SendFault A → SendTimeoutError A
-send_fault_in_time (send_fault.Closed error) = send_timeout.Closed error.0
-send_fault_in_time (send_fault.Memory held) = send_timeout.Memory held
+  -- the same error, of a call with a time limit
+  abbrev pub send_fault_in_time : SendFault A → SendTimeoutError A
+  send_fault_in_time (send_fault.Closed error) = send_timeout.Closed error.0
+  send_fault_in_time (send_fault.Memory held) = send_timeout.Memory held
+
+  -- `{}` output, and `{:?}` output: the variant, and nothing of what it has not sent
+  abbrev pub send_timeout_text : SendTimeoutError A → List ℕ
+  send_timeout_text (send_timeout.Timeout held) = codes "sending into a full channel timed out"
+  send_timeout_text (send_timeout.Closed held) = codes "sending into a closed channel"
+  send_timeout_text (send_timeout.Memory held) = codes "no memory for sending"
+
+  abbrev pub send_timeout_debug : SendTimeoutError A → List ℕ
+  send_timeout_debug (send_timeout.Timeout held) = codes "Timeout(..)"
+  send_timeout_debug (send_timeout.Closed held) = codes "Closed(..)"
+  send_timeout_debug (send_timeout.Memory held) = codes "Memory(..)"
 
 abbrev pub recv_fault_in_time : RecvFault → RecvTimeoutError
 recv_fault_in_time (recv_fault.Closed error) = recv_timeout.Closed
 recv_fault_in_time recv_fault.Memory = recv_timeout.Memory
 
--- the `{}` output for a send with a time limit, whatever it has not sent
-abbrev pub send_timeout_text : {A : Type 0} → SendTimeoutError A → List ℕ
-send_timeout_text (send_timeout.Timeout held) = codes "sending into a full channel timed out"
-send_timeout_text (send_timeout.Closed held) = codes "sending into a closed channel"
-send_timeout_text (send_timeout.Memory held) = codes "no memory for sending"
-
--- its `{:?}` output: the variant, and nothing of what it has not sent
-abbrev pub send_timeout_debug : {A : Type 0} → SendTimeoutError A → List ℕ
-send_timeout_debug (send_timeout.Timeout held) = codes "Timeout(..)"
-send_timeout_debug (send_timeout.Closed held) = codes "Closed(..)"
-send_timeout_debug (send_timeout.Memory held) = codes "Memory(..)"
-
--- the `{}` output for a receive with a time limit
 abbrev pub recv_timeout_text : RecvTimeoutError → List ℕ
 recv_timeout_text recv_timeout.Timeout = codes "receiving from an empty channel timed out"
 recv_timeout_text recv_timeout.Closed = codes "receiving from an empty and closed channel"

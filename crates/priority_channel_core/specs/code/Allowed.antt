@@ -27,20 +27,18 @@ module _ {T P W M : Type 0} where
   is_receiver_drop DropReceiver = true
   is_receiver_drop made = false
 
--- one side of a run, with the calls that are clones and the calls that are drops
 module _ {C : Type 0} (is_clone is_drop : C → Bool) where
-  -- the number of handles after the call, if no clone is refused
+  -- the count after this call, if no clone is refused
   abbrev pub count_after : ℕ → C → ℕ
   count_after count made =
       if is_clone made then count + 1 else if is_drop made then count - 1 else count
 
-  -- the change of the number of handles by a call: as much as the call asks, or nothing if a clone
-  -- was refused
+  -- as asked, or not at all if a clone was refused
   abbrev pub ChangesCount : ℕ → C → ℕ → Type 0
   ChangesCount old made new =
       (new ≡ count_after old made) ⊎ ((2 ^ 63 ≤ old) × (new ≡ old) × (is_clone made ≡ true))
 
-  -- in each prefix of the calls there are at most as many drops as handles and clones
+  -- a drop finds a handle in each prefix of the calls
   abbrev pub DropsFindHandles : ℕ → List C → Type 0
   DropsFindHandles count [] = ⊤
   DropsFindHandles count (made ∷ calls) =
@@ -51,15 +49,13 @@ module _ {C : Type 0} (is_clone is_drop : C → Bool) where
     pub drops : DropsFindHandles count calls
     pub clones : list_any is_drop calls ≡ true → count + count_by is_clone calls < 2 ^ 63
 
--- the change of the numbers of senders and receivers by a call
-pub record ChangesHandles {T P W M : Type 0} (old : State T P W) (made : Call T P W M)
-    (new : State T P W) : Type 0 where
-  pub senders : ChangesCount is_sender_clone is_sender_drop old.sender_count made new.sender_count
-  pub receivers : ChangesCount is_receiver_clone is_receiver_drop old.receiver_count made
-      new.receiver_count
+module _ {T P W M : Type 0} where
+  pub record ChangesHandles (old : State T P W) (made : Call T P W M)
+      (new : State T P W) : Type 0 where
+    pub senders : ChangesCount is_sender_clone is_sender_drop old.sender_count made new.sender_count
+    pub receivers : ChangesCount is_receiver_clone is_receiver_drop old.receiver_count made
+        new.receiver_count
 
--- these calls may be made from this state
-pub record AllowsRun {T P W M : Type 0} (s : State T P W)
-    (calls : List (Call T P W M)) : Type 0 where
-  pub senders : AllowsSide is_sender_clone is_sender_drop s.sender_count calls
-  pub receivers : AllowsSide is_receiver_clone is_receiver_drop s.receiver_count calls
+  pub record AllowsRun (s : State T P W) (calls : List (Call T P W M)) : Type 0 where
+    pub senders : AllowsSide is_sender_clone is_sender_drop s.sender_count calls
+    pub receivers : AllowsSide is_receiver_clone is_receiver_drop s.receiver_count calls

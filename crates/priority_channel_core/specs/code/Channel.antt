@@ -8,50 +8,45 @@ use Rattle.priority_channel_core.specs.machine.Good.{IsGood}
 use Rattle.priority_channel_bag.specs.Bag.{Contents}
 use Rattle.priority_channel_core.specs.Word.{Word}
 
--- a state, how many comparisons of two priorities and of two tickets were made, and whether the
--- least pair is known without a search
 pub record CountedState (T P W : Type 0) : Type 0 where
   pub state : State T P W
   pub priority_comparisons : ℕ
   pub ticket_comparisons : ℕ
   pub knows_least : Bool
 
--- the state that the parts of a channel make up
-abbrev pub state_of : {T P W : Type 0} → Contents T P → Word W → ℕ → Bool → ℕ → ℕ → State T P W
-state_of bag word capacity is_reserved sender_count receiver_count = record {
-  pending = bag.pending;
-  accepted = bag.accepted;
-  is_closed = word.is_closed;
-  capacity = capacity;
-  is_reserved = is_reserved;
-  sender_count = sender_count;
-  receiver_count = receiver_count;
-  waiters = word.waiters;
-}
+module _ {T P W : Type 0} where
+  abbrev pub state_of : Contents T P → Word W → ℕ → Bool → ℕ → ℕ → State T P W
+  state_of bag word capacity is_reserved sender_count receiver_count = record {
+    pending = bag.pending;
+    accepted = bag.accepted;
+    is_closed = word.is_closed;
+    capacity = capacity;
+    is_reserved = is_reserved;
+    sender_count = sender_count;
+    receiver_count = receiver_count;
+    waiters = word.waiters;
+  }
 
--- the parts agree, and make up a good state
-pub record IsSound {T P W : Type 0} (bag : Contents T P) (word : Word W)
-    (state : State T P W) : Type 0 where
-  pub counted : word.count ≡ length bag.pending
-  pub slots_kept : state.is_reserved ≡ true → state.capacity ≤ bag.slots
-  pub good : IsGood state
+  pub record IsSound (bag : Contents T P) (word : Word W) (state : State T P W)
+      : Type 0 where
+    pub counted : word.count ≡ length bag.pending
+    pub slots_kept : state.is_reserved ≡ true → state.capacity ≤ bag.slots
+    pub good : IsGood state
 
--- a call made at most this many comparisons of priorities, and of tickets; and if the least pair
--- was known before, it is known after the call
-abbrev pub ComparesAtMost : {T P W : Type 0} → ℕ → ℕ → CountedState T P W → CountedState T P W
-    → Type 0
-ComparesAtMost priorities tickets old new =
-    (new.priority_comparisons ≤ old.priority_comparisons + priorities)
-    × (new.ticket_comparisons ≤ old.ticket_comparisons + tickets)
-    × (old.knows_least ≡ true → new.knows_least ≡ true)
+  -- this many comparisons at most; the least pair stays known
+  abbrev pub ComparesAtMost : ℕ → ℕ → CountedState T P W → CountedState T P W → Type 0
+  ComparesAtMost priorities tickets old new =
+      (new.priority_comparisons ≤ old.priority_comparisons + priorities)
+      × (new.ticket_comparisons ≤ old.ticket_comparisons + tickets)
+      × (old.knows_least ≡ true → new.knows_least ≡ true)
 
--- the greatest number of comparisons of priorities until the least pair is known
-abbrev pub search_for_least : {T P W : Type 0} → CountedState T P W → ℕ
-search_for_least channel =
-    if channel.knows_least then 0
-    else length channel.state.pending * digits (length channel.state.pending)
+  -- comparisons until the least pair is known, at most
+  abbrev pub search_for_least : CountedState T P W → ℕ
+  search_for_least channel =
+      if channel.knows_least then 0
+      else length channel.state.pending * digits (length channel.state.pending)
 
--- a call on this side has to wait
-abbrev pub IsBlocked : {T P W : Type 0} → Side → State T P W → Type 0
-IsBlocked Room s = (s.is_closed ≡ false) × (room s ≡ 0)
-IsBlocked Message s = (s.is_closed ≡ false) × (s.pending ≡ [])
+  -- a call on this side has to wait
+  abbrev pub IsBlocked : Side → State T P W → Type 0
+  IsBlocked Room s = (s.is_closed ≡ false) × (room s ≡ 0)
+  IsBlocked Message s = (s.is_closed ≡ false) × (s.pending ≡ [])

@@ -10,34 +10,31 @@ use Rattle.priority_channel_core.specs.declared.side.Side.TheVariants.{Room}
 use Rattle.priority_channel_bag.specs.Bag.{Contents}
 use Rattle.priority_channel_core.specs.code.Lists.{HasList}
 
--- how many pairs were sent before the stop
 abbrev pub sent_before : Stop → ℕ
 sent_before (Ended n) = n
 sent_before (Filled n) = n
 sent_before (Memory n) = n
 
 module _ {S X : Type 0} (steps : S → Option X → S → Type 0) where
-  -- for every list that `old` has, the prefix `front` was taken from it, and `new` has the rest
+  -- the prefix `front` was taken from the list
   pub record Takes (old : Ahead S X) (front : List X) (new : Ahead S X) : Type 0 where
     pub at : (list : List X) → HasList steps old list
         → (rest : List X) × (list ≡ front ++ rest) × HasList steps new rest
 
-  -- for every list that it has, an item is left in it
   pub record HasMore (msgs : Ahead S X) : Type 0 where
     pub at : (list : List X) → HasList steps msgs list → 0 < length list
 
-  -- for every list that it has, no item is left in it
   pub record HasEnded (msgs : Ahead S X) : Type 0 where
     pub at : (list : List X) → HasList steps msgs list → list ≡ []
 
-  -- why the loop stopped before it had sent `room` items, or that it has sent them
+  -- why the loop stopped before `room` items, or that it sent them
   abbrev pub StopsFor : (ℕ → Type 0) → ℕ → Stop → Ahead S X → Type 0
   StopsFor is_refused room (Ended n) left = (n < room) × HasEnded left
   StopsFor is_refused room (Filled n) left = n ≡ room
   StopsFor is_refused room (Memory n) left = (n < room) × HasMore left × is_refused n
 
 module _ {S T P : Type 0} (steps : S → Option (T × P) → S → Type 0) where
-  -- `count` pairs were moved from the iterator into the bag
+  -- `count` pairs were moved from the iterator
   pub record MovesFront (old : Contents T P) (msgs : Ahead S (T × P)) (count : ℕ)
       (new : Contents T P)
       (left : Ahead S (T × P)) : Type 0 where
@@ -46,7 +43,6 @@ module _ {S T P : Type 0} (steps : S → Option (T × P) → S → Type 0) where
     pub takes : Takes steps msgs front left
     pub pending : new.pending ≡ old.pending ++ front
 
-  -- `count` pairs were moved from the iterator into the channel
   pub record SendsFront {W : Type 0} (old : State T P W) (msgs : Ahead S (T × P)) (count : ℕ)
       (handed : Handed W)
       (new : State T P W) (left : Ahead S (T × P)) : Type 0 where
@@ -55,8 +51,7 @@ module _ {S T P : Type 0} (steps : S → Option (T × P) → S → Type 0) where
     pub takes : Takes steps msgs front left
     pub adds : AddsFront old front handed new
 
--- a poll sent these pairs, whatever it answers; nothing else happened, except that its caller now
--- waits on the send side, or on no side
+-- a poll sent these pairs, and changed nothing else but its listing
 pub record PollsFront {T P W : Type 0} (is_clone : W → W → Type 0) (old : State T P W)
     (given : Option ℕ) (waker : W)
     (front : List (T × P)) (handed : Handed W) (new : State T P W) : Type 0 where

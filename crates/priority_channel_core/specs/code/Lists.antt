@@ -1,11 +1,10 @@
--- The list of pairs that a bulk send is given, as an iterator that can be peeked.
+-- The list of an iterator that can be peeked.
 use Rattle.std.specs.Prelude.{Option, List}
 use Rattle.std.specs.Iterator.{AlwaysYields}
 use Rattle.std.specs.Iterator.Adapters.{peekable_steps}
 use Rattle.std.specs.declared.iter.Ahead.{Ahead}
 
--- for every answer that `next` may give: call by call, it gives the items of the list in order, and
--- then None
+-- it always gives the items of the list in order, and then None
 pub record HasList {S X : Type 0} (steps : S → Option X → S → Type 0) (msgs : Ahead S X)
     (list : List X) : Type 0 where
   pub runs : AlwaysYields (peekable_steps steps) (λ x. x) msgs list

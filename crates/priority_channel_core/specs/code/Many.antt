@@ -1,17 +1,10 @@
--- Many receives, or takings, under one hold of the lock that guards the channel. Each is a step of
--- its own.
+-- Many receives, or takings: each is a step of its own.
 use Rattle.std.specs.Prelude.{◌≡◌, ℕ, List, [], ◌∷◌, map, Ok, Some}
 use Rattle.std.specs.declared.cmp.Ordering.{Ordering}
-use Rattle.priority_channel_core.specs.declared.calls.Call.TheVariants as call
+use Rattle.priority_channel_core.specs.declared.calls.Call.TheVariants.{TryRecv, TakeWhere}
 use Rattle.priority_channel_core.specs.declared.calls.Answer.TheVariants as answer
 use Rattle.priority_channel_core.specs.machine.State.{State, Handed, nobody}
-use Rattle.priority_channel_core.specs.machine.Step.{Calls, Answers}
 use Rattle.priority_channel_core.specs.machine.Run.{Operation, Run}
-
--- a call, and its answer
-pub record Reply (T P W : Type 0) : Type 0 where
-  pub call : Calls T P W
-  pub answer : Answers T P
 
 -- a pending pair, and its place in the order of acceptance
 pub record Placed (T P : Type 0) : Type 0 where
@@ -19,32 +12,32 @@ pub record Placed (T P : Type 0) : Type 0 where
   pub pair : T × P
 
 module _ {T P W : Type 0} where
-  -- these calls in a row; the first wakes the waiters that all of them wake
-  abbrev pub in_turn : {X : Type 0} → (X → Reply T P W) → List X → Handed W
+  abbrev pub receives : T × P → Handed W → Operation T P W
+  receives pair handed =
+      record { call = TryRecv; answer = answer.TryRecv (Ok pair); handed = handed }
+
+  abbrev pub takes : Placed T P → Handed W → Operation T P W
+  takes one handed = record {
+    call = TakeWhere one.place;
+    answer = answer.TakeWhere (Some one.pair);
+    handed = handed;
+  }
+
+  -- the first call wakes the waiters that all of them wake
+  abbrev pub in_turn : {X : Type 0} → (X → Handed W → Operation T P W) → List X → Handed W
       → List (Operation T P W)
-  in_turn reply [] handed = []
-  in_turn reply (x ∷ xs) handed =
-      record { call = (reply x).call; answer = (reply x).answer; handed = handed }
-      ∷ in_turn reply xs nobody
-
-  abbrev pub receives : T × P → Reply T P W
-  receives pair = record { call = call.TryRecv; answer = answer.TryRecv (Ok pair) }
-
-  abbrev pub takes : Placed T P → Reply T P W
-  takes one = record { call = call.TakeWhere one.place; answer = answer.TakeWhere (Some one.pair) }
+  in_turn makes [] handed = []
+  in_turn makes (x ∷ xs) handed = makes x handed ∷ in_turn makes xs nobody
 
 module _ {T P W : Type 0} (cmp : P → P → Ordering) (is_clone : W → W → Type 0) where
-  -- this many steps in a row; if there is none, nothing changes and no waiter is woken
-  pub record InTurn {X : Type 0} (reply : X → Reply T P W) (old : State T P W) (xs : List X)
-      (handed : Handed W) (new : State T P W) : Type 0 where
-    pub run : Run cmp is_clone old (in_turn reply xs handed) new
+  pub record InTurn {X : Type 0} (makes : X → Handed W → Operation T P W) (old : State T P W)
+      (xs : List X) (handed : Handed W) (new : State T P W) : Type 0 where
+    pub run : Run cmp is_clone old (in_turn makes xs handed) new
     pub nobody_for_none : xs ≡ [] → handed ≡ nobody
 
-  -- these pairs come, by as many receives in a row
   abbrev pub ReceivesInTurn : State T P W → List (T × P) → Handed W → State T P W → Type 0
   ReceivesInTurn = InTurn receives
 
-  -- these pairs are taken out, by as many takings in a row
   abbrev pub TakesInTurn : State T P W → List (T × P) → Handed W → State T P W → Type 0
   TakesInTurn old pairs handed new =
       (taken : List (Placed T P)) × (map (λ one. one.pair) taken ≡ pairs)

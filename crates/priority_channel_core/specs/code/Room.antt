@@ -1,27 +1,22 @@
 -- What a caller may know of a channel before it sends.
-use Rattle.std.specs.Prelude.{◌≡◌, ℕ, ◌+◌, ◌<◌, ◌^◌, true, false, List, ◌∷◌, ◌++◌, length}
+use Rattle.std.specs.Prelude.{◌≡◌, ◌+◌, ◌<◌, ◌^◌, true, false, List, ◌∷◌, ◌++◌, length}
 use Rattle.std.specs.declared.cmp.Ordering.{Ordering}
 use Rattle.std.specs.declared.cmp.Ordering.TheVariants.{Less}
 use Rattle.priority_channel_core.specs.machine.State.{State}
 
 module _ {T P W : Type 0} where
-  -- it is open, and has room for one more pair
   abbrev pub HasRoom : State T P W → Type 0
   HasRoom s = (s.is_closed ≡ false) × (length s.pending < s.capacity)
 
-  -- it is open, and full
   abbrev pub IsFull : State T P W → Type 0
   IsFull s = (s.is_closed ≡ false) × (length s.pending ≡ s.capacity)
 
-  -- a number is left for one more pair
   abbrev pub HasNumber : State T P W → Type 0
   HasNumber s = s.accepted + 1 < 2 ^ 64
 
-  -- and there is memory for it
   abbrev pub HasMemory : State T P W → Type 0
   HasMemory s = (s.is_reserved ≡ true) × HasNumber s
 
--- some pair of `pending` has a lesser priority than this
 pub record SomeBelow {T P : Type 0} (cmp : P → P → Ordering) (pending : List (T × P))
     (priority : P) : Type 0 where
   pub pair : T × P

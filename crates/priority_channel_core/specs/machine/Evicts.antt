@@ -1,5 +1,4 @@
--- A send that makes room in a full channel: a removal and then a send, with no other call in
--- between.
+-- A send that makes room: a removal and a send in one step.
 use Rattle.std.specs.Prelude.{◌≡◌, ◌-◌, ◌^◌, ◌⊎◌, false, [], ◌∷◌, Option, Some, None, Result, Ok, Err}
 use Rattle.std.specs.declared.cmp.Ordering.{Ordering}
 use Rattle.std.specs.declared.cmp.Ordering.TheVariants.{Less}
@@ -10,8 +9,7 @@ use Rattle.priority_channel_core.specs.machine.State.{State, Handed, room}
 use Rattle.priority_channel_core.specs.machine.Sends.{Refuses, Sends}
 
 module _ {T P W : Type 0} (cmp : P → P → Ordering) where
-  -- the last of the least pairs is taken out of a full channel; its priority is less than that of
-  -- the new pair
+  -- the last of the least pairs makes room for one of greater priority
   pub record MakesRoom (old : State T P W) (pair out : T × P) (new : State T P W) : Type 0 where
     pub full : room old ≡ 0
     pub less : cmp out.1 pair.1 ≡ Less
@@ -25,10 +23,9 @@ module _ {T P W : Type 0} (cmp : P → P → Ordering) where
       (mid : State T P W) × MakesRoom old pair out mid × Sends mid (pair ∷ []) (Ok tt) handed new
   Evicts old pair (Err (Closed held)) handed new =
       Sends old (pair ∷ []) (Err (Closed (held ∷ []))) handed new
-  -- if no pending pair has a lesser priority
   Evicts old pair (Err (Full held)) handed new =
       NoneBelow cmp old.pending pair.1 × Sends old (pair ∷ []) (Err (Full (held ∷ []))) handed new
-  -- as for a send, or if the last number of a pair was used
+  -- as for a send, or the last number of a pair was used
   Evicts old pair (Err (Memory held)) handed new =
       Sends old (pair ∷ []) (Err (Memory (held ∷ []))) handed new
       ⊎ ((old.is_closed ≡ false) × (room old ≡ 0) × (old.accepted ≡ 2 ^ 64 - 1) × (held ≡ pair)

@@ -1,5 +1,4 @@
--- Polls: a try to send or to receive, and then, if the channel was full or empty, a ticket in a
--- waiting list.
+-- Polls: a try, and a ticket in a waiting list if the channel was full or empty.
 use Rattle.std.specs.Prelude.{◌≡◌, ℕ, Option, Some, None, Result, Ok, Err}
 use Rattle.priority_channel_core.specs.declared.calls.CorePoll.{CorePoll}
 use Rattle.priority_channel_core.specs.declared.calls.CorePoll.TheVariants.{Ready, Pending}
@@ -15,9 +14,7 @@ use Rattle.priority_channel_core.specs.declared.errors.RecvFault.TheVariants as 
 use Rattle.priority_channel_core.specs.Waiters.{Enlists}
 use Rattle.priority_channel_core.specs.machine.State.{State, Handed}
 
--- The answer to the poll of a send, from the reply to its try and the ticket under which the caller
--- now waits. The caller waits only if the channel was full. If its listing was refused, the answer
--- is Memory.
+-- The answer to the poll. Only Full waits, or is Memory if the listing was refused.
 abbrev pub send_answer : {K : Type 0} → Result (Unit {0}) (TrySendError K) → Option ℕ
     → Option (CorePoll (Result (Unit {0}) (SendFault K)) K)
 send_answer (Err (try_send.Full rest)) (Some ticket) = Some (Pending rest ticket)
@@ -28,7 +25,7 @@ send_answer (Err (try_send.Closed rest)) None =
 send_answer (Ok done) None = Some (Ready (Ok done))
 send_answer reply (Some ticket) = None
 
--- the same for a receive, which waits if the channel was empty
+-- a receive waits if the channel was empty
 abbrev pub recv_answer : {A : Type 0} → Result A TryRecvError → Option ℕ
     → Option (CorePoll (Result A RecvFault) (Unit {0}))
 recv_answer (Err try_recv.Empty) (Some ticket) = Some (Pending tt ticket)
@@ -38,13 +35,12 @@ recv_answer (Ok pair) None = Some (Ready (Ok pair))
 recv_answer reply (Some ticket) = None
 
 module _ {T P W : Type 0} (is_clone : W → W → Type 0) where
-  -- nothing changes, except that the caller now waits on this side or, without a ticket, on neither
+  -- the caller waits on this side or, without a ticket, on neither
   abbrev pub Ends : Side → Option ℕ → W → Option ℕ → State T P W → State T P W → Type 0
   Ends side given waker ticket old new =
       Enlists is_clone side given waker ticket old.waiters new.waiters
       × (new ≡ record old { waiters = new.waiters })
 
-  -- a try that leaves the channel in `mid`, and then the end of the poll
   pub record Polls {R A : Type 0} (tries : R → Handed W → State T P W → Type 0)
       (answer_by : R → Option ℕ → Option A) (side : Side) (given : Option ℕ) (waker : W)
       (answer : A)

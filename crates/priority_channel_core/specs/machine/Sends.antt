@@ -1,10 +1,10 @@
--- Sending a list of pairs. A send of one pair is a send of the list of that pair.
+-- Sending a list of pairs.
 use Rattle.std.specs.Prelude.{◌≡◌, ◌+◌, ◌-◌, ◌<◌, ◌≤◌, ◌^◌, ◌⊎◌, true, false, ◌==◌, if◌then◌else◌, List, [], ◌∷◌, ◌++◌, length, Result, Ok, Err}
 use Rattle.priority_channel_core.specs.declared.errors.TrySendError.{TrySendError}
 use Rattle.priority_channel_core.specs.declared.errors.TrySendError.TheVariants.{Full, Closed, Memory}
 use Rattle.priority_channel_core.specs.machine.State.{State, Handed, nobody, room}
 
--- the reply to a send of one pair, as the reply to a send of a list
+-- the reply to a send of one pair, as one to a send of a list
 abbrev pub as_list : {A : Type 0} → Result (Unit {0}) (TrySendError A)
     → Result (Unit {0}) (TrySendError (List A))
 as_list (Ok done) = Ok done
@@ -13,12 +13,10 @@ as_list (Err (Full pair)) = Err (Full (pair ∷ []))
 as_list (Err (Memory pair)) = Err (Memory (pair ∷ []))
 
 module _ {T P W : Type 0} (old : State T P W) where
-  -- nothing changes, and no waiter is woken
   abbrev pub Refuses : Handed W → State T P W → Type 0
   Refuses handed new = (handed ≡ nobody) × (new ≡ old)
 
-  -- nothing happened, except that these pairs were added; if there are any, all waiting receivers
-  -- are woken
+  -- only these pairs were added; if there are any, all waiting receivers are woken
   pub record AddsFront (front : List (T × P)) (handed : Handed W) (new : State T P W) : Type 0 where
     pub handed_is : handed
         ≡ (if length front == 0 then nobody
@@ -31,22 +29,21 @@ module _ {T P W : Type 0} (old : State T P W) where
       };
     }
 
-  -- an open channel accepts these pairs
   abbrev pub Accepts : List (T × P) → Handed W → State T P W → Type 0
   Accepts front handed new = (old.is_closed ≡ false) × AddsFront front handed new
 
-  -- what comes back with an error is the rest, which was not accepted
+  -- `rest` was not accepted, and comes back
   abbrev pub Sends : List (T × P) → Result (Unit {0}) (TrySendError (List (T × P)))
       → Handed W → State T P W → Type 0
   Sends pairs (Ok done) handed new =
       (0 < room old) × (length pairs ≤ room old) × Accepts pairs handed new
   Sends pairs (Err (Closed rest)) handed new =
       (old.is_closed ≡ true) × (rest ≡ pairs) × Refuses handed new
-  -- as many as there was room for; there was no room for all
+  -- as many as there was room for
   Sends pairs (Err (Full rest)) handed new =
       (front : List (T × P)) × (pairs ≡ front ++ rest) × (length front ≡ room old)
       × ((room old ≡ 0) ⊎ (0 < length rest)) × Accepts front handed new
-  -- stopped before a pair that was there and had room
+  -- stopped before a pair that had room
   Sends pairs (Err (Memory rest)) handed new =
       (front : List (T × P)) × (pairs ≡ front ++ rest) × (length front < room old)
       × (0 < length rest) × Accepts front handed new

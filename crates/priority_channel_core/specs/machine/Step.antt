@@ -1,8 +1,8 @@
--- One step of the machine: a call, its answer, the waiters that it wakes, and the state after it.
+-- One step: a call, its answer, whom it wakes, and the state after it.
 use Rattle.std.specs.Prelude.{◌+◌, ◌-◌, ◌==◌, List, [], ◌∷◌, length, Some}
 use Rattle.std.specs.declared.cmp.Ordering.{Ordering}
 use Rattle.priority_channel_core.specs.declared.calls.Call.{Call}
-use Rattle.priority_channel_core.specs.declared.calls.Call.TheVariants as call
+use Rattle.priority_channel_core.specs.declared.calls.Call.TheVariants.{TrySend, TrySendv, TrySendEvicting, TryRecv, TakeWhere, Close, IsClosed, IsEmpty, IsFull, Len, Capacity, SenderCount, ReceiverCount, CloneSender, CloneReceiver, DropSender, DropReceiver, PollSend, PollSendv, PollRecv, GiveUp}
 use Rattle.priority_channel_core.specs.declared.calls.Answer.{Answer}
 use Rattle.priority_channel_core.specs.declared.calls.Answer.TheVariants as answer
 use Rattle.priority_channel_core.specs.machine.State.{State, Handed}
@@ -14,54 +14,51 @@ use Rattle.priority_channel_core.specs.Waiters.{unlist}
 use Rattle.priority_channel_core.specs.machine.Polls.{send_answer, recv_answer, Polls}
 use Rattle.priority_channel_core.specs.declared.side.Side.TheVariants.{Room, Message}
 
--- the calls and answers of the machine, where a bulk send is given a list, and gives a list back
+-- with a list for a bulk send
 abbrev pub Calls : (T P W : Type 0) → Type 0
 Calls T P W = Call T P W (List (T × P))
 
 abbrev pub Answers : (T P : Type 0) → Type 0
 Answers T P = Answer T P (List (T × P))
 
--- `cmp` compares two priorities; `is_clone waker kept` holds if a clone of the waker may give
--- `kept`
+-- `is_clone waker kept` holds if a clone of the waker may give `kept`
 module _ {T P W : Type 0} (cmp : P → P → Ordering) (is_clone : W → W → Type 0) where
   abbrev pub Moves : State T P W → Calls T P W → Answers T P → Handed W → State T P W → Type 0
-  Moves old (call.TrySend msg priority) (answer.TrySend reply) =
+  Moves old (TrySend msg priority) (answer.TrySend reply) =
       Sends old ((msg, priority) ∷ []) (as_list reply)
-  Moves old (call.TrySendv pairs) (answer.TrySendv reply) = Sends old pairs reply
-  Moves old (call.TrySendEvicting msg priority) (answer.TrySendEvicting reply) =
+  Moves old (TrySendv pairs) (answer.TrySendv reply) = Sends old pairs reply
+  Moves old (TrySendEvicting msg priority) (answer.TrySendEvicting reply) =
       Evicts cmp old (msg, priority) reply
-  Moves old call.TryRecv (answer.TryRecv reply) = Receives cmp old reply
-  Moves old (call.TakeWhere place) (answer.TakeWhere taken) = Takes old place taken
-  Moves old call.Close (answer.Close was_open) = Closes old was_open
-  Moves old call.IsClosed (answer.IsClosed told) = Looks old old.is_closed told
-  Moves old call.IsEmpty (answer.IsEmpty told) = Looks old (length old.pending == 0) told
-  Moves old call.IsFull (answer.IsFull told) = Looks old (length old.pending == old.capacity) told
-  Moves old call.Len (answer.Len told) = Looks old (length old.pending) told
-  Moves old call.Capacity (answer.Capacity told) = Looks old (capacity_told old.capacity) told
-  Moves old call.SenderCount (answer.SenderCount told) = Looks old old.sender_count told
-  Moves old call.ReceiverCount (answer.ReceiverCount told) = Looks old old.receiver_count told
-  Moves old call.CloneSender (answer.CloneSender done) =
+  Moves old TryRecv (answer.TryRecv reply) = Receives cmp old reply
+  Moves old (TakeWhere place) (answer.TakeWhere taken) = Takes old place taken
+  Moves old Close (answer.Close was_open) = Closes old was_open
+  Moves old IsClosed (answer.IsClosed told) = Looks old old.is_closed told
+  Moves old IsEmpty (answer.IsEmpty told) = Looks old (length old.pending == 0) told
+  Moves old IsFull (answer.IsFull told) = Looks old (length old.pending == old.capacity) told
+  Moves old Len (answer.Len told) = Looks old (length old.pending) told
+  Moves old Capacity (answer.Capacity told) = Looks old (capacity_told old.capacity) told
+  Moves old SenderCount (answer.SenderCount told) = Looks old old.sender_count told
+  Moves old ReceiverCount (answer.ReceiverCount told) = Looks old old.receiver_count told
+  Moves old CloneSender (answer.CloneSender done) =
       Clones old.sender_count (record old { sender_count = old.sender_count + 1 }) done old
-  Moves old call.CloneReceiver (answer.CloneReceiver done) =
+  Moves old CloneReceiver (answer.CloneReceiver done) =
       Clones old.receiver_count (record old { receiver_count = old.receiver_count + 1 }) done old
-  Moves old call.DropSender answer.DropSender =
+  Moves old DropSender answer.DropSender =
       Drops old.sender_count (record old { sender_count = old.sender_count - 1 })
-  Moves old call.DropReceiver answer.DropReceiver =
+  Moves old DropReceiver answer.DropReceiver =
       Drops old.receiver_count (record old { receiver_count = old.receiver_count - 1 })
-  Moves old (call.PollSend msg priority given waker) (answer.PollSend answer) =
+  Moves old (PollSend msg priority given waker) (answer.PollSend answer) =
       Polls is_clone (λ reply. Sends old ((msg, priority) ∷ []) (as_list reply))
       send_answer Room given
       waker answer
-  Moves old (call.PollSendv pairs given waker) (answer.PollSendv answer) =
+  Moves old (PollSendv pairs given waker) (answer.PollSendv answer) =
       Polls is_clone (Sends old pairs) send_answer Room given waker answer
-  Moves old (call.PollRecv given waker) (answer.PollRecv answer) =
+  Moves old (PollRecv given waker) (answer.PollRecv answer) =
       Polls is_clone (Receives cmp old) recv_answer Message given waker answer
-  Moves old (call.GiveUp ticket) answer.GiveUp =
+  Moves old (GiveUp ticket) answer.GiveUp =
       Refuses (record old { waiters = unlist (Some ticket) old.waiters })
-  -- no other answer is given
   Moves old _ _ = λ handed new. ⊥
 
-  -- a step leads to a good state
   pub record Step (old : State T P W) (made : Calls T P W) (reply : Answers T P) (handed : Handed W)
       (new : State T P W) : Type 0 where
     pub moves : Moves old made reply handed new

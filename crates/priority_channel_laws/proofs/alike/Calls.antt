@@ -16,7 +16,6 @@ use Rattle.priority_channel_laws.proofs.runs.Effects.{all_but-front}
 use Rattle.priority_channel_bag.proofs.Extremes.{one_greatest}
 use Rattle.priority_channel_laws.proofs.alike.Lists.{SameList, same_after, handed_same, nobody_same, same_pending, same_closed, same_capacity}
 
--- two splits of one list, after the same number of items
 split_same : {A : Type 0} (front rest before after : List A) → front ++ rest ≡ before ++ after → length before ≡ length front
     → (before ≡ front) × (after ≡ rest)
 split_same [] rest [] after e l = (refl, sym e)
@@ -29,7 +28,6 @@ split_same (x ∷ front) rest (y ∷ before) after e l =
     (rw (head, more.0) refl, more.1)
 
 module _ {T P W : Type 0} (is_clone : W → W → Type 0) where
-  -- the same waiters woken, and the same state
   pub record Both (h h' : Handed W) (k k' : State T P W) : Type 0 where
     pub handed : SameHanded is_clone h h'
     pub state : SameState is_clone k k'
@@ -63,14 +61,12 @@ module _ {T P W : Type 0} (is_clone : W → W → Type 0) where
         messages true = same.waiters.message
         messages false = tt
 
-    -- the same number of pairs was accepted, so the same pairs were
     fronts_same : (pairs f u g v : List (T × P)) → pairs ≡ f ++ u → pairs ≡ g ++ v → length g ≡ length f → Accepts s f h k → Accepts r g h' k'
         → (v ≡ u) × Both h h' k k'
     fronts_same pairs f u g v p q l a b =
         let split = split_same f u g v (sym p ∙ q) l in
         (split.1, accepts_same f a (rw split.0 at b))
 
-    -- the lengths of the parts of a split
     parts_long : (pairs front rest : List (T × P)) → pairs ≡ front ++ rest
         → (length pairs ≡ length front + length rest) × (length (all_but rest pairs) ≡ length front)
     parts_long pairs front rest p = rw p (length-append front rest, ap length (all_but-front front rest))
@@ -108,7 +104,6 @@ module _ {T P W : Type 0} (is_clone : W → W → Type 0) where
         let t = fronts_same pairs a.0 u b.0 v a.1 b.1 (sym d ∙ (count ∙ c)) a.4 b.4 in
         (ap (λ (z : List (T × P)). Err (send_error.Memory z)) t.0, t.1)
 
-    -- a state with the waiters of both lists woken
     shuts_same : (s' r' : State T P W) → SameState is_clone s' r' → Shuts s' h k → Shuts r' h' k' → Both h h' k k'
     shuts_same s' r' e a b = record {
       handed = handed_same is_clone h h' _ _ a.0 b.0 (record { room = e.waiters.room; message = e.waiters.message });
@@ -138,7 +133,6 @@ module _ {T P W : Type 0} (is_clone : W → W → Type 0) where
     drops_same (suc zero) s' r' e a b = shuts_same s' r' e a b
     drops_same (suc (suc n)) s' r' e a b = record { handed = nobody_same is_clone h h' a.0 b.0; state = same_after is_clone k k' s' r' a.1 b.1 e }
 
-    -- the same pairs are left, if the waiting senders are woken
     frees_same : k.pending ≡ k'.pending → Frees s h k → Frees r h' k' → Both h h' k k'
     frees_same left a b = record {
       handed = handed_same is_clone h h' _ _ a.0 b.0 (record { room = same.waiters.room; message = tt });

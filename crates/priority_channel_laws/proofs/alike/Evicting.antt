@@ -17,7 +17,6 @@ use Rattle.priority_channel_laws.proofs.alike.Lists.{same_after, same_pending}
 use Rattle.priority_channel_laws.proofs.alike.Calls.{Both, rooms, refuses_same, sends_same}
 use Rattle.priority_channel_laws.proofs.alike.Polls.{as_list_one}
 
--- an error, as the reply of a send that may displace a pair
 abbrev again : {A E : Type 0} → Result (Unit {0}) E → Result (Option A) E
 again (Ok done) = Ok None
 again (Err error) = Err error
@@ -58,12 +57,9 @@ module _ {T P W : Type 0} (is_clone : W → W → Type 0) {cmp : P → P → Ord
   evicts_same (Err (Closed u)) (Err (Full v)) a b count memory = refused_same (Closed u) (Full v) a b.1
   evicts_same (Err (Full u)) (Err (Closed v)) a b count memory = refused_same (Full u) (Closed v) a.1 b
   evicts_same (Err (Full u)) (Err (Full v)) a b count memory = refused_same (Full u) (Full v) a.1 b.1
-  evicts_same (Err (Closed u)) (Err (Memory v)) a b count memory = absurd (cc)
-  evicts_same (Err (Full u)) (Err (Memory v)) a b count memory = absurd (cc)
-  evicts_same (Err (Memory u)) (Err (Closed v)) a b count memory = absurd (cc)
-  evicts_same (Err (Memory u)) (Err (Full v)) a b count memory = absurd (cc)
   evicts_same (Err (Memory u)) (Err (Memory v)) (inl a) (inl b) count memory = refused_same (Memory u) (Memory v) a b
   evicts_same (Err (Memory u)) (Err (Memory v)) (inl a) (inr b) count memory = absurd (omega (arith, a.2, b.1, rooms is_clone s r k k' h h' same))
   evicts_same (Err (Memory u)) (Err (Memory v)) (inr a) (inl b) count memory = absurd (omega (arith, b.2, a.1, rooms is_clone s r k k' h h' same))
   evicts_same (Err (Memory u)) (Err (Memory v)) (inr a) (inr b) count memory =
       (ap (λ (z : T × P). Err (Memory z)) (b.3 ∙ sym a.3), refuses_same is_clone s r k k' h h' same a.4 b.4)
+  evicts_same x y a b count memory = absurd (cc)

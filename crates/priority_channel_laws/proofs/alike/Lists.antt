@@ -20,14 +20,11 @@ module _ {W : Type 0} (is_clone : W → W → Type 0) where
 
   pub same_listed : (t : ℕ) (xs ys : List (ℕ × W)) → SameList xs ys → is_listed t ys ≡ is_listed t xs
   same_listed t [] [] h = refl
-  same_listed t [] (y ∷ ys) h = absurd h
-  same_listed t (x ∷ xs) [] h = absurd h
   same_listed t (x ∷ xs) (y ∷ ys) h = let e = h.0.0 in let r = same_listed t xs ys h.1 in rw (e, r) refl
+  same_listed t xs ys h = absurd h
 
   pub same_without : (t : ℕ) (xs ys : List (ℕ × W)) → SameList xs ys → SameList (without t xs) (without t ys)
   same_without t [] [] h = tt
-  same_without t [] (y ∷ ys) h = absurd h
-  same_without t (x ∷ xs) [] h = absurd h
   same_without t (x ∷ xs) (y ∷ ys) h =
       let e : (y.0 == t) ≡ (x.0 == t) = ap (λ (u : ℕ). u == t) h.0.0 in
       rw e (either (not (x.0 == t)) (same_without t xs ys h.1))
@@ -35,6 +32,7 @@ module _ {W : Type 0} (is_clone : W → W → Type 0) where
       either : (b : Bool) → SameList (without t xs) (without t ys) → SameList (if b then x ∷ without t xs else without t xs) (if b then y ∷ without t ys else without t ys)
       either true k = (h.0, k)
       either false k = k
+  same_without t xs ys h = absurd h
 
   pub same_without_given : (given : Option ℕ) (xs ys : List (ℕ × W)) → SameList xs ys → SameList (without_given given xs) (without_given given ys)
   same_without_given None xs ys h = h
@@ -42,8 +40,6 @@ module _ {W : Type 0} (is_clone : W → W → Type 0) where
 
   pub same_with_waker : (t : ℕ) (k l w : W) (xs ys : List (ℕ × W)) → is_clone w k → is_clone w l → SameList xs ys → SameList (with_waker t k xs) (with_waker t l ys)
   same_with_waker t k l w [] [] c d h = tt
-  same_with_waker t k l w [] (y ∷ ys) c d h = absurd h
-  same_with_waker t k l w (x ∷ xs) [] c d h = absurd h
   same_with_waker t k l w (x ∷ xs) (y ∷ ys) c d h =
       let e : (y.0 == t) ≡ (x.0 == t) = ap (λ (u : ℕ). u == t) h.0.0 in
       (rw e (either (x.0 == t)), same_with_waker t k l w xs ys c d h.1)
@@ -51,6 +47,7 @@ module _ {W : Type 0} (is_clone : W → W → Type 0) where
       either : (b : Bool) → SameWaiter is_clone (if b then (t, k) else x) (if b then (t, l) else y)
       either true = (refl, inr (w, c, d))
       either false = h.0
+  same_with_waker t k l w xs ys c d h = absurd h
 
   -- the same ticket, in lists of the same waiters
   pub record SameListing (one other : Listing W) : Type 0 where
@@ -84,7 +81,6 @@ module _ {W : Type 0} (is_clone : W → W → Type 0) where
     next_ticket = same.next_ticket;
   }
 
-  -- listed on the same side
   same_enlist : (side : Side) (one other : Listing W) (w v : Waiters W) → SameListing one other → SameWaiters is_clone w v
       → SameWaiters is_clone (enlist side one w) (enlist side other v)
   same_enlist Room one other w v listings same = record { room = listings.waiters; message = same.message; next_ticket = listings.next }
@@ -97,13 +93,10 @@ module _ {W : Type 0} (is_clone : W → W → Type 0) where
   pub waiters_after : (u v w x : Waiters W) → u ≡ w → v ≡ x → SameWaiters is_clone w x → SameWaiters is_clone u v
   waiters_after u v w x e f h = subst (λ z. SameWaiters is_clone z v) (sym e) (subst (λ z. SameWaiters is_clone w z) (sym f) h)
 
-  -- waiters that are listed on the same side, or both on none
   pub same_enlists : (side : Side) (given t u : Option ℕ) (waker : W) (old new old' new' : Waiters W) → SameWaiters is_clone old old'
       → is_some u ≡ is_some t → Enlists is_clone side given waker t old new → Enlists is_clone side given waker u old' new'
       → (u ≡ t) × SameWaiters is_clone new new'
   same_enlists side given None None waker old new old' new' same both a b = (refl, waiters_after new new' _ _ a b (same_unlist given old old' same))
-  same_enlists side given None (Some u) waker old new old' new' same both a b = absurd (cc)
-  same_enlists side given (Some t) None waker old new old' new' same both a b = absurd (cc)
   same_enlists side given (Some t) (Some u) waker old new old' new' same both a b =
       let n = old.next_ticket in
       let at : ℕ → Type 0 = λ m. let listings = listing given b.0 (on_side side old') m in (u ≡ listings.ticket) × (new' ≡ enlist side listings old') in
@@ -112,6 +105,7 @@ module _ {W : Type 0} (is_clone : W → W → Type 0) where
         ap (λ (m : ℕ). Some m) (here.0 ∙ (listings.ticket ∙ sym a.2.0)),
         waiters_after new new' _ _ a.2.1 here.1 (same_enlist side _ _ old old' listings same),
       )
+  same_enlists side given t u waker old new old' new' same both a b = absurd (cc)
 
   pub waiters_same : (w : Waiters W) → SameWaiters is_clone w w
   waiters_same w = record { room = list_same w.room; message = list_same w.message; next_ticket = refl }
@@ -135,7 +129,6 @@ module _ {W : Type 0} (is_clone : W → W → Type 0) where
         → SameState is_clone (record s { waiters = unlist given s.waiters }) (record r { waiters = unlist given r.waiters })
     same_unlisted given s r h = same_waiting _ _ s r refl refl h (same_unlist given s.waiters r.waiters h.waiters)
 
-    -- what two states that are the same have in common
     pub same_pending : {s r : State T P W} → SameState is_clone s r → r.pending ≡ s.pending
     same_pending h = ap (λ (x : State T P W). x.pending) h.others
 

@@ -27,12 +27,9 @@ use Rattle.priority_channel_laws.proofs.runs.Effects.{poll_sent-is, accepted_one
 use Rattle.priority_channel_laws.proofs.alike.Lists.{same_waiting, same_enlists}
 use Rattle.priority_channel_laws.proofs.alike.Calls.{Both, sends_same, receives_same}
 
--- whether a poll of a send answers Memory
 pub poll_memory : {A : Type 0} → CorePoll (Result (Unit {0}) (SendFault A)) A → Bool
-poll_memory (Ready (Ok d)) = false
-poll_memory (Ready (Err (send_fault.Closed e))) = false
 poll_memory (Ready (Err (send_fault.Memory rest))) = true
-poll_memory (Pending rest ticket) = false
+poll_memory poll = false
 
 pub is_memory-poll_sendv : {T P : Type 0} (x : CorePoll (Result (Unit {0}) (SendFault (List (T × P)))) (List (T × P))) → poll_memory x ≡ is_memory {T = T} {P = P} (answer.PollSendv x)
 unfolding poll_memory
@@ -48,37 +45,23 @@ is_memory-poll_send (Ready (Err (send_fault.Closed e))) = refl
 is_memory-poll_send (Ready (Err (send_fault.Memory rest))) = refl
 is_memory-poll_send (Pending rest ticket) = refl
 
--- one pair, and the list of that pair
 pub as_list_one : {A : Type 0} (x y : Result (Unit {0}) (TrySendError A)) → as_list y ≡ as_list x → y ≡ x
 as_list_one (Ok d) (Ok e) h = refl
 as_list_one (Ok d) (Err (send_error.Closed q)) h = cc
-as_list_one (Ok d) (Err (send_error.Full q)) h = cc
-as_list_one (Ok d) (Err (send_error.Memory q)) h = cc
-as_list_one (Err (send_error.Closed p)) (Ok e) h = cc
 as_list_one (Err (send_error.Closed p)) (Err (send_error.Closed q)) h = cc
-as_list_one (Err (send_error.Closed p)) (Err (send_error.Full q)) h = cc
-as_list_one (Err (send_error.Closed p)) (Err (send_error.Memory q)) h = cc
-as_list_one (Err (send_error.Full p)) (Ok e) h = cc
-as_list_one (Err (send_error.Full p)) (Err (send_error.Closed q)) h = cc
 as_list_one (Err (send_error.Full p)) (Err (send_error.Full q)) h = cc
-as_list_one (Err (send_error.Full p)) (Err (send_error.Memory q)) h = cc
-as_list_one (Err (send_error.Memory p)) (Ok e) h = cc
-as_list_one (Err (send_error.Memory p)) (Err (send_error.Closed q)) h = cc
-as_list_one (Err (send_error.Memory p)) (Err (send_error.Full q)) h = cc
 as_list_one (Err (send_error.Memory p)) (Err (send_error.Memory q)) h = cc
+as_list_one x y h = cc
 
--- a poll that waits, and one that was refused memory, do not answer alike
 only_one : {K : Type 0} (reply : Result (Unit {0}) (TrySendError K)) (u : ℕ) (x y : CorePoll (Result (Unit {0}) (SendFault K)) K)
     → send_answer reply None ≡ Some x → send_answer reply (Some u) ≡ Some y → poll_memory y ≡ poll_memory x → ⊥
 unfolding poll_memory
-only_one (Ok done) u x y a b memory = cc
-only_one (Err (send_error.Closed rest)) u x y a b memory = cc
-only_one (Err (send_error.Memory rest)) u x y a b memory = cc
 only_one (Err (send_error.Full rest)) u x y a b memory =
     let e : x ≡ Ready (Err (send_fault.Memory rest)) = cc in
     let f : y ≡ Pending rest u = cc in
     let m : poll_memory (Pending rest u) ≡ poll_memory (Ready (Err (send_fault.Memory rest))) = rw (e, f) at memory in
     absurd (cc)
+only_one reply u x y a b memory = cc
 
 -- of two polls whose tries had the same reply, both wait or neither does, if both or neither
 -- answered Memory
@@ -92,13 +75,12 @@ sends_wait_alike reply (Some t) None x y a b memory = absurd (only_one reply t y
 only_one_receives : {T P : Type 0} (reply : Result (T × P) TryRecvError) (u : ℕ) (x y : CorePoll (Result (T × P) RecvFault) (Unit {0}))
     → recv_answer reply None ≡ Some x → recv_answer reply (Some u) ≡ Some y
     → is_memory {T = T} {P = P} (answer.PollRecv y) ≡ is_memory {T = T} {P = P} (answer.PollRecv x) → ⊥
-only_one_receives (Ok pair) u x y a b memory = cc
-only_one_receives (Err recv_error.Closed) u x y a b memory = cc
 only_one_receives {T} {P} (Err recv_error.Empty) u x y a b memory =
     let e : x ≡ Ready (Err recv_fault.Memory) = cc in
     let f : y ≡ Pending tt u = cc in
     let m : false ≡ true = rw (e, f) at memory in
     absurd (cc)
+only_one_receives reply u x y a b memory = cc
 
 recvs_wait_alike : {T P : Type 0} (reply : Result (T × P) TryRecvError) (t u : Option ℕ) (x y : CorePoll (Result (T × P) RecvFault) (Unit {0}))
     → recv_answer reply t ≡ Some x → recv_answer reply u ≡ Some y
@@ -109,14 +91,12 @@ recvs_wait_alike {T} {P} reply None (Some u) x y a b memory = absurd (only_one_r
 recvs_wait_alike {T} {P} reply (Some t) None x y a b memory = absurd (only_one_receives {T = T} {P = P} reply t y x b a (sym memory))
 
 module _ {T P W : Type 0} (is_clone : W → W → Type 0) {cmp : P → P → Ordering} (o : IsTotalOrder cmp) (s r k k' : State T P W) (h h' : Handed W) (same : SameState is_clone s r) where
-  -- two polls, of which both wait or neither does
   ends_same : (side : Side) (given t u : Option ℕ) (waker : W) (m m' : State T P W) → Both is_clone h h' m m' → is_some u ≡ is_some t
       → Ends is_clone side given waker t m k → Ends is_clone side given waker u m' k' → (u ≡ t) × Both is_clone h h' k k'
   ends_same side given t u waker m m' both alike a b =
       let listed = same_enlists is_clone side given t u waker m.waiters k.waiters m'.waiters k'.waiters both.state.waiters alike a.0 b.0 in
       (listed.0, record { handed = both.handed; state = same_waiting is_clone k k' m m' a.1 b.1 both.state listed.1 })
 
-  -- two polls whose tries had the same outcome
   polls_same : {R A : Type 0} {tries others : R → Handed W → State T P W → Type 0} {answer_by : R → Option ℕ → Option A} {side : Side} {given : Option ℕ}
       {waker : W} {x y : A} (a : Polls is_clone tries answer_by side given waker x h k) (b : Polls is_clone others answer_by side given waker y h' k')
       → b.reply ≡ a.reply → Both is_clone h h' a.mid b.mid

@@ -20,7 +20,6 @@ use Rattle.priority_channel_laws.proofs.alike.Evicting.{evicts_same}
 use Rattle.priority_channel_laws.proofs.alike.Polls.{is_memory-poll_send, is_memory-poll_sendv, as_list_one, polls_send_same, polls_sendv_same, polls_receive_same}
 
 module _ {T P W : Type 0} (is_clone : W → W → Type 0) {cmp : P → P → Ordering} (o : IsTotalOrder cmp) where
-  -- a state that differs in one count
   more_senders : (s r : State T P W) (n m : ℕ) → m ≡ n → SameState is_clone s r → SameState is_clone (record s { sender_count = n }) (record r { sender_count = m })
   more_senders s r n m e h = rw e (record { waiters = h.waiters; others = ap (λ (x : State T P W). record x { sender_count = n }) h.others })
 
@@ -86,30 +85,8 @@ module _ {T P W : Type 0} (is_clone : W → W → Type 0) {cmp : P → P → Ord
         let t = polls_receive_same is_clone o s r k k' h h' same given waker x y a b memory in (ap (λ z. answer.PollRecv z) t.0, t.1)
     step_same (call.GiveUp ticket) answer.GiveUp answer.GiveUp a b count memory =
         (refl, record { handed = nobody_same is_clone h h' a.0 b.0; state = same_after is_clone k k' _ _ a.1 b.1 (same_unlisted is_clone (Some ticket) s r same) })
-    step_same (call.TrySend m p) (answer.TrySend x) y a b count memory = absurd b
-    step_same (call.TrySendv pairs) (answer.TrySendv x) y a b count memory = absurd b
-    step_same (call.TrySendEvicting m p) (answer.TrySendEvicting x) y a b count memory = absurd b
-    step_same call.TryRecv (answer.TryRecv x) y a b count memory = absurd b
-    step_same (call.TakeWhere place) (answer.TakeWhere x) y a b count memory = absurd b
-    step_same call.Close (answer.Close x) y a b count memory = absurd b
-    step_same call.IsClosed (answer.IsClosed x) y a b count memory = absurd b
-    step_same call.IsEmpty (answer.IsEmpty x) y a b count memory = absurd b
-    step_same call.IsFull (answer.IsFull x) y a b count memory = absurd b
-    step_same call.Len (answer.Len x) y a b count memory = absurd b
-    step_same call.Capacity (answer.Capacity x) y a b count memory = absurd b
-    step_same call.SenderCount (answer.SenderCount x) y a b count memory = absurd b
-    step_same call.ReceiverCount (answer.ReceiverCount x) y a b count memory = absurd b
-    step_same call.CloneSender (answer.CloneSender x) y a b count memory = absurd b
-    step_same call.CloneReceiver (answer.CloneReceiver x) y a b count memory = absurd b
-    step_same call.DropSender answer.DropSender y a b count memory = absurd b
-    step_same call.DropReceiver answer.DropReceiver y a b count memory = absurd b
-    step_same (call.PollSend m p given waker) (answer.PollSend x) y a b count memory = absurd b
-    step_same (call.PollSendv pairs given waker) (answer.PollSendv x) y a b count memory = absurd b
-    step_same (call.PollRecv given waker) (answer.PollRecv x) y a b count memory = absurd b
-    step_same (call.GiveUp ticket) answer.GiveUp y a b count memory = absurd b
-    step_same made x y a b count memory = absurd a
+    step_same made x y a b count memory = absurd (assumption)
 
-  -- runs over the same calls
   pub runs_same : (s r new other : State T P W) (run another : List (Operation T P W)) → SameState is_clone s r → Run cmp is_clone s run new → Run cmp is_clone r another other
       → AllZip IsAlike run another → AllZip (SameOutcome is_clone) run another × SameState is_clone new other
   runs_same s r new other [] [] same a b alike = (tt, same_after is_clone new other s r a b same)

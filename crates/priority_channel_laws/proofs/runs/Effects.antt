@@ -19,7 +19,6 @@ use Rattle.priority_channel_core.specs.declared.errors.TrySendError.TheVariants 
 use Rattle.priority_channel_core.specs.declared.errors.TryRecvError.{TryRecvError}
 use Rattle.priority_channel_core.specs.declared.errors.TryRecvError.TheVariants as recv_error
 use Rattle.priority_channel_core.specs.declared.errors.SendFault.{SendFault}
-use Rattle.priority_channel_core.specs.declared.errors.SendFault.TheVariants as send_fault
 use Rattle.priority_channel_core.specs.declared.errors.RecvFault.{RecvFault}
 use Rattle.priority_channel_core.specs.declared.errors.RecvFault.TheVariants as recv_fault
 use Rattle.priority_channel_core.specs.machine.State.{State, Handed}
@@ -29,6 +28,7 @@ use Rattle.priority_channel_core.specs.machine.OtherCalls.{Receives, Takes, Clon
 use Rattle.priority_channel_core.specs.machine.Polls.{send_answer, recv_answer, Polls}
 use Rattle.priority_channel_core.specs.declared.side.Side.{Side}
 use Rattle.priority_channel_core.specs.machine.Step.{Moves, Calls, Answers}
+use Rattle.priority_channel_core.proofs.Polls.{send_answers}
 use Rattle.priority_channel_laws.specs.Accepted.{all_but, sent, poll_sent, accepted_by, received_by, displaced_by, taken_by}
 
 pub all_but-front : {A : Type 0} (front rest : List A) → all_but rest (front ++ rest) ≡ front
@@ -39,38 +39,23 @@ all_but-front front rest =
 -- a poll accepts the pairs that its try accepts
 pub poll_sent-is : {A : Type 0} (pairs : List A) (reply : Result (Unit {0}) (TrySendError (List A))) (listed : Option ℕ)
     (poll : CorePoll (Result (Unit {0}) (SendFault (List A))) (List A)) → send_answer reply listed ≡ Some poll → poll_sent pairs poll ≡ sent pairs reply
-poll_sent-is pairs (Ok done) None poll h = let e : poll ≡ Ready (Ok done) = cc in rw e refl
-poll_sent-is pairs (Err (send_error.Closed rest)) None poll h = let e : poll ≡ Ready (Err (send_fault.Closed (record { 0 = rest }))) = cc in rw e refl
-poll_sent-is pairs (Err (send_error.Memory rest)) None poll h = let e : poll ≡ Ready (Err (send_fault.Memory rest)) = cc in rw e refl
-poll_sent-is pairs (Err (send_error.Full rest)) None poll h = let e : poll ≡ Ready (Err (send_fault.Memory rest)) = cc in rw e refl
-poll_sent-is pairs (Err (send_error.Full rest)) (Some ticket) poll h = let e : poll ≡ Pending rest ticket = cc in rw e refl
-poll_sent-is pairs (Ok done) (Some ticket) poll h = absurd (cc)
-poll_sent-is pairs (Err (send_error.Closed rest)) (Some ticket) poll h = absurd (cc)
-poll_sent-is pairs (Err (send_error.Memory rest)) (Some ticket) poll h = absurd (cc)
+poll_sent-is pairs = send_answers (λ reply listed poll. poll_sent pairs poll ≡ sent pairs reply) (λ done. refl) (λ rest. refl) (λ rest. refl) (λ rest. refl) (λ rest ticket. refl)
 
 pub accepted_one-is : {T P W : Type 0} (msg : T) (priority : P) (given : Option ℕ) (waker : W) (reply : Result (Unit {0}) (TrySendError (T × P))) (listed : Option ℕ)
     (poll : CorePoll (Result (Unit {0}) (SendFault (T × P))) (T × P)) → send_answer reply listed ≡ Some poll
     → accepted_by (call.PollSend msg priority given waker) (answer.PollSend poll) ≡ sent ((msg, priority) ∷ []) (as_list reply)
-accepted_one-is msg priority given waker (Ok done) None poll h = let e : poll ≡ Ready (Ok done) = cc in rw e refl
-accepted_one-is msg priority given waker (Err (send_error.Closed rest)) None poll h = let e : poll ≡ Ready (Err (send_fault.Closed (record { 0 = rest }))) = cc in rw e refl
-accepted_one-is msg priority given waker (Err (send_error.Memory rest)) None poll h = let e : poll ≡ Ready (Err (send_fault.Memory rest)) = cc in rw e refl
-accepted_one-is msg priority given waker (Err (send_error.Full rest)) None poll h = let e : poll ≡ Ready (Err (send_fault.Memory rest)) = cc in rw e refl
-accepted_one-is msg priority given waker (Err (send_error.Full rest)) (Some ticket) poll h = let e : poll ≡ Pending rest ticket = cc in rw e refl
-accepted_one-is msg priority given waker (Ok done) (Some ticket) poll h = absurd (cc)
-accepted_one-is msg priority given waker (Err (send_error.Closed rest)) (Some ticket) poll h = absurd (cc)
-accepted_one-is msg priority given waker (Err (send_error.Memory rest)) (Some ticket) poll h = absurd (cc)
+accepted_one-is msg priority given waker =
+    send_answers (λ reply listed poll. accepted_by (call.PollSend msg priority given waker) (answer.PollSend poll) ≡ sent ((msg, priority) ∷ []) (as_list reply))
+    (λ done. refl) (λ rest. refl) (λ rest. refl) (λ rest. refl) (λ rest ticket. refl)
 
--- and receives the pair that its try receives
 poll_received-is : {T P : Type 0} (reply : Result (T × P) TryRecvError) (listed : Option ℕ) (poll : CorePoll (Result (T × P) RecvFault) (Unit {0}))
     → recv_answer reply listed ≡ Some poll → received_by {T = T} {P = P} (answer.PollRecv poll) ≡ received_by (answer.TryRecv reply)
 poll_received-is (Ok pair) None poll h = let e : poll ≡ Ready (Ok pair) = cc in rw e refl
 poll_received-is (Err recv_error.Closed) None poll h = let e : poll ≡ Ready (Err (recv_fault.Closed (record {}))) = cc in rw e refl
 poll_received-is (Err recv_error.Empty) None poll h = let e : poll ≡ Ready (Err recv_fault.Memory) = cc in rw e refl
 poll_received-is (Err recv_error.Empty) (Some ticket) poll h = let e : poll ≡ Pending tt ticket = cc in rw e refl
-poll_received-is (Ok pair) (Some ticket) poll h = absurd (cc)
-poll_received-is (Err recv_error.Closed) (Some ticket) poll h = absurd (cc)
+poll_received-is reply (Some ticket) poll h = absurd (cc)
 
--- no pair has a greater priority than this one
 abbrev pub NoneAbove : {T P : Type 0} → (P → P → Ordering) → T × P → List (T × P) → Type 0
 NoneAbove cmp pair others = All (λ other. is_gt (cmp other.1 pair.1) ≡ false) others
 
@@ -116,7 +101,6 @@ module _ {T P W : Type 0} (cmp : P → P → Ordering) where
     effect_receives (Err recv_error.Closed) h = effect_same old h.2.1 refl (λ k. k)
     effect_receives (Err recv_error.Empty) h = effect_same old h.2.1 refl (λ k. k)
 
-    -- a pair goes out to make room, and the new one comes in
     effect_displaces : (pair out : T × P) (mid : State T P W) → MakesRoom cmp old pair out mid → Sends mid (pair ∷ []) (Ok tt) handed new → Effect old (pair ∷ []) [] (out ∷ []) [] new
     effect_displaces pair out mid makes sends =
         let least = makes.least in
@@ -168,7 +152,6 @@ module _ {T P W : Type 0} (cmp : P → P → Ordering) where
       }
 
   module _ (is_clone : W → W → Type 0) (old new : State T P W) (handed : Handed W) where
-    -- a poll has the effect of its try
     effect_polls : {R A : Type 0} {tries : R → Handed W → State T P W → Type 0} {answer_by : R → Option ℕ → Option A} {side : Side} {given : Option ℕ}
         {waker : W} {answered : A} (accepted received : List (T × P)) (h : Polls is_clone tries answer_by side given waker answered handed new)
         → Effect old accepted received [] [] h.mid → Effect old accepted received [] [] new

@@ -30,7 +30,6 @@ map_none : {A B : Type 0} (f : A → B) (xs : List A) → map f xs ≡ [] → xs
 map_none f [] h = refl
 map_none f (x ∷ xs) h = absurd (cc)
 
--- the first parts of both, and then the other parts
 sorted_out : {A : Type 0} (a b c d : List A) → IsPermutation ((a ++ b) ++ (c ++ d)) ((a ++ c) ++ (b ++ d))
 sorted_out a b c d =
     rw (append_assoc a b (c ++ d), append_assoc a c (b ++ d), ← append_assoc b c d, ← append_assoc c b d)
@@ -44,7 +43,6 @@ module _ {T P W : Type 0} (cmp : P → P → Ordering) (is_clone : W → W → T
       → Effect cmp old (accepted_by made.call made.answer) (received_by made.answer) (displaced_by made.answer) (taken_by made.answer) new
   step_effect old new made step = effect cmp is_clone old new made.handed made.call made.answer step.moves
 
-  -- a run of two parts
   pub Run-split : (old new : State T P W) (front back : List (Operation T P W)) → Run cmp is_clone old (front ++ back) new
       → (mid : State T P W) × Run cmp is_clone old front mid × Run cmp is_clone mid back new
   Run-split old new [] back run = (old, refl, run)
@@ -78,7 +76,6 @@ module _ {T P W : Type 0} (cmp : P → P → Ordering) (is_clone : W → W → T
       let r = run_closed mid new more run.2 e.0 in
       (r.0, rw (e.1, r.1) refl)
 
-  -- what holds of each pending pair holds of each pair that is received before another is accepted
   received_were_pending : (Q : T × P → Type 0) (old new : State T P W) (run : List (Operation T P W)) → Run cmp is_clone old run new
       → accepted_in run ≡ [] → All Q old.pending → AllByRecursion Q (received_in run)
   received_were_pending Q old new [] run none all = tt
@@ -113,7 +110,6 @@ module _ {T P W : Type 0} (cmp : P → P → Ordering) (is_clone : W → W → T
       let second = Run-split old first.0 before between first.1 in
       run_never_rises second.0 first.0 between second.2 none
 
-  -- a try_recv is answered as a receive
   answered : (old new : State T P W) (handed : Handed W) (reply : Answers T P) → Moves cmp is_clone old call.TryRecv reply handed new
       → (told : Result (T × P) TryRecvError) × (reply ≡ answer.TryRecv told) × Receives cmp old told handed new
   answered old new handed (answer.TryRecv told) h = (told, refl, h)

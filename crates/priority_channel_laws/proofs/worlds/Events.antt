@@ -5,7 +5,7 @@ use Rattle.std.proofs.lemmas.Option.{slice_get_within, get_or_from_slice_get}
 use Rattle.std.specs.declared.cmp.Ordering.{Ordering}
 use Rattle.priority_channel_core.specs.machine.State.{State, Handed, nobody}
 use Rattle.priority_channel_core.specs.Waiting.{without_given}
-use Rattle.priority_channel_laws.specs.WaitingLaw.{waker_of}
+use Rattle.priority_channel_laws.specs.WaitingLaw.{waker_of, side_of, CanGoOn, NobodyIsForgotten, GivenOnce, CalledBy}
 use Rattle.priority_channel_core.specs.machine.Good.{IsGood}
 use Rattle.priority_channel_core.specs.machine.Step.{Step, Answers}
 use Rattle.priority_channel_core.specs.Future.{Tasks, Standing, Futures, ticket_of, poll_of, future_after, GivesUpTicket}
@@ -14,7 +14,6 @@ use Rattle.priority_channel_core.specs.Future.Standing.{New, Waiting, Called, Do
 use Rattle.priority_channel_laws.specs.World.Event.{Makes, Polls, GivesUp}
 use Rattle.priority_channel_core.specs.declared.side.Side.{Side}
 use Rattle.priority_channel_core.specs.Waiters.{Waiters, on_side, unlist}
-use Rattle.priority_channel_laws.specs.WaitingLaw.{side_of, CanGoOn, NobodyIsForgotten, GivenOnce, CalledBy}
 use Rattle.priority_channel_core.specs.declared.side.Side.TheVariants.{Room, Message}
 use Rattle.priority_channel_laws.proofs.worlds.Positions.{mapped_at, at_mapped, changed_at}
 use Rattle.priority_channel_laws.proofs.worlds.Hands.{Hands, hands}
@@ -24,10 +23,8 @@ use Rattle.priority_channel_laws.proofs.worlds.Standings.{Keeps-same, ends, wait
 use Rattle.priority_channel_laws.proofs.worlds.Callings.{called-ticket}
 
 called_nobody : {W : Type 0} (s : Standing W) → standing_after nobody s ≡ s
-called_nobody New = refl
 called_nobody (Waiting t w) = refl
-called_nobody (Called t w) = refl
-called_nobody Done = refl
+called_nobody s = refl
 
 some_pending : {A : Type 0} (xs : List A) → xs ≢ [] → 0 < length xs
 some_pending [] ne = absurd (ne refl)
@@ -44,7 +41,6 @@ module _ {T P W : Type 0} where
       good : IsGood world.state
       keeps : Keeps is_clone (lists_of world.state) world.state.waiters.next_ticket world.futures
 
-    -- the world after the woken futures are `Called`
     called_world : (old : World T P W) (mid : State T P W) (handed : Handed W) → Hands old.state mid handed → IsKept old
         → Keeps is_clone (lists_of mid) mid.waiters.next_ticket (call_out handed old.futures)
     called_world old mid handed h k =
@@ -70,7 +66,6 @@ module _ {T P W : Type 0} where
           p.held i later.0 t later.1 later.2 lt;
     }
 
-    -- one future is changed, after the woken futures are `Called`
     changed_world : (old new : World T P W) (mid : State T P W) (handed : Handed W) (h : Hands old.state mid handed) (k : IsKept old)
         (i : ℕ) (f g : Futures T P W) (at : slice_get old.futures i ≡ Some f)
         (at' : slice_get (call_out handed old.futures) i ≡ Some (record { task = f.task; standing = standing_after handed f.standing }))
@@ -100,7 +95,6 @@ module _ {T P W : Type 0} where
     unlisted_lists given mid new is Room = ap (λ (w : Waiters W). w.room) is
     unlisted_lists given mid new is Message = ap (λ (w : Waiters W). w.message) is
 
-    -- a poll of a future that is not done
     live : (cmp : P → P → Ordering) (old new : World T P W) (which : ℕ) (waker : W) (f : Futures T P W) (handed : Handed W) (reply : Answers T P)
         → slice_get old.futures which ≡ Some f → Step cmp is_clone old.state (poll_of f.task (ticket_of f.standing) waker) reply handed new.state
         → new.futures ≡ set (call_out handed old.futures) which (future_after f.task waker reply) → IsKept old → IsKept new × Passes old new
@@ -234,7 +228,6 @@ module _ {T P W : Type 0} where
         let first = (leads_kept cmp opening earlier before h (opening_kept opening o)).0 in
         (leads_kept cmp earlier later after k first).1.grows
 
-    -- the event's own future is not woken
     changed_called : (old new : World T P W) (mid : State T P W) (handed : Handed W) → Hands old.state mid handed → IsKept old → (i : ℕ) (g : Futures T P W)
         → ((t : ℕ) (w : W) → g.standing ≡ Called t w → ⊥) → new.futures ≡ set (call_out handed old.futures) i g → CalledBy is_clone old handed new
     changed_called old new mid handed h k i g not_called futures = λ j f t w at is.

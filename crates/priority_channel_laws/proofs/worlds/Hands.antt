@@ -17,7 +17,6 @@ use Rattle.priority_channel_laws.specs.World.{IsDirect}
 use Rattle.priority_channel_core.specs.declared.side.Side.{Side}
 use Rattle.priority_channel_core.specs.declared.side.Side.TheVariants.{Room, Message}
 
--- the waiters that were on a side
 abbrev pub handed_of : {W : Type 0} → Side → Handed W → List (ℕ × W)
 handed_of Room handed = handed.room
 handed_of Message handed = handed.message
@@ -32,7 +31,6 @@ module _ {T P W : Type 0} (old new : State T P W) (handed : Handed W) where
     pub message : StaysOrLeaves old.waiters.message handed.message new.waiters.message
     pub next : new.waiters.next_ticket ≡ old.waiters.next_ticket
 
-  -- no waiter is woken, and the state has the same waiters
   hands_nobody : (s : State T P W) → handed ≡ nobody → new ≡ s → s.waiters ≡ old.waiters → Hands
   hands_nobody s h e w =
       let same : new.waiters ≡ old.waiters = ap (λ (x : State T P W). x.waiters) e ∙ w in
@@ -81,7 +79,6 @@ module _ {T P W : Type 0} (old new : State T P W) (handed : Handed W) where
   hands_receives cmp (Err recv_error.Closed) h = hands_refuses h.2
   hands_receives cmp (Err recv_error.Empty) h = hands_refuses h.2
 
-  -- a close of a state that has the same waiters
   hands_shuts : (s : State T P W) → Shuts s handed new → s.waiters ≡ old.waiters → Hands
   hands_shuts s h w =
       record {
@@ -99,7 +96,6 @@ module _ {T P W : Type 0} (old new : State T P W) (handed : Handed W) where
   hands_drops (suc zero) fewer h w = hands_shuts fewer h w
   hands_drops (suc (suc others)) fewer h w = hands_nobody fewer h.0 h.1 w
 
--- for states that have the same waiters
 hands_same : {T P W : Type 0} (old mid new : State T P W) (handed : Handed W) → mid.waiters ≡ old.waiters → Hands mid new handed → Hands old new handed
 hands_same old mid new handed same h = record {
   room = rw (← same) h.room;
@@ -138,8 +134,4 @@ module _ {T P W : Type 0} (old new : State T P W) (handed : Handed W) where
     hands call.CloneReceiver (answer.CloneReceiver done) d h = hands_clones old new handed _ _ done h refl
     hands call.DropSender answer.DropSender d h = hands_drops old new handed _ _ h refl
     hands call.DropReceiver answer.DropReceiver d h = hands_drops old new handed _ _ h refl
-    hands (call.PollSend msg priority given waker) reply d h = absurd d
-    hands (call.PollSendv pairs given waker) reply d h = absurd d
-    hands (call.PollRecv given waker) reply d h = absurd d
-    hands (call.GiveUp ticket) reply d h = absurd d
-    hands made reply d h = absurd h
+    hands made reply d h = absurd (assumption)

@@ -1,8 +1,7 @@
 -- The waker under a ticket, after a list has changed.
-use Rattle.std.proofs.Common.{◌≡◌, ℕ, ◌<◌, ◌≢◌, true, false, ◌||◌, ◌∙◌, List, [], ◌∷◌, ◌++◌, refl, sym, arith, inl, inr, ◌+◌, ◌⊎◌, Bool}
+use Rattle.std.proofs.Common.{◌≡◌, ℕ, ◌<◌, ◌≢◌, true, false, ◌||◌, ◌∙◌, List, [], ◌∷◌, ◌++◌, refl, sym, arith, inl, inr, ◌+◌, ◌⊎◌, Bool, eq-eqb}
 use Rattle.std.specs.Prelude.{◌==◌, if◌then◌else◌, Option, Some, None}
 use Rattle.std.specs.List.{All}
-use Rattle.std.proofs.Common.{eq-eqb}
 use Rattle.std.proofs.lemmas.Bool.{ne_eqb}
 use Rattle.std.proofs.lemmas.Bool.Decides.{eqb_tells}
 use Rattle.priority_channel_core.specs.Waiting.{is_listed, without, with_waker, listing, fresh, Listing}
@@ -10,7 +9,6 @@ use Rattle.priority_channel_laws.specs.WaitingLaw.{waker_of}
 use Rattle.priority_channel_core.proofs.Tickets.{unlisted_above}
 
 module _ {W : Type 0} where
-  -- the map after its value at u was set
   abbrev pub put : ℕ → ℕ → Option W → Option W → Option W
   put u t new old = if u == t then new else old
 
@@ -85,7 +83,6 @@ module _ {W : Type 0} where
         | false ↦ λ e. waker_of-push xs n t w (unlisted_above xs n n below (omega arith))
       ] refl
 
-  -- a ticket with a waker is listed
   pub waker_of-listed : (xs : List (ℕ × W)) (t : ℕ) (w : W) → waker_of t xs ≡ Some w → is_listed t xs ≡ true
   waker_of-listed xs t w h =
       elim (is_listed t xs) as (λ b. b ≡ is_listed t xs → b ≡ true) [

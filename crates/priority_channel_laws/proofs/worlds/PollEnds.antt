@@ -27,7 +27,6 @@ use Rattle.priority_channel_laws.specs.WaitingLaw.{side_of}
 use Rattle.priority_channel_laws.proofs.worlds.Hands.{handed_of, StaysOrLeaves, Hands, hands_sends, hands_receives}
 
 module _ {W : Type 0} where
-  -- a listed waiter is on its own side
   enlisted_mine : (side : Side) (listed : Listing W) (w : Waiters W) → on_side side (enlist side listed w) ≡ listed.waiters
   enlisted_mine Room listed w = refl
   enlisted_mine Message listed w = refl
@@ -50,7 +49,6 @@ module _ {T P W : Type 0} where
   stays_or_leaves old new handed h Room = h.room
   stays_or_leaves old new handed h Message = h.message
 
-  -- the tickets of a list that stayed, or is empty, were given
   pub still_given : (old new : State T P W) (handed : Handed W) → Hands old new handed → IsGood old → (side : Side) → All (λ a. a.0 < new.waiters.next_ticket) (lists_of new side)
   still_given old new handed h good side =
       let given = either side in
@@ -82,12 +80,10 @@ module _ {T P W : Type 0} where
     pub goes_on : side_of future.task ≡ side
     pub stands : future.standing ≡ Waiting (listing given kept (lists_of mid side) mid.waiters.next_ticket).ticket waker
 
-  -- the standing of a future that waits on a side under this ticket, or is done
   abbrev Stands : Side → W → Option ℕ → Futures T P W → Type 0
   Stands side waker None future = future.standing ≡ Done
   Stands side waker (Some ticket) future = (side_of future.task ≡ side) × (future.standing ≡ Waiting ticket waker)
 
-  -- each poll ends its future or leaves it waiting
   ends : (is_clone : W → W → Type 0) (side : Side) (old mid new : State T P W) (given listed : Option ℕ) (waker : W) (future : Futures T P W) (handed : Handed W)
       → Hands old mid handed → Ends is_clone side given waker listed mid new → Stands side waker listed future
       → Ended old given future handed new ⊎ Waits is_clone old given waker side future handed new
@@ -133,6 +129,4 @@ module _ {T P W : Type 0} where
     poll_end Recv (answer.PollRecv poll) h =
         ends is_clone Message old h.mid new given h.ticket waker _ handed (hands_receives old h.mid handed cmp h.reply h.tried) h.ends
         (rw (recv_waits_under h.reply h.ticket poll h.answered) (stands_recv waker poll))
-    poll_end (Send m p) reply h = absurd h
-    poll_end (Sendv pairs) reply h = absurd h
-    poll_end Recv reply h = absurd h
+    poll_end task reply h = absurd h

@@ -5,17 +5,15 @@ use Rattle.std.specs.List.{All}
 use Rattle.std.proofs.lemmas.Bool.{ne_eqb}
 use Rattle.std.proofs.lemmas.Bool.Decides.{eqb_tells}
 use Rattle.priority_channel_core.specs.Waiting.{without_given, listing}
-use Rattle.priority_channel_laws.specs.WaitingLaw.{waker_of}
+use Rattle.priority_channel_laws.specs.WaitingLaw.{waker_of, side_of}
 use Rattle.priority_channel_core.specs.Future.{Futures, ticket_of}
 use Rattle.priority_channel_core.specs.Future.Standing.{Waiting, Done}
 use Rattle.priority_channel_core.specs.declared.side.Side.{Side}
-use Rattle.priority_channel_laws.specs.WaitingLaw.{side_of}
 use Rattle.priority_channel_core.specs.declared.side.Side.TheVariants.{Room, Message}
 use Rattle.priority_channel_laws.proofs.worlds.Positions.{Some-same}
 use Rattle.priority_channel_laws.proofs.worlds.Lookups.{put, waker_of-without, waker_of-listing, waker_of-listed, ticket_listed}
 use Rattle.priority_channel_laws.proofs.worlds.Worlds.{Keeps, Changes}
 
--- the list of a side, after a given ticket has left it
 gone : {W : Type 0} (xs : List (ℕ × W)) (given : Option ℕ) (t : ℕ) → given ≢ Some t → waker_of t (without_given given xs) ≡ waker_of t xs
 gone xs None t ne = refl
 gone xs (Some u) t ne = let n : (u == t) ≡ false = ne_eqb u t (λ e. ne (ap Some e)) in waker_of-without xs u t ∙ rw n refl
@@ -47,7 +45,6 @@ module _ {T P W : Type 0} (is_clone : W → W → Type 0) where
 
   module _ (lists : Side → List (ℕ × W)) (next : ℕ) (futures : List (Futures T P W)) (keeps : Keeps is_clone lists next futures)
       (i : ℕ) (f g : Futures T P W) (at : slice_get futures i ≡ Some f) where
-    -- a future ends, and its ticket leaves both lists
     pub ends : (given : Option ℕ) → given ≡ ticket_of f.standing → g.standing ≡ Done
         → Changes is_clone lists next futures keeps i f g at (λ side. without_given given (lists side)) next
     ends given own done = record {
@@ -58,7 +55,6 @@ module _ {T P W : Type 0} (is_clone : W → W → Type 0) where
       ticket = λ t has. let n : None ≡ Some t = rw done at has in absurd (cc);
     }
 
-    -- a future waits, under its own ticket or the next one
     pub waits : (given : Option ℕ) (kept waker : W) (side : Side) (lists' : Side → List (ℕ × W)) (next' : ℕ)
         → given ≡ ticket_of f.standing → is_clone waker kept → side_of f.task ≡ side → side_of g.task ≡ side
         → All (λ a. a.0 < next) (lists side)

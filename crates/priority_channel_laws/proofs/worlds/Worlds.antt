@@ -4,12 +4,11 @@ use Rattle.std.specs.Prelude.{Some, None, slice_get}
 use Rattle.std.proofs.lemmas.Bool.Decides.{eqb_tells}
 use Rattle.priority_channel_core.specs.machine.State.{Handed}
 use Rattle.priority_channel_core.specs.Waiting.{is_listed}
-use Rattle.priority_channel_laws.specs.WaitingLaw.{waker_of}
+use Rattle.priority_channel_laws.specs.WaitingLaw.{waker_of, side_of, HasWaiting}
 use Rattle.priority_channel_core.specs.Future.{Futures, ticket_of}
 use Rattle.priority_channel_laws.specs.World.{is_handed, standing_after, call_out}
 use Rattle.priority_channel_core.specs.Future.Standing.{Waiting, Called}
 use Rattle.priority_channel_core.specs.declared.side.Side.{Side}
-use Rattle.priority_channel_laws.specs.WaitingLaw.{side_of, HasWaiting}
 use Rattle.priority_channel_core.specs.declared.side.Side.TheVariants.{Room, Message}
 use Rattle.priority_channel_laws.proofs.worlds.Positions.{Some-same, mapped_at, at_mapped, changed_at, at_changed, at_unchanged}
 use Rattle.priority_channel_laws.proofs.worlds.Lookups.{waker_of-listed}
@@ -38,7 +37,6 @@ module _ {T P W : Type 0} (is_clone : W → W → Type 0) where
         → ticket_of f.standing ≡ Some t → ticket_of g.standing ≡ Some t → i ≡ j
 
   module _ (lists : Side → List (ℕ × W)) (next : ℕ) (futures : List (Futures T P W)) (keeps : Keeps lists next futures) where
-    -- a ticket that is listed on one side is not listed on the other
     other_side : (t : ℕ) (k l : W) → waker_of t (lists Room) ≡ Some k → waker_of t (lists Message) ≡ Some l → ⊥
     other_side t k l h j =
         let a = keeps.listed Room t k h in
@@ -58,7 +56,6 @@ module _ {T P W : Type 0} (is_clone : W → W → Type 0) where
           | inr e ↦ let r = e.0 in rw r (unlisted_by t xs (λ k j. h k (rw r j)))
         ]
 
-    -- the woken futures are `Called`
     pub keeps-call_out : (handed : Handed W) (lists' : Side → List (ℕ × W)) → ((side : Side) → StaysOrLeaves (lists side) (handed_of side handed) (lists' side))
         → Keeps lists' next (call_out handed futures)
     keeps-call_out handed lists' stays = record {
@@ -115,7 +112,6 @@ module _ {T P W : Type 0} (is_clone : W → W → Type 0) where
               | inr s ↦ let n : None ≡ Some k = rw s.0 at here in absurd (cc)
             ]
 
-        -- a side whose list stays wakes no waiter
         stays_unlisted : (side : Side) (t : ℕ) (k : W) → waker_of t (lists' side) ≡ Some k → is_listed t (handed_of side handed) ≡ false
         stays_unlisted side t k here =
             elim (stays side) [
@@ -159,7 +155,6 @@ module _ {T P W : Type 0} (is_clone : W → W → Type 0) where
           ]
         ]
 
-    -- the standing of a `Called` future before
     pub called_from : (handed : Handed W) (lists' : Side → List (ℕ × W)) → ((side : Side) → StaysOrLeaves (lists side) (handed_of side handed) (lists' side))
         → (i : ℕ) (g : Futures T P W) (t : ℕ) (w : W) → slice_get (call_out handed futures) i ≡ Some g → g.standing ≡ Called t w
         → (f : Futures T P W) × (slice_get futures i ≡ Some f)
@@ -185,11 +180,9 @@ module _ {T P W : Type 0} (is_clone : W → W → Type 0) where
             ⊎ ((w : W) × (side_of g.task ≡ side) × (g.standing ≡ Waiting t w) × is_clone w k)
         pub ticket : (t : ℕ) → ticket_of g.standing ≡ Some t → (t < next') × ((ticket_of f.standing ≡ Some t) ⊎ (next ≤ t))
 
-      -- another future does not have the ticket of the changed one
       not_own : (j : ℕ) (h : Futures T P W) (t : ℕ) → i ≢ j → slice_get futures j ≡ Some h → ticket_of h.standing ≡ Some t → ticket_of f.standing ≢ Some t
       not_own j h t ne there has = λ mine. ne (keeps.differ i j f h t at there mine has)
 
-      -- nor a ticket that the changed one has now
       not_new : Changes → (j : ℕ) (h : Futures T P W) (t : ℕ) → i ≢ j → slice_get futures j ≡ Some h → ticket_of h.standing ≡ Some t → ticket_of g.standing ≢ Some t
       not_new c j h t ne there has = λ now.
           elim (c.ticket t now).1 [

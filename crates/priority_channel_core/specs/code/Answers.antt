@@ -1,0 +1,59 @@
+-- The answers of the code, where a bulk send gives back what holds a list.
+use Rattle.std.specs.Prelude.{◌≡◌, List, Result, Ok, Err}
+use Rattle.priority_channel_core.specs.declared.calls.Answer.{Answer}
+use Rattle.priority_channel_core.specs.declared.calls.Answer.TheVariants.{TrySend, TrySendv, TrySendEvicting, TryRecv, TakeWhere, Close, IsClosed, IsEmpty, IsFull, Len, Capacity, SenderCount, ReceiverCount, CloneSender, CloneReceiver, DropSender, DropReceiver, PollSend, PollSendv, PollRecv, GiveUp}
+use Rattle.priority_channel_core.specs.declared.calls.CorePoll.{CorePoll}
+use Rattle.priority_channel_core.specs.declared.calls.CorePoll.TheVariants.{Ready, Pending}
+use Rattle.priority_channel_core.specs.declared.errors.TrySendError.{TrySendError}
+use Rattle.priority_channel_core.specs.declared.errors.TrySendError.TheVariants.{Closed, Full, Memory}
+use Rattle.priority_channel_core.specs.declared.errors.SendFault.{SendFault}
+use Rattle.priority_channel_core.specs.declared.errors.SendFault.TheVariants as fault
+use Rattle.priority_channel_core.specs.machine.Step.{Answers}
+
+abbrev pub Is : {A : Type 0} → A → A → Type 0
+Is one other = other ≡ one
+
+-- `whole` is made from a part of which R holds
+abbrev pub IsMade : {A B : Type 0} → (A → Type 0) → (A → B) → B → Type 0
+IsMade {A} R make whole = (part : A) × (whole ≡ make part) × R part
+
+-- `holds m list`: m holds the list
+module _ {T P M : Type 0} (holds : M → List (T × P) → Type 0) where
+  abbrev pub SameReply : Result (Unit {0}) (TrySendError M)
+      → Result (Unit {0}) (TrySendError (List (T × P))) → Type 0
+  SameReply (Ok done) = Is (Ok tt)
+  SameReply (Err (Closed m)) = IsMade (holds m) (λ rest. Err (Closed rest))
+  SameReply (Err (Full m)) = IsMade (holds m) (λ rest. Err (Full rest))
+  SameReply (Err (Memory m)) = IsMade (holds m) (λ rest. Err (Memory rest))
+
+  abbrev pub SamePoll : CorePoll (Result (Unit {0}) (SendFault M)) M
+      → CorePoll (Result (Unit {0}) (SendFault (List (T × P)))) (List (T × P)) → Type 0
+  SamePoll (Ready (Ok done)) = Is (Ready (Ok tt))
+  SamePoll (Ready (Err (fault.Closed e))) =
+      IsMade (holds e.0) (λ rest. Ready (Err (fault.Closed (record { 0 = rest }))))
+  SamePoll (Ready (Err (fault.Memory m))) =
+      IsMade (holds m) (λ rest. Ready (Err (fault.Memory rest)))
+  SamePoll (Pending m ticket) = IsMade (holds m) (λ rest. Pending rest ticket)
+
+  abbrev pub SameAnswer : Answer T P M → Answers T P → Type 0
+  SameAnswer (TrySendv reply) = IsMade (SameReply reply) TrySendv
+  SameAnswer (PollSendv poll) = IsMade (SamePoll poll) PollSendv
+  SameAnswer (TrySend reply) = Is (TrySend reply)
+  SameAnswer (TrySendEvicting reply) = Is (TrySendEvicting reply)
+  SameAnswer (TryRecv reply) = Is (TryRecv reply)
+  SameAnswer (TakeWhere taken) = Is (TakeWhere taken)
+  SameAnswer (Close was_open) = Is (Close was_open)
+  SameAnswer (IsClosed b) = Is (IsClosed b)
+  SameAnswer (IsEmpty b) = Is (IsEmpty b)
+  SameAnswer (IsFull b) = Is (IsFull b)
+  SameAnswer (Len n) = Is (Len n)
+  SameAnswer (Capacity n) = Is (Capacity n)
+  SameAnswer (SenderCount n) = Is (SenderCount n)
+  SameAnswer (ReceiverCount n) = Is (ReceiverCount n)
+  SameAnswer (CloneSender done) = Is (CloneSender done)
+  SameAnswer (CloneReceiver done) = Is (CloneReceiver done)
+  SameAnswer DropSender = Is DropSender
+  SameAnswer DropReceiver = Is DropReceiver
+  SameAnswer (PollSend poll) = Is (PollSend poll)
+  SameAnswer (PollRecv poll) = Is (PollRecv poll)
+  SameAnswer GiveUp = Is GiveUp
