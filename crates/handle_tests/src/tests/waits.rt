@@ -191,17 +191,12 @@ fn a_future_that_has_answered_does_nothing_more(rt: HostRuntime) {
         -- a future that was refused memory is done
         reserved tx rx 1
         lend tx rx
-        r1 by rx recv; b1 by rx recv_many 2; refuse_nth 1; r1 poll task = Err(Memory); refuse_nth 1
-        b1 poll task = Err(Memory); refuse_none = false; rest task; r1 poll task = Pending
-        woken = task
-        rest task; b1 poll task = Pending; woken = task
-        rest task; tx try_send x 1; woken =
-        s1 by tx send y 2; v1 by tx sendv z 3 w 4; refuse_nth 1
-        s1 poll task = Memory(..) ('y', 2); refuse_nth 1
-        v1 poll task = Memory(..) [('z', 3), ('w', 4)]; refuse_none = false; rest task
-        s1 poll task = Pending; woken = task
-        rest task; v1 poll task = Pending; woken = task
-        rest task; rx try_recv = Ok(('x', 1)); woken =
+        r1 by rx recv; refuse_nth 1; r1 poll task = Err(Memory); refuse_none = false
+        tx try_send x 1; woken =
+        r1 poll task = Pending; looks = 1 of 1 full 1+1
+        s1 by tx send y 2; refuse_nth 1; s1 poll task = Memory(..) ('y', 2); v1 by tx sendv z 3
+        refuse_nth 1; v1 poll task = Memory(..) [('z', 3)]; refuse_none = false
+        rx try_recv = Ok(('x', 1)); s1 poll task = Pending; v1 poll task = Pending
         looks = 0 of 1 empty 1+1
         --
         reserved tx rx 1

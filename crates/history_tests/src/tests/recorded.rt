@@ -1,10 +1,10 @@
 //! Recorded channels, with one pass and with several.
-use super::books::SEVEN;
+use super::books::{SEVEN, expect_entries};
 use super::scenes::{Host, RecordedScene, record};
 use super::{expect_equal, expect_equal_at};
 use four::{Told, call_on_four_threads};
 use priority_channel_core::errors::TrySendError;
-use priority_channel_recorded::{Call, Entry, NoMemory, Pass, Recorded, Recording, Reply};
+use priority_channel_recorded::{Call, NoMemory, Pass, Recorded, Recording, Reply};
 use refusing::Refusing;
 use std::alloc::Global;
 use std::thread;
@@ -25,8 +25,8 @@ impl RecordedScene<Global> for Plenty<'_> {
         self,
         rt: &R,
         recorder: &Recorded<u64, u64, J>,
-        passes: Passes<J>,
-    ) -> Passes<J> {
+        passes: &mut Passes<J>,
+    ) {
         match self {
             Plenty::Meeting => meet(rt, recorder, passes),
             Plenty::FourThreads(told) => call_on_four_threads(rt, recorder, passes, told),
@@ -47,8 +47,8 @@ impl<'a> RecordedScene<&'a Refusing<Global>> for Scarce<'a> {
         self,
         rt: &R,
         recorder: &Recorded<u64, u64, J, &'a Refusing<Global>>,
-        mut passes: Passes<J, &'a Refusing<Global>>,
-    ) -> Passes<J, &'a Refusing<Global>> {
+        passes: &mut Passes<J, &'a Refusing<Global>>,
+    ) {
         let mut pass = passes.pop().expect(rt, "a pass");
         match self {
             Scarce::Nothing => {}
@@ -56,7 +56,6 @@ impl<'a> RecordedScene<&'a Refusing<Global>> for Scarce<'a> {
             Scarce::Refused(alloc) => call_without_memory(rt, recorder, &mut pass, alloc),
         }
         passes.push(pass).expect(rt, "its own place");
-        passes
     }
 }
 
@@ -80,15 +79,7 @@ fn a_pass_records(rt: HostRuntime) {
     let alloc = Refusing::new(rt.alloc());
     let recorded = record(&rt, &alloc, 2, 8, 1, Scarce::Seven(&alloc));
     let history = recorded.expect(&rt, "a recorder");
-    expect_equal(&rt, history.entries().len(), 7);
-    for ((call, reply), entry) in SEVEN.iter().zip(history.entries()) {
-        let wanted = Entry {
-            who: 0,
-            call: *call,
-            reply: *reply,
-        };
-        expect_equal(&rt, *entry, wanted);
-    }
+    expect_entries(&rt, history.entries(), 0, SEVEN.as_slice());
 }
 
 // A request for the passes, one for the channel and one for its history, which ends without an
@@ -140,8 +131,8 @@ fn a_call_without_memory_is_not_made(rt: HostRuntime) {
 fn meet<J: Recording + Send + Sync, R: Host>(
     rt: &R,
     recorder: &Recorded<u64, u64, J>,
-    mut passes: Passes<J>,
-) -> Passes<J> {
+    passes: &mut Passes<J>,
+) {
     let mut one = passes.pop().expect(rt, "a pass");
     let mut zero = passes.pop().expect(rt, "a pass");
     let sent = recorder.call(rt, &mut zero, Call::TrySend(1, 5));
@@ -161,7 +152,6 @@ fn meet<J: Recording + Send + Sync, R: Host>(
     expect_equal(rt, (one.number(), one.count()), (1, 2));
     passes.push(zero).expect(rt, "its own place");
     passes.push(one).expect(rt, "its own place");
-    passes
 }
 
 #[test]

@@ -11,8 +11,8 @@ use std::alloc::{AllocGlobal, Global};
 use std::process::Abort;
 use std::sync::atomic::{AtomicU64, Ordering};
 use std::sync::{Mutex, Wait};
-use std::thread;
 use std::time::Clock;
+use std::{mem, thread};
 
 mod mix;
 mod model;
@@ -65,16 +65,17 @@ impl WitnessedScene<u64, Waiter<Global>, Global> for Four<'_> {
         self,
         rt: &R,
         channel: &Witnessed<u64, u64, Waiter<Global>, J>,
-        passes: Vec<Pass<u64, u64, Waiter<Global>, J>>,
-    ) -> Vec<Pass<u64, u64, Waiter<Global>, J>> {
+        passes: &mut Vec<Pass<u64, u64, Waiter<Global>, J>>,
+    ) {
         let alloc = rt.alloc();
         let Four { stamps, threads } = self;
-        thread::map_vec(
+        let all = mem::replace(passes, Vec::new(alloc));
+        *passes = thread::map_vec(
             rt,
-            passes,
+            all,
             &|pass| thousand(rt, alloc, channel, stamps, threads, pass),
         )
-        .expect(rt, "memory for the passes")
+        .expect(rt, "memory for the passes");
     }
 }
 

@@ -30,8 +30,8 @@ pub trait RecordedScene<A: Allocator + Copy>: Drop {
         self,
         rt: &R,
         recorder: &Recorded<u64, u64, J, A>,
-        passes: Vec<recorded::Pass<u64, u64, J>, A>,
-    ) -> Vec<recorded::Pass<u64, u64, J>, A>;
+        passes: &mut Vec<recorded::Pass<u64, u64, J>, A>,
+    );
 }
 
 /// Plays a scene on a recorder for so many pairs, entries and passes, and tells its history. The
@@ -66,8 +66,8 @@ fn record_as<J: Recording + Send + Sync, A: Allocator + Copy, S: RecordedScene<A
 {
     let (cap, entries, count) = size;
     let made = Recorded::<u64, u64, J, A>::new(alloc, fresh, cap, entries, count);
-    let (recorder, passes) = made?;
-    let passes = scene.play(rt, &recorder, passes);
+    let (recorder, mut passes) = made?;
+    scene.play(rt, &recorder, &mut passes);
     if passes.len() != count {
         panic!(rt; "a pass is missing");
     }
@@ -80,8 +80,8 @@ pub trait WitnessedScene<T: Drop, W: Clone + Drop, A: Allocator + Copy>: Drop {
         self,
         rt: &R,
         channel: &Witnessed<T, u64, W, J, A>,
-        passes: Vec<witnessed::Pass<T, u64, W, J>, A>,
-    ) -> Vec<witnessed::Pass<T, u64, W, J>, A>;
+        passes: &mut Vec<witnessed::Pass<T, u64, W, J>, A>,
+    );
 }
 
 /// How a witnessed channel is opened: for how many pairs, whether their memory is reserved, how
@@ -150,8 +150,8 @@ where
 {
     let parts = fresh.passes();
     let made = Witnessed::<T, u64, W, J, A>::new(alloc, fresh, core, count);
-    let (channel, passes) = made.expect(rt, "a channel");
-    let mut passes = scene.play(rt, &channel, passes);
+    let (channel, mut passes) = made.expect(rt, "a channel");
+    scene.play(rt, &channel, &mut passes);
     let last = passes.pop().expect(rt, "a pass");
     let Err((channel, mut passes)) = channel.try_end(rt, passes) else {
         panic!(rt; "it ended while a pass was out");

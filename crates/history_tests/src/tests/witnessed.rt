@@ -10,7 +10,7 @@ use priority_channel_witnessed::{Pass, Recording, Waiter, Witnessed};
 use refusing::Refusing;
 use std::alloc::{Allocator, Global};
 use std::sync::{Mutex, Wait};
-use std::thread;
+use std::{mem, thread};
 
 mod tasks;
 mod waits;
@@ -47,9 +47,9 @@ fn opening(cap: u64, passes: usize, parts: usize) -> Opening
 }
 
 // Nobody waits, so a waker is nothing.
-type Restless<J> = Witnessed<u64, u64, (), J>;
+type Plain<J> = Witnessed<u64, u64, (), J>;
 
-type RestlessPasses<J> = Vec<Pass<u64, u64, (), J>>;
+type PlainPasses<J> = Vec<Pass<u64, u64, (), J>>;
 
 /// What is played where nobody waits.
 #[derive(Drop)]
@@ -63,12 +63,12 @@ impl WitnessedScene<u64, (), Global> for Looks {
     fn play<J: Recording + Send + Sync, R: Host>(
         self,
         rt: &R,
-        channel: &Restless<J>,
-        passes: RestlessPasses<J>,
-    ) -> RestlessPasses<J> {
+        channel: &Plain<J>,
+        passes: &mut PlainPasses<J>,
+    ) {
         match self {
             Looks::AllCalls => call_all(rt, channel, passes),
-            Looks::Polls => poll_and_give_up(rt, channel, passes),
+            Looks::Polls => give_up(rt, channel, passes),
             Looks::Guests => come_and_go(rt, channel, passes),
         }
     }
@@ -89,8 +89,8 @@ impl WitnessedScene<u64, Waiter<Global>, Global> for Waiting<'_> {
         self,
         rt: &R,
         channel: &Channel<J>,
-        passes: Passes<J>,
-    ) -> Passes<J> {
+        passes: &mut Passes<J>,
+    ) {
         match self {
             Waiting::Receives => receive_in_time(rt, channel, passes),
             Waiting::Sends => send_in_time(rt, channel, passes),
@@ -116,8 +116,8 @@ impl<'a> WitnessedScene<u64, Waiter<Alloc<'a>>, Alloc<'a>> for Scarce<'a> {
         self,
         rt: &R,
         channel: &Channel<J, Alloc<'a>>,
-        passes: Passes<J, Alloc<'a>>,
-    ) -> Passes<J, Alloc<'a>> {
+        passes: &mut Passes<J, Alloc<'a>>,
+    ) {
         match self {
             Scarce::WithoutTime(alloc) => call_without_time(rt, channel, passes, alloc),
             Scarce::Futures(alloc) => answer(rt, channel, passes, alloc),
@@ -138,11 +138,7 @@ fn tickets<A: Allocator>(wakes: Wakes<(), A>) -> (Option<u64>, Option<u64>) {
 const NOBODY: (Option<u64>, Option<u64>) = (None, None);
 
 // Each call answers as the core's does.
-fn call_all<J: Recording, R: Host>(
-    rt: &R,
-    channel: &Restless<J>,
-    mut passes: RestlessPasses<J>,
-) -> RestlessPasses<J> {
+fn call_all<J: Recording, R: Host>(rt: &R, channel: &Plain<J>, passes: &mut PlainPasses<J>) {
     let mut pass = passes.pop().expect(rt, "a pass");
     expect_equal(rt, channel.is_empty(rt, &mut pass), true);
     let (sent, wakes) = channel.try_send(rt, &mut pass, 1, 5);
@@ -166,24 +162,16 @@ fn call_all<J: Recording, R: Host>(
     expect_equal(rt, (none, tickets(wakes)), (wanted, NOBODY));
     expect_equal(rt, channel.capacity(rt, &mut pass), Some(1));
     passes.push(pass).expect(rt, "its own place");
-    passes
 }
 
 #[test]
 fn calls_answer_as_the_core(rt: HostRuntime) {
-    expect_equal(
-        &rt,
-        witness(&rt, rt.alloc(), opening(1, 1, 1), Looks::AllCalls),
-        0,
-    );
+    let left = witness(&rt, rt.alloc(), opening(1, 1, 1), Looks::AllCalls);
+    expect_equal(&rt, left, 0);
 }
 
 // A receive waits and is handed out by a send; a send waits, gives up, and is handed out no more.
-fn poll_and_give_up<J: Recording, R: Host>(
-    rt: &R,
-    channel: &Restless<J>,
-    mut passes: RestlessPasses<J>,
-) -> RestlessPasses<J> {
+fn give_up<J: Recording, R: Host>(rt: &R, channel: &Plain<J>, passes: &mut PlainPasses<J>) {
     let mut one = passes.pop().expect(rt, "a pass");
     let mut zero = passes.pop().expect(rt, "a pass");
     let (polled, wakes) = channel.poll_recv(rt, &mut one, None, &());
@@ -204,25 +192,17 @@ fn poll_and_give_up<J: Recording, R: Host>(
     expect_equal(rt, tickets(wakes), NOBODY);
     passes.push(zero).expect(rt, "its own place");
     passes.push(one).expect(rt, "its own place");
-    passes
 }
 
 #[test]
 fn polls_hand_out_as_the_core(rt: HostRuntime) {
-    expect_equal(
-        &rt,
-        witness(&rt, rt.alloc(), opening(1, 2, 2), Looks::Polls),
-        0,
-    );
+    let left = witness(&rt, rt.alloc(), opening(1, 2, 2), Looks::Polls);
+    expect_equal(&rt, left, 0);
 }
 
 // To a channel of four parts, with one pass, two can come at a time. The first that came sends a
 // message and goes again before the last is asked for.
-fn come_and_go<J: Recording, R: Host>(
-    rt: &R,
-    channel: &Restless<J>,
-    mut passes: RestlessPasses<J>,
-) -> RestlessPasses<J> {
+fn come_and_go<J: Recording, R: Host>(rt: &R, channel: &Plain<J>, passes: &mut PlainPasses<J>) {
     let own = passes.pop().expect(rt, "a pass");
     expect_equal(rt, own.number(), 0);
     let mut one = channel.fork(rt, &own).expect(rt, "a pass to fork");
@@ -240,16 +220,12 @@ fn come_and_go<J: Recording, R: Host>(
     for pass in [own, two, three] {
         passes.push(pass).expect(rt, "memory");
     }
-    passes
 }
 
 #[test]
 fn passes_come_and_go(rt: HostRuntime) {
-    expect_equal(
-        &rt,
-        witness(&rt, rt.alloc(), opening(2, 1, 4), Looks::Guests),
-        2,
-    );
+    let left = witness(&rt, rt.alloc(), opening(2, 1, 4), Looks::Guests);
+    expect_equal(&rt, left, 2);
 }
 
 // The calls of one pass, with texts, which are no `Copy`. Counts what was sent and received.
@@ -306,16 +282,17 @@ impl WitnessedScene<String, (), Global> for Four<'_> {
         self,
         rt: &R,
         channel: &Witnessed<String, u64, (), J>,
-        passes: Vec<Pass<String, u64, (), J>>,
-    ) -> Vec<Pass<String, u64, (), J>> {
+        passes: &mut Vec<Pass<String, u64, (), J>>,
+    ) {
         let alloc = rt.alloc();
         let counts = self.counts;
-        thread::map_vec(
+        let all = mem::replace(passes, Vec::new(alloc));
+        *passes = thread::map_vec(
             rt,
-            passes,
+            all,
             &|pass| call_by_guests(rt, alloc, channel, counts, pass),
         )
-        .expect(rt, "memory for the passes")
+        .expect(rt, "memory for the passes");
     }
 }
 

@@ -2,7 +2,7 @@
 ghost use Rattle.std.specs.Iterator.{IsFinite};
 
 use super::calls::{Call, Input, Pair, Side, Way};
-use super::reply::{Looks, Outcome, Refusal, Reply};
+use super::reply::{Looks, Outcome, Refusal, Reply, looks};
 use super::send::deadline_of;
 use crate::tests::Host;
 use async_priority_channel::Receiver;
@@ -194,14 +194,5 @@ fn tell_loop<I: Iterator<Item = Pair> + Drop>(rt: &impl Host, pairs: I, most: us
 fn look<R: Wait + Clone + RandomSource, A: Allocator + Copy>(
     rx: &Receiver<u64, u64, R, A>,
 ) -> Looks {
-    Looks {
-        len: rx.len(),
-        is_empty: rx.is_empty(),
-        is_full: rx.is_full(),
-        is_closed: rx.is_closed(),
-        capacity: rx.capacity(),
-        sender_count: rx.sender_count(),
-        receiver_count: rx.receiver_count(),
-        is_of_itself: rx.same_channel(rx),
-    }
+    looks!(rx)
 }

@@ -21,6 +21,24 @@ pub struct Looks {
     pub is_of_itself: bool,
 }
 
+/// What either kind of handle tells of its channel.
+macro_rules! looks {
+    ($handle:expr) => {
+        Looks {
+            len: $handle.len(),
+            is_empty: $handle.is_empty(),
+            is_full: $handle.is_full(),
+            is_closed: $handle.is_closed(),
+            capacity: $handle.capacity(),
+            sender_count: $handle.sender_count(),
+            receiver_count: $handle.receiver_count(),
+            is_of_itself: $handle.same_channel($handle),
+        }
+    };
+}
+
+pub(super) use looks;
+
 #[derive(Clone, Copy, Debug, PartialEq)]
 pub enum Outcome {
     Done,
@@ -104,12 +122,6 @@ impl<T> Refusal<T> for SendTimeoutError<T> {
     }
 }
 
-impl Refusal<()> for TryRecvError {
-    fn tell(self) -> (Outcome, ()) {
-        TryRecvManyError::from(self).tell()
-    }
-}
-
 impl Refusal<()> for TryRecvManyError {
     fn tell(self) -> (Outcome, ()) {
         match self {
@@ -120,12 +132,6 @@ impl Refusal<()> for TryRecvManyError {
     }
 }
 
-impl Refusal<()> for RecvFault {
-    fn tell(self) -> (Outcome, ()) {
-        RecvTimeoutError::from(self).tell()
-    }
-}
-
 impl Refusal<()> for RecvTimeoutError {
     fn tell(self) -> (Outcome, ()) {
         match self {
@@ -133,5 +139,17 @@ impl Refusal<()> for RecvTimeoutError {
             RecvTimeoutError::Closed => (Outcome::Closed, ()),
             RecvTimeoutError::Memory => (Outcome::Memory, ()),
         }
+    }
+}
+
+impl Refusal<()> for TryRecvError {
+    fn tell(self) -> (Outcome, ()) {
+        TryRecvManyError::from(self).tell()
+    }
+}
+
+impl Refusal<()> for RecvFault {
+    fn tell(self) -> (Outcome, ()) {
+        RecvTimeoutError::from(self).tell()
     }
 }

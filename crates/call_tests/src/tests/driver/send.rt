@@ -1,6 +1,6 @@
 //! The calls of a sender.
 use super::calls::{Call, Input, Pair, Pairs, Side, Way};
-use super::reply::{Looks, Outcome, Refusal, Reply};
+use super::reply::{Looks, Outcome, Refusal, Reply, looks};
 use crate::tests::Host;
 use async_priority_channel::Sender;
 use futures::executor::block_on;
@@ -126,14 +126,5 @@ pub fn tell_many<E: Refusal<Peekable<Pairs>> + Drop>(
 }
 
 fn look<R: Wait + Clone + RandomSource, A: Allocator + Copy>(tx: &Sender<u64, u64, R, A>) -> Looks {
-    Looks {
-        len: tx.len(),
-        is_empty: tx.is_empty(),
-        is_full: tx.is_full(),
-        is_closed: tx.is_closed(),
-        capacity: tx.capacity(),
-        sender_count: tx.sender_count(),
-        receiver_count: tx.receiver_count(),
-        is_of_itself: tx.same_channel(tx),
-    }
+    looks!(tx)
 }

@@ -23,6 +23,8 @@ enum Situation {
     Ended,
 }
 
+type Round = (Situation, Call, Input);
+
 const SITUATIONS: [Situation; 3] = [Situation::Waiting, Situation::Woken, Situation::Ended];
 
 // One, more than there is room for, and none: the last with the least priority.
@@ -45,14 +47,50 @@ fn rest_all(tasks: &[MockTask]) {
 }
 
 // All tasks are woken, or none is.
-fn expect_woken<R: Host>(
-    rt: &R,
-    tasks: &[MockTask],
-    round: (Situation, Call, Input),
-    wanted: bool,
-) {
+fn expect_woken<R: Host>(rt: &R, tasks: &[MockTask], round: Round, wanted: bool) {
     let count = if wanted { tasks.len() } else { 0 };
     expect_equal_at(rt, (round, "how many are woken"), count_woken(tasks), count);
+}
+
+// What is given to a call that lets those go on who wait.
+fn given() -> Input {
+    input(20, 1, 1)
+}
+
+// Brings the tasks into their situation. Tells whether the call would not wait then.
+fn begin<R: Host>(
+    rt: &R,
+    mirrored: &mut Mirrored<R>,
+    tasks: &[MockTask],
+    round: Round,
+    wake: Call,
+    end: Call,
+) -> bool {
+    match round.0 {
+        Situation::Waiting => {}
+        Situation::Woken => mirrored.agree(rt, round, wake, given()),
+        Situation::Ended => mirrored.agree(rt, round, end, given()),
+    }
+    expect_woken(rt, tasks, round, round.0 != Situation::Waiting);
+    rest_all(tasks);
+    !mirrored.model.waits(round.1, round.2)
+}
+
+// The call has woken those who may go on by it. The others wait on, for what comes later.
+fn expect_effect<R: Host>(
+    rt: &R,
+    mirrored: &mut Mirrored<R>,
+    tasks: &[MockTask],
+    round: Round,
+    may_go_on: bool,
+    wake: Call,
+) {
+    let wait = round.0 == Situation::Waiting;
+    expect_woken(rt, tasks, round, wait && may_go_on);
+    if wait && !may_go_on {
+        mirrored.agree(rt, round, wake, given());
+        expect_woken(rt, tasks, round, true);
+    }
 }
 
 fn expect_pending<R: Host>(rt: &R, waits: bool) {
@@ -60,8 +98,8 @@ fn expect_pending<R: Host>(rt: &R, waits: bool) {
 }
 
 // Three futures wait at an empty channel.
-fn wake_receivers<R: Host>(rt: &R, tasks: &[MockTask; 3], round: (Situation, Call, Input)) {
-    let (situation, call, input_of_call) = round;
+fn wake_receivers<R: Host>(rt: &R, tasks: &[MockTask; 3], round: Round) {
+    let (_, call, input_of_call) = round;
     let (tx, rx) = bounded(rt, rt.alloc(), CAPACITY).expect(rt, "a channel");
     let other = rx.clone().expect(rt, "a receiver");
     let mut mirrored = Mirrored::new(rt, rt.alloc(), (tx, other), CAPACITY, (1, 2));
@@ -72,26 +110,15 @@ fn wake_receivers<R: Host>(rt: &R, tasks: &[MockTask; 3], round: (Situation, Cal
     expect_pending(rt, is_pending(tasks[0].poll(&mut receiving)));
     expect_pending(rt, is_pending(tasks[1].poll(&mut stream.next())));
     expect_pending(rt, is_pending(tasks[2].poll(&mut batching)));
-    match situation {
-        Situation::Waiting => {}
-        Situation::Woken => mirrored.agree(rt, round, Call::Send(Way::Try), input(1, 1, 1)),
-        Situation::Ended => mirrored.agree(rt, round, Call::Close(Side::Sender), input(1, 1, 1)),
-    }
-    if mirrored.model.waits(call, input_of_call) {
+    let (wake, end) = (Call::Send(Way::Try), Call::Close(Side::Sender));
+    if !begin(rt, &mut mirrored, tasks, round, wake, end) {
         return;
     }
-    expect_woken(rt, tasks, round, situation != Situation::Waiting);
-    rest_all(tasks);
     let accepted = mirrored.model.accepted;
     mirrored.agree(rt, round, call, input_of_call);
     mirrored.agree(rt, round, Call::Look(Side::Sender), input_of_call);
     let may_go_on = mirrored.model.accepted > accepted || mirrored.model.is_closed;
-    let wakes = situation == Situation::Waiting && may_go_on;
-    expect_woken(rt, tasks, round, wakes);
-    if situation == Situation::Waiting && !wakes {
-        mirrored.agree(rt, round, Call::Send(Way::Try), input(20, 1, 1));
-        expect_woken(rt, tasks, round, true);
-    }
+    expect_effect(rt, &mut mirrored, tasks, round, may_go_on, wake);
     let polled = input(0, 0, 2);
     let next = match tasks[1].poll(&mut stream.next()) {
         Poll::Ready(next) => Reply::found(rt, next, Outcome::Ended),
@@ -111,8 +138,8 @@ fn wake_receivers<R: Host>(rt: &R, tasks: &[MockTask; 3], round: (Situation, Cal
 }
 
 // Two futures wait at a full channel, in which 1, 2 and 3 are pending.
-fn wake_senders<R: Host>(rt: &R, tasks: &[MockTask; 2], round: (Situation, Call, Input)) {
-    let (situation, call, input_of_call) = round;
+fn wake_senders<R: Host>(rt: &R, tasks: &[MockTask; 2], round: Round) {
+    let (_, call, input_of_call) = round;
     let (tx, rx) = bounded(rt, rt.alloc(), CAPACITY).expect(rt, "a channel");
     let other = tx.clone().expect(rt, "a sender");
     let mut mirrored = Mirrored::new(rt, rt.alloc(), (other, rx), CAPACITY, (2, 1));
@@ -121,28 +148,17 @@ fn wake_senders<R: Host>(rt: &R, tasks: &[MockTask; 2], round: (Situation, Call,
     let mut bulk = tx.sendv(input(8, 2, 0).pairs.peekable());
     expect_pending(rt, is_pending(tasks[0].poll(&mut sending)));
     expect_pending(rt, is_pending(tasks[1].poll(&mut bulk)));
-    match situation {
-        Situation::Waiting => {}
-        Situation::Woken => mirrored.agree(rt, round, Call::Recv(Way::Try), input(0, 0, 0)),
-        Situation::Ended => mirrored.agree(rt, round, Call::Close(Side::Receiver), input(0, 0, 0)),
-    }
-    if mirrored.model.waits(call, input_of_call) {
+    let (wake, end) = (Call::Recv(Way::Try), Call::Close(Side::Receiver));
+    if !begin(rt, &mut mirrored, tasks, round, wake, end) {
         return;
     }
-    expect_woken(rt, tasks, round, situation != Situation::Waiting);
-    rest_all(tasks);
     let taken = mirrored.model.taken;
     mirrored.agree(rt, round, call, input_of_call);
     let look = Call::Look(Side::Sender);
     let seen = send(rt, &tx, look, input_of_call);
     mirrored.expect(rt, round, (look, input_of_call), seen);
     let may_go_on = mirrored.model.taken > taken || mirrored.model.is_closed;
-    let wakes = situation == Situation::Waiting && may_go_on;
-    expect_woken(rt, tasks, round, wakes);
-    if situation == Situation::Waiting && !wakes {
-        mirrored.agree(rt, round, Call::Recv(Way::Try), input(0, 0, 0));
-        expect_woken(rt, tasks, round, true);
-    }
+    expect_effect(rt, &mut mirrored, tasks, round, may_go_on, wake);
     let sent = ready(tasks[0].poll(&mut sending));
     let told = tell_one(rt, sent);
     mirrored.expect(rt, round, (Call::Send(Way::Poll), input(7, 1, 0)), told);

@@ -7,7 +7,7 @@ use priority_channel_recorded::{Call, Entry, Pass, Recorded, Recording, Reply};
 use std::alloc::Global;
 use std::process::Abort;
 use std::sync::{Mutex, Wait};
-use std::thread;
+use std::{mem, thread};
 
 /// The entries of each thread.
 pub(super) type Told = Mutex<Vec<Vec<Entry<u64, u64>>>>;
@@ -117,16 +117,15 @@ impl Plain {
 pub(super) fn call_on_four_threads<J: Recording + Send + Sync, R: Host>(
     rt: &R,
     recorder: &Recorded<u64, u64, J>,
-    passes: Passes<J>,
+    passes: &mut Passes<J>,
     told: &Told,
-) -> Passes<J> {
+) {
     let alloc = rt.alloc();
-    thread::map_vec(
+    let all = mem::replace(passes, Vec::new(alloc));
+    *passes = thread::map_vec(rt, all, &|pass| thousand(rt, recorder, alloc, told, pass)).expect(
         rt,
-        passes,
-        &|pass| thousand(rt, recorder, alloc, told, pass),
-    )
-    .expect(rt, "memory for the passes")
+        "memory for the passes",
+    );
 }
 
 #[test]

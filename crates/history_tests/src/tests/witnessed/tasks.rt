@@ -16,9 +16,9 @@ use std::time::{Clock, Duration};
 pub(super) fn answer<'a, J: Recording, R: Host>(
     rt: &R,
     channel: &Channel<J, Alloc<'a>>,
-    mut passes: Passes<J, Alloc<'a>>,
+    passes: &mut Passes<J, Alloc<'a>>,
     alloc: Alloc<'a>,
-) -> Passes<J, Alloc<'a>> {
+) {
     let pass = passes.pop().expect(rt, "a pass");
     let pairs = Vec::from_array(alloc, [(9u64, 3u64), (10, 4)]).expect(rt, "memory");
     alloc.refuse_nth(1);
@@ -43,7 +43,6 @@ pub(super) fn answer<'a, J: Recording, R: Host>(
     expect_equal(rt, rest, [Some((9, 3)), Some((10, 4)), None]);
     expect_equal(rt, alloc.refuse_none(), true);
     passes.push(pass).expect(rt, "its own place");
-    passes
 }
 
 #[test]
@@ -56,9 +55,9 @@ fn futures_answer(rt: HostRuntime) {
 pub(super) fn receive_without_memory<'a, J: Recording + Send + Sync, R: Host>(
     rt: &R,
     channel: &Channel<J, Alloc<'a>>,
-    mut passes: Passes<J, Alloc<'a>>,
+    passes: &mut Passes<J, Alloc<'a>>,
     alloc: Alloc<'a>,
-) -> Passes<J, Alloc<'a>> {
+) {
     let mut own = passes.pop().expect(rt, "a pass");
     let pass = passes.pop().expect(rt, "a pass");
     alloc.hold_nth(1);
@@ -78,7 +77,6 @@ pub(super) fn receive_without_memory<'a, J: Recording + Send + Sync, R: Host>(
     expect_equal(rt, alloc.refuse_none(), false);
     passes.push(pass).expect(rt, "its own place");
     passes.push(own).expect(rt, "its own place");
-    passes
 }
 
 fn is_halted_in_time(rt: &impl Clock, alloc: Alloc<'_>) -> bool {
@@ -108,8 +106,8 @@ fn a_receive_without_memory_takes_what_has_come(rt: HostRuntime) {
 pub(super) fn drop_those_that_wait<J: Recording, R: Host>(
     rt: &R,
     channel: &Channel<J>,
-    mut passes: Passes<J>,
-) -> Passes<J> {
+    passes: &mut Passes<J>,
+) {
     let mut own = passes.pop().expect(rt, "a pass");
     let guest = channel.admit(rt).expect(rt, "a pass to admit");
     expect_equal(rt, guest.number(), 1);
@@ -130,7 +128,6 @@ pub(super) fn drop_those_that_wait<J: Recording, R: Host>(
     expect_equal(rt, guest.number(), 3);
     channel.leave(rt, guest);
     passes.push(own).expect(rt, "its own place");
-    passes
 }
 
 #[test]
@@ -185,8 +182,8 @@ fn receive_many<J: Recording, R: Host>(
 pub(super) fn relay<J: Recording + Send + Sync, R: Host>(
     rt: &R,
     channel: &Channel<J>,
-    mut passes: Passes<J>,
-) -> Passes<J> {
+    passes: &mut Passes<J>,
+) {
     let receiver = passes.pop().expect(rt, "a pass");
     let sender = passes.pop().expect(rt, "a pass");
     let ((sent, sender), (received, receiver)) = thread::join(
@@ -197,14 +194,10 @@ pub(super) fn relay<J: Recording + Send + Sync, R: Host>(
     expect_equal(rt, (sent, received), (1200, 1200));
     passes.push(sender).expect(rt, "its own place");
     passes.push(receiver).expect(rt, "its own place");
-    passes
 }
 
 #[test]
 fn tasks_wait_for_each_other(rt: HostRuntime) {
-    expect_equal(
-        &rt,
-        witness(&rt, rt.alloc(), opening(2, 2, 2), Waiting::Tasks),
-        0,
-    );
+    let left = witness(&rt, rt.alloc(), opening(2, 2, 2), Waiting::Tasks);
+    expect_equal(&rt, left, 0);
 }

@@ -9,8 +9,8 @@ use refusing::Refusing;
 use std::alloc::Global;
 use std::process::Abort;
 use std::sync::{Mutex, Wait, WaitMethods};
-use std::thread;
 use std::time::{Duration, Instant};
+use std::{mem, thread};
 
 fn limit() -> Duration {
     Duration::from_millis(20)
@@ -20,8 +20,8 @@ fn limit() -> Duration {
 pub(super) fn receive_in_time<J: Recording, R: Host>(
     rt: &R,
     channel: &Channel<J>,
-    mut passes: Passes<J>,
-) -> Passes<J> {
+    passes: &mut Passes<J>,
+) {
     let mut pass = passes.pop().expect(rt, "a pass");
     let begun = Instant::now(rt).expect(rt, "a clock");
     let late = channel.recv_timeout(rt, &mut pass, limit());
@@ -46,7 +46,6 @@ pub(super) fn receive_in_time<J: Recording, R: Host>(
     let closed = channel.recv_blocking(rt, &mut pass);
     expect_equal(rt, closed, Err(RecvFault::Closed(RecvError)));
     passes.push(pass).expect(rt, "its own place");
-    passes
 }
 
 #[test]
@@ -58,8 +57,8 @@ fn receives_end_in_time(rt: HostRuntime) {
 pub(super) fn send_in_time<J: Recording, R: Host>(
     rt: &R,
     channel: &Channel<J>,
-    mut passes: Passes<J>,
-) -> Passes<J> {
+    passes: &mut Passes<J>,
+) {
     let mut pass = passes.pop().expect(rt, "a pass");
     let begun = Instant::now(rt).expect(rt, "a clock");
     let pairs = Vec::from_array(rt.alloc(), [(7u64, 1u64), (8, 1), (9, 1)]).expect(rt, "memory");
@@ -86,7 +85,6 @@ pub(super) fn send_in_time<J: Recording, R: Host>(
     let closed = channel.send_blocking(rt, &mut pass, 4, 8);
     expect_equal(rt, closed, Err(SendFault::Closed(SendError((4, 8)))));
     passes.push(pass).expect(rt, "its own place");
-    passes
 }
 
 #[test]
@@ -98,9 +96,9 @@ fn sends_end_in_time(rt: HostRuntime) {
 pub(super) fn call_without_time<'a, J: Recording, R: Host>(
     rt: &R,
     channel: &Channel<J, Alloc<'a>>,
-    mut passes: Passes<J, Alloc<'a>>,
+    passes: &mut Passes<J, Alloc<'a>>,
     alloc: Alloc<'a>,
-) -> Passes<J, Alloc<'a>> {
+) {
     let mut pass = passes.pop().expect(rt, "a pass");
     alloc.refuse_nth(1);
     let late = channel.recv_timeout(rt, &mut pass, Duration::ZERO);
@@ -113,7 +111,6 @@ pub(super) fn call_without_time<'a, J: Recording, R: Host>(
     expect_equal(rt, received, Ok((1, 1)));
     expect_equal(rt, alloc.refuse_none(), true);
     passes.push(pass).expect(rt, "its own place");
-    passes
 }
 
 #[test]
@@ -170,17 +167,18 @@ fn send_or_receive<J: Recording, R: Wait + Abort>(
 pub(super) fn block_on_four_threads<J: Recording + Send + Sync, R: Host>(
     rt: &R,
     channel: &Channel<J>,
-    passes: Passes<J>,
+    passes: &mut Passes<J>,
     counts: &Mutex<(u64, u64)>,
-) -> Passes<J> {
+) {
     let alloc = rt.alloc();
     let senders = &Mutex::new(2u64);
-    thread::map_vec(
+    let all = mem::replace(passes, Vec::new(alloc));
+    *passes = thread::map_vec(
         rt,
-        passes,
+        all,
         &|pass| send_or_receive(rt, alloc, channel, counts, senders, pass),
     )
-    .expect(rt, "memory for the passes")
+    .expect(rt, "memory for the passes");
 }
 
 #[test]
