@@ -1,12 +1,16 @@
 //! Scripts of calls by handles and futures, and the tests that are none.
+use futures::task::Poll;
 use std::fmt::Debug;
 use std::process::Abort;
 
 mod batches;
+mod bulk;
 mod combined;
+mod drops;
 mod errors;
 mod evicting;
 mod guards;
+mod long;
 mod looks;
 mod messages;
 mod orders;
@@ -32,4 +36,8 @@ fn expect_equal_at<N: Debug + Drop, X: PartialEq + Debug + Drop>(
     wanted: X,
 ) {
     assert_eq!(rt; got, wanted, "at {round:?}");
+}
+
+fn is_pending<T: Drop>(polled: Poll<T>) -> bool {
+    matches!(polled, Poll::Pending)
 }

@@ -27,7 +27,8 @@ mod words;
 
 use handles::told_all;
 use stage::{Handles, Stage, put};
-use words::{Host, Text, number, told};
+pub use words::Host;
+use words::{Text, number, told};
 
 /// What a script is played on.
 #[derive(Drop)]

@@ -87,7 +87,88 @@ fn a_future_that_goes_does_nothing_more(rt: HostRuntime) {
         r1 by rx recv; r1 poll first = Pending; b1 by rx recv_many 2; b1 poll second = Pending
         drop r1; drop b1; rest first; rest second; tx try_send x 1; woken =
         s1 by tx send y 2; s1 poll first = Pending; v1 by tx sendv z 3; v1 poll second = Pending
-        drop s1; drop v1; rest first; rest second; rx try_recv = Ok(('x', 1)); woken =",
+        drop s1; drop v1; rest first; rest second; rx try_recv = Ok(('x', 1)); woken =
+        -- a close stays where those that it woke are dropped
+        bounded tx rx 1
+        lend tx rx
+        r1 by rx recv; r1 poll task = Pending; b1 by rx recv_many 2; b1 poll task = Pending
+        st by rx stream; st poll task = Pending; tx try_send x 1; s1 by tx send y 2
+        s1 poll task = Pending; v1 by tx sendv z 3; v1 poll task = Pending; tx close = true
+        drop r1; drop b1; drop st; drop s1; drop v1; looks = 1 of 1 full closed 1+1
+        rx try_recv = Ok(('x', 1)); rx try_recv = Err(Closed)",
+    );
+}
+
+// Each is polled twice, so that a place that was not kept would be left behind.
+#[test]
+fn a_receive_stays_listed_amid_those_that_go(rt: HostRuntime) {
+    run(
+        &rt,
+        "
+        -- those that wait are dropped
+        bounded tx rx 4; r2 by rx clone
+        lend rx
+        r1 by rx recv; st by rx stream; stay by rx recv; own by r2 into_stream
+        b1 by rx recv_many 1; r1 poll go = Pending; st poll go = Pending; stay poll home = Pending
+        own poll go = Pending; b1 poll go = Pending; r1 poll go = Pending; st poll go = Pending
+        stay poll home = Pending; own poll go = Pending; b1 poll go = Pending
+        drop r1; drop st; drop own; drop b1; looks = 0 of 4 empty 1+1
+        rest go; tx try_send x 6; woken = home
+        stay poll home = Ok(('x', 6))
+        -- those that were woken are dropped
+        bounded tx rx 4; r2 by rx clone
+        lend rx
+        r1 by rx recv; st by rx stream; stay by rx recv; own by r2 into_stream
+        b1 by rx recv_many 1; r1 poll go = Pending; st poll go = Pending; stay poll home = Pending
+        own poll go = Pending; b1 poll go = Pending; tx try_sendv a 1 b 2 c 3 d 4; woken = go home
+        drop r1; drop st; drop own; drop b1; rx count = 4; stay poll home = Pending; rest go
+        tx try_send x 6; woken = home
+        stay poll home = Ok(('x', 6)); looks = 0 of 4 empty 1+1
+        -- those that have answered are dropped
+        bounded tx rx 4; r2 by rx clone
+        lend rx
+        r1 by rx recv; st by rx stream; stay by rx recv; own by r2 into_stream
+        b1 by rx recv_many 1; r1 poll go = Pending; st poll go = Pending; stay poll home = Pending
+        own poll go = Pending; b1 poll go = Pending; tx try_sendv a 1 b 2 c 3 d 4
+        r1 poll go = Ok(('d', 4)); st poll go = Some(('c', 3)); own poll go = Some(('b', 2))
+        b1 poll go = Ok(1); stay poll home = Pending; rest go; tx try_send e 5; woken = home
+        rx try_recv = Ok(('e', 5)); drop r1; drop st; drop own; drop b1; stay poll home = Pending
+        rest go; tx try_send x 6; woken = home
+        stay poll home = Ok(('x', 6)); looks = 0 of 4 empty 1+1",
+    );
+}
+
+#[test]
+fn a_send_stays_listed_amid_those_that_go(rt: HostRuntime) {
+    run(
+        &rt,
+        "
+        -- those that wait are dropped
+        bounded tx rx 1; tx try_send x 9
+        lend tx
+        s1 by tx send a 1; stay by tx send b 2; v1 by tx sendv c 3 d 4; s1 poll go = Pending
+        stay poll home = Pending; v1 poll go = Pending; s1 poll go = Pending
+        stay poll home = Pending; v1 poll go = Pending; drop s1; drop v1; rest go
+        rx try_recv = Ok(('x', 9)); woken = home
+        stay poll home; rx try_recv = Ok(('b', 2)); rx try_recv = Err(Empty)
+        -- those that were woken are dropped
+        bounded tx rx 1; tx try_send x 9
+        lend tx
+        s1 by tx send a 1; stay by tx send b 2; v1 by tx sendv c 3 d 4; s1 poll go = Pending
+        stay poll home = Pending; v1 poll go = Pending; rx try_recv = Ok(('x', 9)); woken = go home
+        drop s1; drop v1; rx try_recv = Err(Empty); tx try_send x 9; stay poll home = Pending
+        rest go; rx try_recv = Ok(('x', 9)); woken = home
+        stay poll home; rx try_recv = Ok(('b', 2)); rx try_recv = Err(Empty)
+        -- those that have answered are dropped
+        bounded tx rx 1; tx try_send x 9
+        lend tx
+        s1 by tx send a 1; stay by tx send b 2; v1 by tx sendv c 3 d 4; s1 poll go = Pending
+        stay poll home = Pending; v1 poll go = Pending; rx try_recv = Ok(('x', 9)); s1 poll go
+        rx try_recv = Ok(('a', 1)); v1 poll go = Pending; rx try_recv = Ok(('c', 3)); v1 poll go
+        stay poll home = Pending; rest go; rx try_recv = Ok(('d', 4)); woken = home
+        drop s1; drop v1; rx try_recv = Err(Empty); tx try_send x 9; stay poll home = Pending
+        rest go; rx try_recv = Ok(('x', 9)); woken = home
+        stay poll home; rx try_recv = Ok(('b', 2)); rx try_recv = Err(Empty)",
     );
 }
 
@@ -116,6 +197,21 @@ fn a_future_that_has_answered_does_nothing_more(rt: HostRuntime) {
         s1 by tx send y 2; refuse_nth 1; s1 poll task = Memory(..) ('y', 2); v1 by tx sendv z 3
         refuse_nth 1; v1 poll task = Memory(..) [('z', 3)]; refuse_none = false
         rx try_recv = Ok(('x', 1)); s1 poll task = Pending; v1 poll task = Pending
+        looks = 0 of 1 empty 1+1
+        --
+        reserved tx rx 1
+        lend tx rx
+        r1 by rx recv; b1 by rx recv_many 2; refuse_nth 2; r1 poll task = Err(Memory); refuse_nth 2
+        b1 poll task = Err(Memory); refuse_none = false; rest task; r1 poll task = Pending
+        woken = task
+        rest task; b1 poll task = Pending; woken = task
+        rest task; tx try_send x 1; woken =
+        s1 by tx send y 2; v1 by tx sendv z 3 w 4; refuse_nth 2
+        s1 poll task = Memory(..) ('y', 2); refuse_nth 2
+        v1 poll task = Memory(..) [('z', 3), ('w', 4)]; refuse_none = false; rest task
+        s1 poll task = Pending; woken = task
+        rest task; v1 poll task = Pending; woken = task
+        rest task; rx try_recv = Ok(('x', 1)); woken =
         looks = 0 of 1 empty 1+1",
     );
 }

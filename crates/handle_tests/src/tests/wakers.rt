@@ -12,7 +12,9 @@ fn the_task_that_polled_last_is_woken(rt: HostRuntime) {
         r1 by rx recv; r1 poll first = Pending; woken =
         r1 poll second = Pending; rest first; woken =
         tx try_send x 1; woken = second
-        r1 poll second = Ok(('x', 1))
+        rx try_recv = Ok(('x', 1)); r1 poll second = Pending; r1 poll first = Pending; rest second
+        tx try_send y 2; woken = first
+        r1 poll first = Ok(('y', 2))
         --
         bounded tx rx 1
         lend rx
@@ -31,7 +33,9 @@ fn the_task_that_polled_last_is_woken(rt: HostRuntime) {
         s1 by tx send y 2; s1 poll first = Pending; woken =
         s1 poll second = Pending; rest first; woken =
         rx try_recv = Ok(('x', 1)); woken = second
-        s1 poll second; rx try_recv = Ok(('y', 2))
+        tx try_send z 3; s1 poll second = Pending; s1 poll first = Pending; rest second
+        rx try_recv = Ok(('z', 3)); woken = first
+        s1 poll first; rx try_recv = Ok(('y', 2))
         --
         bounded tx rx 1
         lend tx
@@ -89,6 +93,16 @@ fn all_that_wait_are_woken(rt: HostRuntime) {
         s1 by tx send c 3; s1 poll sender = Pending; st by rx stream
         st poll receiver = Some(('b', 2)); woken = sender
         s1 poll sender; b1 by rx recv_many 3; b1 poll receiver = Ok(1); looks = 0 of 1 empty 1+1
+        -- a bulk send and a stream wake each other in turn
+        bounded tx rx 1
+        lend tx rx
+        st by rx stream; v1 by tx sendv a 1 b 2 c 3; st poll receiver = Pending
+        v1 poll sender = Pending; woken = receiver
+        st poll receiver = Some(('a', 1)); woken = sender
+        st poll receiver = Pending; v1 poll sender = Pending; woken = receiver
+        st poll receiver = Some(('b', 2)); woken = sender
+        st poll receiver = Pending; v1 poll sender; woken = receiver
+        st poll receiver = Some(('c', 3))
         -- takings wake who waits for room
         bounded tx rx 1; tx try_send a 1
         lend tx

@@ -1,0 +1,60 @@
+//! All calls by their names, on one thread and beside other threads.
+use futures::task::Poll;
+use futures::test::MockTask;
+use std::alloc::AllocGlobal;
+use std::fmt::Debug;
+use std::process::Abort;
+use std::random::RandomSource;
+use std::sync::Wait;
+use std::time::Clock;
+
+mod driver;
+mod tables;
+mod threads;
+
+/// What a test asks of its runtime.
+pub trait Host: Abort + Wait + Clone + Clock + RandomSource + AllocGlobal {}
+
+impl<R: Abort + Wait + Clone + Clock + RandomSource + AllocGlobal> Host for R {}
+
+/// `assert_eq!`, proved once: each one in place takes seconds of the check.
+fn expect_equal<X: PartialEq + Debug + Drop>(rt: &impl Abort, got: X, wanted: X) {
+    assert_eq!(rt; got, wanted);
+}
+
+/// The same in one round of a loop, which it names where the two differ.
+fn expect_equal_at<N: Debug + Drop, X: PartialEq + Debug + Drop>(
+    rt: &impl Abort,
+    round: N,
+    got: X,
+    wanted: X,
+) {
+    assert_eq!(rt; got, wanted, "at {round:?}");
+}
+
+/// `assert!`, proved once.
+fn expect_true(rt: &impl Abort, holds: bool, what: &str) {
+    assert!(rt; holds, "{what}");
+}
+
+fn is_pending<T: Drop>(polled: Poll<T>) -> bool {
+    matches!(polled, Poll::Pending)
+}
+
+/// None where it is pending.
+fn ready<T>(polled: Poll<T>) -> Option<T> {
+    match polled {
+        Poll::Ready(answer) => Some(answer),
+        Poll::Pending => None,
+    }
+}
+
+fn new_task<R: Host>(rt: &R) -> MockTask {
+    MockTask::new(rt).expect(rt, "a task")
+}
+
+/// A waker wakes its task also as it is dropped. A poll of nothing lets the task rest again, so that
+/// what wakes it afterwards shows.
+fn rest(task: &MockTask) {
+    task.enter(|_| {});
+}

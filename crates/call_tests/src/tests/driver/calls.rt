@@ -1,0 +1,143 @@
+//! The calls by name, and what they are given.
+ghost use Rattle.std.specs.Iterator.{at_most};
+
+use std::time::Duration;
+
+/// How a call waits.
+#[derive(Clone, Copy, Debug, PartialEq)]
+pub enum Way {
+    Try,
+    /// As a future that is polled once, and dropped.
+    Poll,
+    Future,
+    Blocking,
+    Timeout,
+    Deadline,
+}
+
+#[derive(Clone, Copy, Debug, PartialEq)]
+pub enum Side {
+    Sender,
+    Receiver,
+}
+
+#[derive(Clone, Copy, Debug, PartialEq)]
+pub enum Call {
+    Send(Way),
+    Sendv(Way),
+    SendEvicting,
+    Recv(Way),
+    RecvMany(Way),
+    TryIter,
+    Iter,
+    IntoIter,
+    /// A stream is asked for one message.
+    Stream(Way),
+    IntoStream(Way),
+    TakeWhere,
+    Retain,
+    PeekWith,
+    PeekPriority,
+    /// Each kind of future, stream and loop is dropped as it was made.
+    Unpolled(Side),
+    Look(Side),
+    Clone(Side),
+    /// By the clone of a weak handle, which also tells whether the channel is closed.
+    Upgrade(Side),
+    Close(Side),
+    CloseOnDrop(Side),
+    Drop(Side),
+}
+
+impl Call {
+    /// Whose call it is.
+    pub fn side(self) -> Side {
+        match self {
+            Call::Send(_) | Call::Sendv(_) | Call::SendEvicting => Side::Sender,
+            Call::Unpolled(side)
+            | Call::Look(side)
+            | Call::Clone(side)
+            | Call::Upgrade(side)
+            | Call::Close(side)
+            | Call::CloseOnDrop(side)
+            | Call::Drop(side) => side,
+            _receive => Side::Receiver,
+        }
+    }
+
+    pub fn way(self) -> Way {
+        match self {
+            Call::Send(way)
+            | Call::Sendv(way)
+            | Call::Recv(way)
+            | Call::RecvMany(way)
+            | Call::Stream(way)
+            | Call::IntoStream(way) => way,
+            Call::Iter | Call::IntoIter => Way::Blocking,
+            _at_once => Way::Try,
+        }
+    }
+
+    /// Whether it waits, with that input, where it finds the channel blocked.
+    pub fn may_wait(self, input: Input) -> bool {
+        match self.way() {
+            Way::Try | Way::Poll => false,
+            Way::Future | Way::Blocking => true,
+            Way::Timeout | Way::Deadline => input.limit > Duration::ZERO,
+        }
+    }
+}
+
+pub type Pair = (u64, u64);
+
+/// Numbered messages, each with the rest that its number leaves as its priority.
+#[derive(Clone, Copy, Debug, PartialEq)]
+pub struct Pairs {
+    pub first: u64,
+    pub count: u64,
+    pub spread: u64,
+}
+
+impl Iterator for Pairs {
+    type Item = Pair;
+
+    ghost remaining = { λ s. at_most s.count };
+
+    fn next(&mut self) -> Option<Pair> {
+        if self.count == 0 {
+            return None;
+        }
+        self.count -= 1;
+        let msg = self.first;
+        self.first = msg.wrapping_add(1);
+        Some((msg, msg.checked_rem(self.spread).unwrap_or(0)))
+    }
+}
+
+/// What a call is given, as far as it takes it.
+#[derive(Clone, Copy, Debug, PartialEq)]
+pub struct Input {
+    /// What a bulk send sends. A send of one sends the first, also where the count is 0.
+    pub pairs: Pairs,
+    /// How many a batch or a loop receives at most.
+    pub most: usize,
+    /// How long a call with a limit waits at most.
+    pub limit: Duration,
+    /// The message that `take_where` takes. `retain` lets go what leaves the same rest by 8.
+    pub chosen: u64,
+}
+
+impl Input {
+    /// The list of the first pair.
+    pub fn one(&self) -> Pairs {
+        Pairs {
+            first: self.pairs.first,
+            count: 1,
+            spread: self.pairs.spread,
+        }
+    }
+
+    pub fn pair(&self) -> Pair {
+        self.one().next().unwrap_or((0, 0))
+    }
+}

@@ -1,0 +1,101 @@
+//! The handles of one channel, and any call on them.
+use super::calls::{Call, Input, Side};
+use super::receive::receive;
+use super::reply::{Outcome, Reply};
+use super::send::send;
+use crate::tests::Host;
+use async_priority_channel::{Ends, Receiver, Sender};
+use std::alloc::{Allocator, Global};
+use std::process::Abort;
+use std::sync::Wait;
+
+/// Senders and receivers of one channel, of which the last of either kind makes the calls.
+#[derive(Drop)]
+pub struct Handles<R: Wait + Clone, A: Allocator + Copy = Global> {
+    alloc: A,
+    senders: Vec<Sender<u64, u64, R, A>>,
+    receivers: Vec<Receiver<u64, u64, R, A>>,
+}
+
+impl<R: Host, A: Allocator + Copy> Handles<R, A> {
+    /// The allocator of the channel serves its batches too.
+    pub fn new(rt: &R, alloc: A, ends: Ends<u64, u64, R, A>) -> Self {
+        let (tx, rx) = ends;
+        Handles {
+            alloc,
+            senders: Vec::from_array(rt.alloc(), [tx]).expect(rt, "memory for handles"),
+            receivers: Vec::from_array(rt.alloc(), [rx]).expect(rt, "memory for handles"),
+        }
+    }
+
+    /// Makes a call.
+    pub fn make(&mut self, rt: &R, call: Call, input: Input) -> Reply {
+        let outcome = match call {
+            Call::Clone(Side::Sender) => clone_last(rt, &mut self.senders),
+            Call::Clone(Side::Receiver) => clone_last(rt, &mut self.receivers),
+            Call::Upgrade(Side::Sender) => upgrade_last(rt, &mut self.senders),
+            Call::Upgrade(Side::Receiver) => upgrade_last(rt, &mut self.receivers),
+            Call::Drop(Side::Sender) => drop_last(&mut self.senders),
+            Call::Drop(Side::Receiver) => drop_last(&mut self.receivers),
+            _by_a_handle => return self.make_by_last(rt, call, input),
+        };
+        Reply::new(rt, outcome)
+    }
+
+    fn make_by_last(&self, rt: &R, call: Call, input: Input) -> Reply {
+        match (call.side(), self.senders.last(), self.receivers.last()) {
+            (Side::Sender, Some(tx), _) => send(rt, tx, call, input),
+            (Side::Receiver, _, Some(rx)) => receive(rt, self.alloc, rx, call, input),
+            _gone => Reply::new(rt, Outcome::Impossible),
+        }
+    }
+}
+
+/// A handle of either kind.
+trait End: Clone + Drop {
+    /// Another one, by the clone of a weak handle, which also tells whether the channel is closed.
+    fn upgraded(&self, rt: &impl Abort) -> (Option<Self>, bool);
+}
+
+impl<R: Wait + Clone, A: Allocator + Copy> End for Sender<u64, u64, R, A> {
+    fn upgraded(&self, rt: &impl Abort) -> (Option<Self>, bool) {
+        let weak = self.downgrade().expect(rt, "a weak sender");
+        let weak = weak.clone().expect(rt, "a weak sender");
+        (weak.upgrade(), weak.is_closed())
+    }
+}
+
+impl<R: Wait + Clone, A: Allocator + Copy> End for Receiver<u64, u64, R, A> {
+    fn upgraded(&self, rt: &impl Abort) -> (Option<Self>, bool) {
+        let weak = self.downgrade().expect(rt, "a weak receiver");
+        let weak = weak.clone().expect(rt, "a weak receiver");
+        (weak.upgrade(), weak.is_closed())
+    }
+}
+
+fn clone_last<H: End>(rt: &impl Abort, handles: &mut Vec<H>) -> Outcome {
+    let Some(last) = handles.last() else {
+        return Outcome::Impossible;
+    };
+    let other = last.clone().expect(rt, "a handle");
+    handles.push(other).expect(rt, "memory for handles");
+    Outcome::Done
+}
+
+fn upgrade_last<H: End>(rt: &impl Abort, handles: &mut Vec<H>) -> Outcome {
+    let Some(last) = handles.last() else {
+        return Outcome::Impossible;
+    };
+    let (other, is_closed) = last.upgraded(rt);
+    if let Some(other) = other {
+        handles.push(other).expect(rt, "memory for handles");
+    }
+    Outcome::Was(is_closed)
+}
+
+fn drop_last<H: End>(handles: &mut Vec<H>) -> Outcome {
+    match handles.pop() {
+        Some(_) => Outcome::Done,
+        None => Outcome::Impossible,
+    }
+}

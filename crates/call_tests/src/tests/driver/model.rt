@@ -1,0 +1,277 @@
+//! A plain channel: the pending pairs in the order of their acceptance.
+use super::calls::{Call, Input, Pair, Pairs, Side, Way};
+use super::reply::{Looks, Outcome, Reply};
+use crate::tests::Host;
+
+#[derive(Debug, Drop)]
+pub struct Model {
+    capacity: u64,
+    pub pending: Vec<Pair>,
+    pub is_closed: bool,
+    /// How many pairs were ever accepted, and how many received or taken out.
+    pub accepted: u64,
+    pub taken: u64,
+    senders: usize,
+    receivers: usize,
+    // Whether what is pending goes with the last receiver.
+    lets_go: bool,
+}
+
+impl Model {
+    /// A new channel with so many senders and receivers.
+    pub fn new(rt: &impl Host, capacity: u64, senders: usize, receivers: usize) -> Self {
+        Model {
+            capacity,
+            pending: Vec::new(rt.alloc()),
+            is_closed: false,
+            accepted: 0,
+            taken: 0,
+            senders,
+            receivers,
+            lets_go: false,
+        }
+    }
+
+    /// Whether the call would wait.
+    pub fn waits(&self, call: Call, input: Input) -> bool {
+        if self.is_closed || !call.may_wait(input) {
+            return false;
+        }
+        match call {
+            Call::Send(_) => self.room() == 0,
+            Call::Sendv(_) => self.room() < input.pairs.count.max(1),
+            Call::Iter | Call::IntoIter => self.pending.len() < input.most,
+            Call::RecvMany(_) => self.pending.is_empty() && input.most > 0,
+            _receive => self.pending.is_empty(),
+        }
+    }
+
+    /// What the call has to answer, once its limit is over where it has one.
+    pub fn answer(&mut self, rt: &impl Host, call: Call, input: Input) -> Reply {
+        if self.count(call.side()) == 0 {
+            return Reply::new(rt, Outcome::Impossible);
+        }
+        match call {
+            Call::Send(way) => self.send(rt, way, input.one()),
+            Call::Sendv(way) => self.send(rt, way, input.pairs),
+            Call::SendEvicting => self.send_evicting(rt, input),
+            Call::Recv(way) => self.receive_one(rt, way, Outcome::Closed),
+            Call::Stream(way) | Call::IntoStream(way) => self.receive_one(rt, way, Outcome::Ended),
+            Call::RecvMany(way) => self.receive_batch(rt, way, input.most),
+            Call::TryIter | Call::Iter | Call::IntoIter => {
+                self.receive(rt, input.most, Outcome::Ended)
+            }
+            Call::TakeWhere => self.take_where(rt, input.chosen),
+            Call::Retain => self.retain(rt, input.chosen),
+            Call::PeekWith => {
+                let seen = self.first_greatest().map(|(_, pair)| pair);
+                Reply::found(rt, seen, Outcome::Empty)
+            }
+            Call::PeekPriority => {
+                let seen = self.first_greatest().map(|(_, pair)| (0, pair.1));
+                Reply::found(rt, seen, Outcome::Empty)
+            }
+            _no_pairs => {
+                let outcome = self.answer_without_pairs(call);
+                Reply::new(rt, outcome)
+            }
+        }
+    }
+
+    fn answer_without_pairs(&mut self, call: Call) -> Outcome {
+        let was_closed = self.is_closed;
+        match call {
+            Call::Look(_) => return Outcome::Looks(self.look()),
+            Call::Clone(side) => self.add(side),
+            Call::Upgrade(side) => {
+                if !was_closed {
+                    self.add(side);
+                }
+                return Outcome::Was(was_closed);
+            }
+            Call::Close(_) => {
+                self.is_closed = true;
+                return Outcome::Was(!was_closed);
+            }
+            Call::CloseOnDrop(side) => {
+                self.is_closed = true;
+                self.lets_go = self.lets_go || side == Side::Receiver;
+            }
+            Call::Drop(Side::Sender) => self.senders = self.senders.saturating_sub(1),
+            Call::Drop(_) => self.receivers = self.receivers.saturating_sub(1),
+            _unpolled => {}
+        }
+        self.is_closed = self.is_closed || self.senders == 0 || self.receivers == 0;
+        if self.receivers == 0 && self.lets_go {
+            self.pending.clear();
+        }
+        Outcome::Done
+    }
+
+    fn count(&self, side: Side) -> usize {
+        match side {
+            Side::Sender => self.senders,
+            Side::Receiver => self.receivers,
+        }
+    }
+
+    fn add(&mut self, side: Side) {
+        match side {
+            Side::Sender => self.senders = self.senders.saturating_add(1),
+            Side::Receiver => self.receivers = self.receivers.saturating_add(1),
+        }
+    }
+
+    fn room(&self) -> u64 {
+        self.capacity.saturating_sub(self.pending.len() as u64)
+    }
+
+    fn look(&self) -> Looks {
+        Looks {
+            len: self.pending.len() as u64,
+            is_empty: self.pending.is_empty(),
+            is_full: self.room() == 0,
+            is_closed: self.is_closed,
+            capacity: (self.capacity < u64::MAX).then_some(self.capacity),
+            sender_count: self.senders,
+            receiver_count: self.receivers,
+            is_of_itself: true,
+        }
+    }
+
+    // A front of the list is accepted. The rest comes back, but from a future that is dropped.
+    fn send(&mut self, rt: &impl Host, way: Way, pairs: Pairs) -> Reply {
+        if self.is_closed {
+            return Reply::with(rt, Outcome::Closed, pairs);
+        }
+        let was_full = self.room() == 0;
+        let mut unsent = Vec::new(rt.alloc());
+        for pair in pairs {
+            if self.room() == 0 {
+                unsent.push(pair).expect(rt, "memory for the model");
+            } else {
+                self.accept(rt, pair);
+            }
+        }
+        if !was_full && unsent.is_empty() {
+            return Reply::new(rt, Outcome::Done);
+        }
+        match blocked(way, Outcome::Full) {
+            Outcome::Waits => Reply::new(rt, Outcome::Waits),
+            outcome => Reply::with(rt, outcome, unsent.into_iter()),
+        }
+    }
+
+    fn accept(&mut self, rt: &impl Host, pair: Pair) {
+        self.pending.push(pair).expect(rt, "memory for the model");
+        self.accepted = self.accepted.wrapping_add(1);
+    }
+
+    fn send_evicting(&mut self, rt: &impl Host, input: Input) -> Reply {
+        if self.is_closed || self.room() > 0 {
+            return self.send(rt, Way::Try, input.one());
+        }
+        let (_, priority) = input.pair();
+        match self.last_least() {
+            Some((place, least)) if least.1 < priority => {
+                self.remove(place);
+                self.accept(rt, input.pair());
+                Reply::found(rt, Some(least), Outcome::Done)
+            }
+            _ => Reply::with(rt, Outcome::Full, input.one()),
+        }
+    }
+
+    fn receive_one(&mut self, rt: &impl Host, way: Way, ended: Outcome) -> Reply {
+        if self.is_closed {
+            self.receive(rt, 1, ended)
+        } else {
+            self.receive(rt, 1, blocked(way, Outcome::Empty))
+        }
+    }
+
+    // Of nothing it does not wait.
+    fn receive_batch(&mut self, rt: &impl Host, way: Way, most: usize) -> Reply {
+        if !self.pending.is_empty() || most == 0 && !self.is_closed && way != Way::Try {
+            return self.receive(rt, most, Outcome::Done);
+        }
+        self.receive_one(rt, way, Outcome::Closed)
+    }
+
+    // Up to so many, and what is told where there are fewer.
+    fn receive(&mut self, rt: &impl Host, most: usize, short: Outcome) -> Reply {
+        let mut reply = Reply::new(rt, Outcome::Done);
+        for _ in 0..most {
+            let Some((place, pair)) = self.first_greatest() else {
+                reply.outcome = short;
+                return reply;
+            };
+            self.remove(place);
+            self.taken = self.taken.wrapping_add(1);
+            reply.pairs.push(pair).expect(rt, "memory for the model");
+        }
+        reply
+    }
+
+    fn take_where(&mut self, rt: &impl Host, chosen: u64) -> Reply {
+        let Some(place) = self.pending.iter().position(|pair| pair.0 == chosen) else {
+            return Reply::new(rt, Outcome::Empty);
+        };
+        let taken = self.pending.get(place).copied();
+        self.remove(place);
+        self.taken = self.taken.wrapping_add(1);
+        Reply::found(rt, taken, Outcome::Empty)
+    }
+
+    // Sorted, since their order is not said.
+    fn retain(&mut self, rt: &impl Host, chosen: u64) -> Reply {
+        let mut reply = Reply::new(rt, Outcome::Done);
+        let mut kept = Vec::new(rt.alloc());
+        for pair in self.pending.iter().copied() {
+            if pair.0 % 8 != chosen % 8 {
+                kept.push(pair).expect(rt, "memory for the model");
+            } else {
+                reply.pairs.push(pair).expect(rt, "memory for the model");
+                self.taken = self.taken.wrapping_add(1);
+            }
+        }
+        self.pending = kept;
+        reply.pairs.sort().expect(rt, "memory for the model");
+        reply
+    }
+
+    fn remove(&mut self, place: usize) {
+        if place < self.pending.len() {
+            self.pending.remove(place);
+        }
+    }
+
+    fn first_greatest(&self) -> Option<(usize, Pair)> {
+        let mut found: Option<(usize, Pair)> = None;
+        for (place, pair) in self.pending.iter().enumerate() {
+            if found.is_none_or(|(_, best)| best.1 < pair.1) {
+                found = Some((place, *pair));
+            }
+        }
+        found
+    }
+
+    fn last_least(&self) -> Option<(usize, Pair)> {
+        let mut found: Option<(usize, Pair)> = None;
+        for (place, pair) in self.pending.iter().enumerate() {
+            if found.is_none_or(|(_, best)| pair.1 <= best.1) {
+                found = Some((place, *pair));
+            }
+        }
+        found
+    }
+}
+
+// What a call tells where there is no room, or no message.
+fn blocked(way: Way, at_once: Outcome) -> Outcome {
+    match way {
+        Way::Try => at_once,
+        Way::Timeout | Way::Deadline => Outcome::Timeout,
+        Way::Poll | Way::Future | Way::Blocking => Outcome::Waits,
+    }
+}

@@ -1,0 +1,198 @@
+//! The calls of a receiver.
+ghost use Rattle.std.specs.Iterator.{IsFinite};
+
+use super::calls::{Call, Input, Pair, Side, Way};
+use super::reply::{Looks, Outcome, Refusal, Reply, looks};
+use super::send::deadline_of;
+use crate::tests::Host;
+use async_priority_channel::Receiver;
+use futures::StreamExt;
+use futures::executor::block_on;
+use futures::future::poll_immediate;
+use std::alloc::Allocator;
+use std::random::RandomSource;
+use std::sync::Wait;
+
+/// Makes a call of a receiver. A batch gets its memory from the allocator that is given.
+pub fn receive<R: Host, A: Allocator + Copy>(
+    rt: &R,
+    alloc: A,
+    rx: &Receiver<u64, u64, R, A>,
+    call: Call,
+    input: Input,
+) -> Reply {
+    let most = input.most;
+    match call {
+        Call::Recv(way) => receive_one(rt, rx, way, input),
+        Call::RecvMany(way) => receive_many(rt, alloc, rx, way, most),
+        Call::Stream(_) | Call::IntoStream(_) => stream(rt, rx, call),
+        Call::TryIter => tell_loop(rt, rx.try_iter().take(most), most),
+        Call::Iter => tell_loop(rt, rx.iter().take(most), most),
+        Call::IntoIter => tell_loop(rt, other(rt, rx).into_iter().take(most), most),
+        Call::Unpolled(Side::Receiver) => {
+            drop((rx.recv(), rx.stream(), rx.iter(), rx.try_iter()));
+            drop(rx.recv_many(&mut Vec::new(alloc), most));
+            Reply::new(rt, Outcome::Done)
+        }
+        Call::Look(Side::Receiver) => Reply::new(rt, Outcome::Looks(look(rx))),
+        Call::Close(Side::Receiver) => Reply::new(rt, Outcome::Was(rx.close())),
+        Call::CloseOnDrop(Side::Receiver) => {
+            drop(rx.close_on_drop());
+            Reply::new(rt, Outcome::Done)
+        }
+        Call::Retain => retain(rt, rx, input.chosen),
+        _choice => choose(rt, rx, call, input.chosen),
+    }
+}
+
+fn other<R: Host, A: Allocator + Copy>(
+    rt: &R,
+    rx: &Receiver<u64, u64, R, A>,
+) -> Receiver<u64, u64, R, A> {
+    rx.clone().expect(rt, "a receiver")
+}
+
+fn receive_one<R: Host, A: Allocator + Copy>(
+    rt: &R,
+    rx: &Receiver<u64, u64, R, A>,
+    way: Way,
+    input: Input,
+) -> Reply {
+    match way {
+        Way::Try => tell_one(rt, Some(rx.try_recv())),
+        Way::Poll => {
+            let polled = block_on(rt, poll_immediate(rx.recv()));
+            tell_one(rt, polled.expect(rt, "an executor"))
+        }
+        Way::Future => {
+            let received = block_on(rt, rx.recv());
+            tell_one(rt, Some(received.expect(rt, "an executor")))
+        }
+        Way::Blocking => tell_one(rt, Some(rx.recv_blocking())),
+        Way::Timeout => tell_one(rt, Some(rx.recv_timeout(input.limit))),
+        Way::Deadline => {
+            let deadline = deadline_of(rt, input);
+            tell_one(rt, Some(rx.recv_deadline(deadline)))
+        }
+    }
+}
+
+fn receive_many<R: Host, A: Allocator + Copy>(
+    rt: &R,
+    alloc: A,
+    rx: &Receiver<u64, u64, R, A>,
+    way: Way,
+    most: usize,
+) -> Reply {
+    let mut batch = Vec::new(alloc);
+    match way {
+        Way::Try => {
+            let received = rx.try_recv_many(&mut batch, most);
+            tell_many(rt, Some(received), &batch)
+        }
+        Way::Poll => {
+            let polled = block_on(rt, poll_immediate(rx.recv_many(&mut batch, most)));
+            tell_many(rt, polled.expect(rt, "an executor"), &batch)
+        }
+        Way::Future => {
+            let received = block_on(rt, rx.recv_many(&mut batch, most));
+            tell_many(rt, Some(received.expect(rt, "an executor")), &batch)
+        }
+        Way::Blocking => {
+            let received = rx.recv_many_blocking(&mut batch, most);
+            tell_many(rt, Some(received), &batch)
+        }
+        _no_call => Reply::new(rt, Outcome::Impossible),
+    }
+}
+
+fn stream<R: Host, A: Allocator + Copy>(
+    rt: &R,
+    rx: &Receiver<u64, u64, R, A>,
+    call: Call,
+) -> Reply {
+    let next = match call {
+        Call::Stream(Way::Poll) => block_on(rt, poll_immediate(rx.stream().next())),
+        Call::Stream(_) => block_on(rt, rx.stream().next()).map(|next| Some(next)),
+        Call::IntoStream(Way::Poll) => {
+            block_on(rt, poll_immediate(other(rt, rx).into_stream().next()))
+        }
+        _waiting => block_on(rt, other(rt, rx).into_stream().next()).map(|next| Some(next)),
+    };
+    match next.expect(rt, "an executor") {
+        None => Reply::new(rt, Outcome::Waits),
+        Some(next) => Reply::found(rt, next, Outcome::Ended),
+    }
+}
+
+fn choose<R: Host, A: Allocator + Copy>(
+    rt: &R,
+    rx: &Receiver<u64, u64, R, A>,
+    call: Call,
+    chosen: u64,
+) -> Reply {
+    let found = match call {
+        Call::TakeWhere => rx.take_where(|msg, _| *msg == chosen),
+        Call::PeekWith => rx.peek_with(|msg, priority| (*msg, *priority)),
+        Call::PeekPriority => {
+            let seen = rx.peek_priority().expect(rt, "a priority");
+            seen.map(|priority| (0, priority))
+        }
+        _no_call => return Reply::new(rt, Outcome::Impossible),
+    };
+    Reply::found(rt, found, Outcome::Empty)
+}
+
+// Sorted, since their order is not said.
+fn retain<R: Host, A: Allocator + Copy>(
+    rt: &R,
+    rx: &Receiver<u64, u64, R, A>,
+    chosen: u64,
+) -> Reply {
+    let Ok(taken) = rx.retain(|msg, _| *msg % 8 != chosen % 8) else {
+        return Reply::new(rt, Outcome::Memory);
+    };
+    let mut reply = Reply::with(rt, Outcome::Done, taken.iter().copied());
+    reply.pairs.sort().expect(rt, "memory for a reply");
+    reply
+}
+
+/// What a future answers, or one that is pending.
+pub fn tell_one<E: Refusal<()> + Drop>(rt: &impl Host, received: Option<Result<Pair, E>>) -> Reply {
+    match received {
+        None => Reply::new(rt, Outcome::Waits),
+        Some(Ok(pair)) => Reply::found(rt, Some(pair), Outcome::Done),
+        Some(Err(refusal)) => Reply::new(rt, refusal.tell().0),
+    }
+}
+
+/// The same of a batch. A count that is not that of the batch is told as what no batch answers.
+pub fn tell_many<E: Refusal<()> + Drop>(
+    rt: &impl Host,
+    received: Option<Result<usize, E>>,
+    batch: &[Pair],
+) -> Reply {
+    let outcome = match received {
+        None => Outcome::Waits,
+        Some(Ok(count)) if count == batch.len() => Outcome::Done,
+        Some(Ok(_)) => Outcome::Impossible,
+        Some(Err(refusal)) => refusal.tell().0,
+    };
+    Reply::with(rt, outcome, batch.iter().copied())
+}
+
+fn tell_loop<I: Iterator<Item = Pair> + Drop>(rt: &impl Host, pairs: I, most: usize) -> Reply
+    requires { I.can_next pairs × IsFinite (I.remaining pairs) }
+{
+    let mut reply = Reply::with(rt, Outcome::Done, pairs);
+    if reply.pairs.len() < most {
+        reply.outcome = Outcome::Ended;
+    }
+    reply
+}
+
+fn look<R: Wait + Clone + RandomSource, A: Allocator + Copy>(
+    rx: &Receiver<u64, u64, R, A>,
+) -> Looks {
+    looks!(rx)
+}

@@ -1,0 +1,130 @@
+//! The calls of a sender.
+use super::calls::{Call, Input, Pair, Pairs, Side, Way};
+use super::reply::{Looks, Outcome, Refusal, Reply, looks};
+use crate::tests::Host;
+use async_priority_channel::Sender;
+use futures::executor::block_on;
+use futures::future::poll_immediate;
+use std::alloc::Allocator;
+use std::iter::{Peekable, once};
+use std::random::RandomSource;
+use std::sync::Wait;
+use std::time::Instant;
+
+/// Makes a call of a sender.
+pub fn send<R: Host, A: Allocator + Copy>(
+    rt: &R,
+    tx: &Sender<u64, u64, R, A>,
+    call: Call,
+    input: Input,
+) -> Reply {
+    let (msg, priority) = input.pair();
+    match call {
+        Call::Send(way) => send_one(rt, tx, way, input),
+        Call::Sendv(way) => send_many(rt, tx, way, input),
+        Call::SendEvicting => match tx.try_send_evicting(msg, priority) {
+            Ok(displaced) => Reply::found(rt, displaced, Outcome::Done),
+            Err(refusal) => tell_one(rt, Some(Err(refusal))),
+        },
+        Call::Unpolled(Side::Sender) => {
+            drop(tx.send(msg, priority));
+            drop(tx.sendv(input.pairs.peekable()));
+            Reply::new(rt, Outcome::Done)
+        }
+        Call::Look(Side::Sender) => Reply::new(rt, Outcome::Looks(look(tx))),
+        Call::Close(Side::Sender) => Reply::new(rt, Outcome::Was(tx.close())),
+        Call::CloseOnDrop(Side::Sender) => {
+            drop(tx.close_on_drop());
+            Reply::new(rt, Outcome::Done)
+        }
+        _no_call => Reply::new(rt, Outcome::Impossible),
+    }
+}
+
+fn send_one<R: Host, A: Allocator + Copy>(
+    rt: &R,
+    tx: &Sender<u64, u64, R, A>,
+    way: Way,
+    input: Input,
+) -> Reply {
+    let (msg, priority) = input.pair();
+    match way {
+        Way::Try => tell_one(rt, Some(tx.try_send(msg, priority))),
+        Way::Poll => {
+            let polled = block_on(rt, poll_immediate(tx.send(msg, priority)));
+            tell_one(rt, polled.expect(rt, "an executor"))
+        }
+        Way::Future => {
+            let sent = block_on(rt, tx.send(msg, priority));
+            tell_one(rt, Some(sent.expect(rt, "an executor")))
+        }
+        Way::Blocking => tell_one(rt, Some(tx.send_blocking(msg, priority))),
+        Way::Timeout => tell_one(rt, Some(tx.send_timeout(msg, priority, input.limit))),
+        Way::Deadline => {
+            let deadline = deadline_of(rt, input);
+            tell_one(rt, Some(tx.send_deadline(msg, priority, deadline)))
+        }
+    }
+}
+
+fn send_many<R: Host, A: Allocator + Copy>(
+    rt: &R,
+    tx: &Sender<u64, u64, R, A>,
+    way: Way,
+    input: Input,
+) -> Reply {
+    let pairs = input.pairs.peekable();
+    match way {
+        Way::Try => tell_many(rt, Some(tx.try_sendv(pairs))),
+        Way::Poll => {
+            let polled = block_on(rt, poll_immediate(tx.sendv(pairs)));
+            tell_many(rt, polled.expect(rt, "an executor"))
+        }
+        Way::Future => {
+            let sent = block_on(rt, tx.sendv(pairs));
+            tell_many(rt, Some(sent.expect(rt, "an executor")))
+        }
+        Way::Blocking => tell_many(rt, Some(tx.sendv_blocking(pairs))),
+        Way::Timeout => tell_many(rt, Some(tx.sendv_timeout(pairs, input.limit))),
+        Way::Deadline => {
+            let deadline = deadline_of(rt, input);
+            tell_many(rt, Some(tx.sendv_deadline(pairs, deadline)))
+        }
+    }
+}
+
+/// When the limit of a call that begins now is over.
+pub fn deadline_of(rt: &impl Host, input: Input) -> Instant {
+    let now = Instant::now(rt).expect(rt, "a clock");
+    now.checked_add(input.limit).unwrap_or(now)
+}
+
+/// What a future answers, or one that is pending.
+pub fn tell_one<E: Refusal<Pair> + Drop>(rt: &impl Host, sent: Option<Result<(), E>>) -> Reply {
+    match sent {
+        None => Reply::new(rt, Outcome::Waits),
+        Some(Ok(())) => Reply::new(rt, Outcome::Done),
+        Some(Err(refusal)) => {
+            let (outcome, pair) = refusal.tell();
+            Reply::with(rt, outcome, once(pair))
+        }
+    }
+}
+
+pub fn tell_many<E: Refusal<Peekable<Pairs>> + Drop>(
+    rt: &impl Host,
+    sent: Option<Result<(), E>>,
+) -> Reply {
+    match sent {
+        None => Reply::new(rt, Outcome::Waits),
+        Some(Ok(())) => Reply::new(rt, Outcome::Done),
+        Some(Err(refusal)) => {
+            let (outcome, rest) = refusal.tell();
+            Reply::with(rt, outcome, rest)
+        }
+    }
+}
+
+fn look<R: Wait + Clone + RandomSource, A: Allocator + Copy>(tx: &Sender<u64, u64, R, A>) -> Looks {
+    looks!(tx)
+}

@@ -1,0 +1,266 @@
+//! Each request for memory is refused in turn: what was accepted comes out, what was not comes
+//! back, and the channel goes on.
+use super::{Mirrored, input};
+use crate::tests::driver::all::ALL;
+use crate::tests::driver::calls::{Call, Input, Pairs, Side, Way};
+use crate::tests::driver::handles::Handles;
+use crate::tests::driver::model::Model;
+use crate::tests::driver::reply::{Outcome, Reply};
+use crate::tests::{Host, expect_equal, expect_equal_at};
+use async_priority_channel::{Ends, bounded, bounded_reserved, unbounded};
+use refusing::Refusing;
+use std::alloc::{AllocError, Global};
+use std::sync::Wait;
+
+const CAPACITY: u64 = 40;
+
+// No call here makes as many requests.
+const MOST: u64 = 100;
+
+/// What is pending before the call.
+#[derive(Clone, Copy, Debug, PartialEq)]
+enum Situation {
+    Empty,
+    Some,
+    Full,
+}
+
+const SITUATIONS: [Situation; 3] = [Situation::Empty, Situation::Some, Situation::Full];
+
+fn pending_in(situation: Situation) -> u64 {
+    match situation {
+        Situation::Empty => 0,
+        Situation::Some => 3,
+        Situation::Full => CAPACITY,
+    }
+}
+
+// Whether the call takes no memory of a reserved channel.
+fn takes_none(call: Call, is_blocked: bool) -> bool {
+    match call {
+        Call::RecvMany(_) | Call::Retain => false,
+        _ => call.way() != Way::Poll || !is_blocked,
+    }
+}
+
+// What a call leaves and answers that was refused memory. A bulk send may have sent a front.
+fn expect_refused<R: Host>(
+    rt: &R,
+    model: &mut Model,
+    round: (Situation, Call, u64),
+    reply: Reply,
+    of_call: Input,
+) {
+    let pairs = match round.1 {
+        Call::Send(_) | Call::SendEvicting => of_call.one(),
+        Call::Sendv(_) => of_call.pairs,
+        _ => input(0, 0, 0).pairs,
+    };
+    let unsent = reply.pairs.len() as u64;
+    let sent = pairs.count.saturating_sub(unsent);
+    let front = input(pairs.first, sent, 0);
+    if sent > 0 {
+        let accepted = model.answer(rt, Call::Sendv(Way::Try), front);
+        expect_equal_at(rt, round, accepted.outcome, Outcome::Done);
+    }
+    let rest = Pairs {
+        first: pairs.first.wrapping_add(sent),
+        count: pairs.count.saturating_sub(sent),
+        spread: pairs.spread,
+    };
+    let wanted = Reply::with(rt, Outcome::Memory, rest);
+    expect_equal_at(rt, round, reply, wanted);
+}
+
+// Tells whether the request of that number never came.
+fn refuse<'a, R: Host>(
+    rt: &R,
+    alloc: &'a Refusing<Global>,
+    ends: Ends<u64, u64, R, &'a Refusing<Global>>,
+    round: (Situation, Call, u64),
+) -> bool {
+    let (situation, call, n) = round;
+    let of_call = input(50, 30, 30);
+    let mut mirrored = Mirrored::new(rt, alloc, ends, CAPACITY, (1, 1));
+    if situation != Situation::Empty {
+        let filling = input(1, pending_in(situation), 0);
+        mirrored.agree(rt, round, Call::Sendv(Way::Try), filling);
+    }
+    if mirrored.model.waits(call, of_call) {
+        return true;
+    }
+    alloc.refuse_nth(n);
+    let reply = mirrored.handles.make(rt, call, of_call);
+    let met_none = alloc.refuse_none();
+    if reply.outcome == Outcome::Memory {
+        expect_equal_at(rt, round, met_none, false);
+        expect_refused(rt, &mut mirrored.model, round, reply, of_call);
+    } else {
+        mirrored.expect(rt, round, (call, of_call), reply);
+    }
+    // It goes on, and what is pending is there.
+    let later = input(90, 3, 99);
+    for next in [
+        Call::Look(Side::Receiver),
+        call,
+        Call::Recv(Way::Try),
+        Call::TryIter,
+    ] {
+        if !mirrored.model.waits(next, later) {
+            mirrored.agree(rt, round, next, later);
+        }
+    }
+    met_none
+}
+
+#[test]
+fn no_call_loses_what_is_refused_memory(rt: HostRuntime) {
+    let alloc = Refusing::new(rt.alloc());
+    for situation in SITUATIONS {
+        for call in ALL {
+            for n in 1..MOST {
+                let ends = bounded(&rt, &alloc, CAPACITY).expect(&rt, "a channel");
+                if refuse(&rt, &alloc, ends, (situation, call, n)) {
+                    break;
+                }
+                expect_equal_at(&rt, call, n < MOST - 1, true);
+            }
+        }
+    }
+}
+
+// Without a request nothing is refused, so the first round is the last.
+#[test]
+fn a_reserved_channel_takes_memory_for_waiting_alone(rt: HostRuntime) {
+    let alloc = Refusing::new(rt.alloc());
+    for situation in SITUATIONS {
+        for call in ALL {
+            let is_blocked = match call {
+                Call::Send(_) | Call::Sendv(_) => situation == Situation::Full,
+                _ => situation == Situation::Empty,
+            };
+            if takes_none(call, is_blocked) {
+                let ends = bounded_reserved(&rt, &alloc, CAPACITY).expect(&rt, "a channel");
+                let round = (situation, call, 1);
+                expect_equal_at(&rt, round, refuse(&rt, &alloc, ends, round), true);
+            }
+        }
+    }
+}
+
+#[test]
+fn a_constructor_may_be_refused(rt: HostRuntime) {
+    let alloc = Refusing::new(rt.alloc());
+    alloc.refuse_all();
+    expect_equal(
+        &rt,
+        bounded::<u64, u64, _, _>(&rt, &alloc, 1).is_err(),
+        true,
+    );
+    expect_equal(&rt, unbounded::<u64, u64, _, _>(&rt, &alloc).is_err(), true);
+    for n in 1..=2u64 {
+        alloc.refuse_nth(n);
+        let made = bounded_reserved::<u64, u64, _, _>(&rt, &alloc, 1);
+        expect_equal_at(&rt, n, made.is_err(), true);
+    }
+}
+
+// A place is left by the future that is dropped, so the next one asks for its waiter alone.
+#[test]
+fn dropped_futures_leave_their_places(rt: HostRuntime) {
+    let alloc = Refusing::new(rt.alloc());
+    let ends = bounded_reserved(&rt, &alloc, 1).expect(&rt, "a channel");
+    let mut handles = Handles::new(&rt, &alloc, ends);
+    for call in [
+        Call::Recv(Way::Poll),
+        Call::Stream(Way::Poll),
+        Call::IntoStream(Way::Poll),
+        Call::Send(Way::Try),
+        Call::Send(Way::Poll),
+        Call::Sendv(Way::Poll),
+    ] {
+        for round in 0..20u64 {
+            alloc.refuse_nth(if round == 0 { 0 } else { 2 });
+            let reply = handles.make(&rt, call, input(1, 1, 1));
+            expect_equal_at(&rt, (call, round), alloc.refuse_none(), round > 0);
+            expect_equal_at(&rt, (call, round), reply.outcome == Outcome::Memory, false);
+        }
+    }
+}
+
+/// A permission to wait that takes memory, so that each handle asks for some.
+#[derive(Drop)]
+struct Boxed<'a, R> {
+    rt: R,
+    number: Box<u64, &'a Refusing<Global>>,
+    alloc: &'a Refusing<Global>,
+}
+
+impl<'a, R: Clone> Boxed<'a, R> {
+    fn new(rt: &R, alloc: &'a Refusing<Global>, number: u64) -> Result<Self, AllocError> {
+        let number = Box::new(alloc, number)?;
+        Ok(Boxed {
+            rt: rt.clone()?,
+            number,
+            alloc,
+        })
+    }
+}
+
+impl<R: Wait> Wait for Boxed<'_, R> {}
+
+impl<'a, R: Clone> Clone for Boxed<'a, R> {
+    fn clone(&self) -> Result<Boxed<'a, R>, AllocError> {
+        Boxed::new(&self.rt, self.alloc, *self.number)
+    }
+}
+
+// Of the requests of a round each is one handle's, of which the nth is refused.
+#[test]
+fn a_refused_handle_is_not_counted(rt: HostRuntime) {
+    let alloc = Refusing::new(rt.alloc());
+    for n in 1..=7u64 {
+        let permission = Boxed::new(&rt, &alloc, 7).expect(&rt, "a permission");
+        let (tx, rx) = bounded::<u64, u64, _, _>(&permission, &alloc, 2).expect(&rt, "a channel");
+        let weak_tx = tx.downgrade().expect(&rt, "a weak sender");
+        let weak_rx = rx.downgrade().expect(&rt, "a weak receiver");
+        alloc.refuse_nth(n);
+        let (other_tx, other_rx) = (tx.clone().ok(), rx.clone().ok());
+        let (third_tx, third_rx) = (weak_tx.upgrade(), weak_rx.upgrade());
+        let (more_tx, more_rx) = (tx.downgrade().ok(), rx.downgrade().ok());
+        let met_none = alloc.refuse_none();
+        let are_there = [
+            other_tx.is_some(),
+            other_rx.is_some(),
+            third_tx.is_some(),
+            third_rx.is_some(),
+            more_tx.is_some(),
+            more_rx.is_some(),
+        ];
+        expect_equal_at(
+            &rt,
+            n,
+            are_there,
+            [n != 1, n != 2, n != 3, n != 4, n != 5, n != 6],
+        );
+        expect_equal_at(&rt, n, met_none, n == 7);
+        let senders = if n == 1 || n == 3 { 2 } else { 3 };
+        let receivers = if n == 2 || n == 4 { 2 } else { 3 };
+        expect_equal_at(
+            &rt,
+            n,
+            (tx.sender_count(), tx.receiver_count()),
+            (senders, receivers),
+        );
+        drop((other_tx, other_rx, third_tx, third_rx));
+        expect_equal_at(&rt, n, (tx.sender_count(), tx.receiver_count()), (1, 1));
+        expect_equal_at(&rt, n, weak_tx.upgrade().is_some(), true);
+        drop(tx);
+        expect_equal_at(
+            &rt,
+            n,
+            (rx.is_closed(), weak_rx.upgrade().is_some()),
+            (true, false),
+        );
+    }
+}

@@ -1,0 +1,116 @@
+//! Random calls of all kinds: each answers as the plain model does, and so do all looks after it.
+use super::Mirrored;
+use crate::tests::driver::all::ALL;
+use crate::tests::driver::calls::{Call, Input, Pairs, Side};
+use crate::tests::{Host, expect_equal};
+use async_priority_channel::{Ends, bounded, bounded_reserved, unbounded};
+use std::time::Duration;
+
+// From the second number of calls on the channel may be closed, and lose its last handles.
+const CALLS: u64 = 900;
+
+const CLOSES: u64 = 600;
+
+// In two of three stretches of so many calls sends prevail, and in the third receives do.
+const STRETCH: u64 = 60;
+
+// How many calls of the list send, and how many may close the channel.
+const SENDS: u64 = 13;
+
+const ENDS: u64 = 6;
+
+/// Draws calls, and what they are given.
+#[derive(Drop)]
+struct Dice {
+    drawn: u64,
+    messages: u64,
+    spread: u64,
+}
+
+impl Dice {
+    fn below(&mut self, end: u64) -> u64 {
+        self.drawn = self
+            .drawn
+            .wrapping_mul(6364136223846793005)
+            .wrapping_add(1442695040888963407);
+        (self.drawn >> 33).checked_rem(end).unwrap_or(0)
+    }
+
+    // Sends stand first in the list of all calls, and what may close the channel last.
+    fn call(&mut self, round: u64) -> Call {
+        let kinds = ALL.len() as u64;
+        let do_sends_prevail = self.below(3) > 0 && round / STRETCH % 3 < 2;
+        let end = if do_sends_prevail {
+            // A send that makes room counts three times.
+            SENDS + 2
+        } else if round < CLOSES {
+            kinds.saturating_sub(ENDS)
+        } else {
+            kinds
+        };
+        let number = self.below(end);
+        if do_sends_prevail && number >= SENDS {
+            return Call::SendEvicting;
+        }
+        ALL.get(number as usize).copied().unwrap_or(Call::Retain)
+    }
+
+    // Messages are told apart by their numbers, and many have the same priority.
+    fn input(&mut self) -> Input {
+        let pairs = Pairs {
+            first: self.messages,
+            count: self.below(40),
+            spread: self.below(self.spread).wrapping_add(1),
+        };
+        self.messages = self.messages.wrapping_add(40);
+        Input {
+            pairs,
+            most: self.below(20) as usize,
+            // One that does not wait may have all the time.
+            limit: Duration::from_secs(if self.below(2) == 0 { 0 } else { 60 }),
+            chosen: self.messages.saturating_sub(self.below(400)),
+        }
+    }
+}
+
+fn mirror<R: Host>(rt: &R, ends: Ends<u64, u64, R>, capacity: u64, spread: u64) {
+    let mut mirrored = Mirrored::new(rt, rt.alloc(), ends, capacity, (1, 1));
+    let mut dice = Dice {
+        drawn: capacity,
+        messages: 0,
+        spread,
+    };
+    for round in 0..CALLS {
+        let call = dice.call(round);
+        let input = dice.input();
+        if !mirrored.model.waits(call, input) {
+            mirrored.agree(rt, round, call, input);
+            mirrored.agree(rt, (round, call), Call::Look(Side::Sender), input);
+            mirrored.agree(rt, (round, call), Call::Look(Side::Receiver), input);
+        }
+    }
+    // So the end was seen too.
+    expect_equal(rt, mirrored.model.is_closed, true);
+}
+
+#[test]
+fn bounded_channels_answer_as_the_model(rt: HostRuntime) {
+    for capacity in [1u64, 2, 3, 6, 64] {
+        let ends = bounded(&rt, rt.alloc(), capacity).expect(&rt, "a channel");
+        mirror(&rt, ends, capacity, 50);
+    }
+}
+
+#[test]
+fn a_reserved_channel_answers_as_the_model(rt: HostRuntime) {
+    for spread in [1u64, 5] {
+        let ends = bounded_reserved(&rt, rt.alloc(), 7).expect(&rt, "a channel");
+        mirror(&rt, ends, 7, spread);
+    }
+}
+
+#[test]
+fn an_unbounded_channel_answers_as_the_model(rt: HostRuntime) {
+    let ends = unbounded(&rt, rt.alloc()).expect(&rt, "a channel");
+    mirror(&rt, ends, u64::MAX, 50);
+}

@@ -1,0 +1,184 @@
+//! The two sides of a channel, so that a test is written once for both.
+use crate::tests::driver::calls::{Call, Input, Pairs, Side, Way};
+use crate::tests::driver::receive::receive;
+use crate::tests::driver::reply::{Outcome, Reply};
+use crate::tests::driver::send::send;
+use crate::tests::{Host, expect_true};
+use async_priority_channel::{Receiver, Sender, bounded_reserved};
+use std::alloc::{Allocator, Global};
+use std::sync::Wait;
+use std::time::Duration;
+
+/// A sender waits for room, and a receiver for a message.
+pub const SIDES: [Side; 2] = [Side::Sender, Side::Receiver];
+
+/// The call of that side which moves one message in this way.
+pub fn call_of(side: Side, way: Way) -> Call {
+    match side {
+        Side::Sender => Call::Send(way),
+        Side::Receiver => Call::Recv(way),
+    }
+}
+
+pub fn is_bulk(call: Call) -> bool {
+    matches!(call, Call::Sendv(_))
+}
+
+pub fn waits(call: Call) -> bool {
+    !matches!(call.way(), Way::Try | Way::Poll)
+}
+
+/// The calls that wait for a limited time.
+pub const TIMED: [Call; 6] = [
+    Call::Send(Way::Timeout),
+    Call::Send(Way::Deadline),
+    Call::Sendv(Way::Timeout),
+    Call::Sendv(Way::Deadline),
+    Call::Recv(Way::Timeout),
+    Call::Recv(Way::Deadline),
+];
+
+/// Whether it may send or take out a message.
+pub fn moves(call: Call) -> bool {
+    matches!(
+        call,
+        Call::Send(_)
+            | Call::Sendv(_)
+            | Call::SendEvicting
+            | Call::Recv(_)
+            | Call::RecvMany(_)
+            | Call::TryIter
+            | Call::Iter
+            | Call::IntoIter
+            | Call::Stream(_)
+            | Call::IntoStream(_)
+            | Call::TakeWhere
+            | Call::Retain
+    )
+}
+
+/// What came of a call, how many messages came or came back, and the first of them.
+pub type Answer = (Outcome, usize, u64);
+
+/// That of a call that was blocked, once it can go on.
+pub fn done(call: Call) -> Answer {
+    match call.side() {
+        Side::Sender => (Outcome::Done, 0, 0),
+        Side::Receiver => (Outcome::Done, 1, 7),
+    }
+}
+
+/// That of a call that was blocked and has ended by this.
+pub fn refused(call: Call, outcome: Outcome) -> Answer {
+    match call {
+        Call::Send(_) => (outcome, 1, 7),
+        Call::Sendv(_) => (outcome, 1, 8),
+        _ => (outcome, 0, 0),
+    }
+}
+
+/// That by a close.
+pub fn closed(call: Call) -> Answer {
+    match call {
+        Call::Iter | Call::IntoIter | Call::Stream(_) | Call::IntoStream(_) => {
+            refused(call, Outcome::Ended)
+        }
+        _ => refused(call, Outcome::Closed),
+    }
+}
+
+fn answer_of(reply: &Reply) -> Answer {
+    let first = match reply.pairs.first() {
+        Some((msg, _)) => *msg,
+        None => 0,
+    };
+    (reply.outcome, reply.pairs.len(), first)
+}
+
+/// A limit that no wait reaches which ends as it should.
+pub fn long() -> Duration {
+    Duration::from_secs(60)
+}
+
+// A sender sends the 7, or the 7 and the 8, each with itself as its priority. A batch or a loop
+// receives one.
+fn input(limit: Duration) -> Input {
+    Input {
+        pairs: Pairs {
+            first: 7,
+            count: 2,
+            spread: u64::MAX,
+        },
+        most: 1,
+        limit,
+        chosen: 7,
+    }
+}
+
+/// A handle of either side.
+#[derive(Drop)]
+pub enum Party<R: Wait + Clone, A: Allocator + Copy = Global> {
+    Sender(Sender<u64, u64, R, A>),
+    Receiver(Receiver<u64, u64, R, A>),
+}
+
+impl<R: Host, A: Allocator + Copy> Party<R, A> {
+    pub fn another(&self, rt: &R) -> Self {
+        match self {
+            Party::Sender(tx) => Party::Sender(tx.clone().expect(rt, "a sender")),
+            Party::Receiver(rx) => Party::Receiver(rx.clone().expect(rt, "a receiver")),
+        }
+    }
+
+    /// Lets one of the other side go on: sends the 7, or receives. Tells whether it could.
+    pub fn help(&self) -> bool {
+        match self {
+            Party::Sender(tx) => tx.try_send(7, 7).is_ok(),
+            Party::Receiver(rx) => rx.try_recv().is_ok(),
+        }
+    }
+
+    pub fn close(&self) -> bool {
+        match self {
+            Party::Sender(tx) => tx.close(),
+            Party::Receiver(rx) => rx.close(),
+        }
+    }
+
+    pub fn len(&self) -> u64 {
+        match self {
+            Party::Sender(tx) => tx.len(),
+            Party::Receiver(rx) => rx.len(),
+        }
+    }
+
+    /// Makes a call of its side. A batch gets its memory from `alloc`.
+    pub fn make(&self, rt: &R, alloc: A, call: Call, limit: Duration) -> Answer {
+        answer_of(&match self {
+            Party::Sender(tx) => send(rt, tx, call, input(limit)),
+            Party::Receiver(rx) => receive(rt, alloc, rx, call, input(limit)),
+        })
+    }
+}
+
+/// A channel for two in which this call is blocked: the party whose call it is, and one of the
+/// other side. Where it is full, the 1 and the 2 are pending; but before a bulk send the 1 alone,
+/// so that its 7 is sent at once.
+pub fn block<R: Host, A: Allocator + Copy>(
+    rt: &R,
+    alloc: A,
+    call: Call,
+) -> (Party<R, A>, Party<R, A>) {
+    let (tx, rx) = bounded_reserved(rt, alloc, 2).expect(rt, "a channel");
+    match call.side() {
+        Side::Receiver => (Party::Receiver(rx), Party::Sender(tx)),
+        Side::Sender => {
+            let mut has_room = tx.try_send(1, 1).is_ok();
+            if !is_bulk(call) {
+                has_room = has_room & tx.try_send(2, 2).is_ok();
+            }
+            expect_true(rt, has_room, "there is room for two");
+            (Party::Sender(tx), Party::Receiver(rx))
+        }
+    }
+}

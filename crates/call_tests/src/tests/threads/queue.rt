@@ -1,0 +1,231 @@
+//! Threads that wait for the same, in a queue: whoever leaves it, and however, those behind go on.
+use super::parties::{Party, SIDES, block, call_of, long};
+use super::watch::Watch;
+use super::{Threaded, let_others_wait};
+use crate::tests::driver::calls::{Call, Side, Way};
+use crate::tests::driver::reply::Outcome;
+use crate::tests::{expect_equal, expect_equal_at, expect_true};
+use async_priority_channel::{Receiver, Sender, bounded};
+use std::sync::Wait;
+use std::thread::{self, JoinHandle};
+use std::time::Duration;
+
+type Waiting = Vec<JoinHandle<Outcome>>;
+
+// One more thread that waits.
+fn begin<R: Threaded>(
+    rt: &R,
+    waiting: &mut Waiting,
+    party: &Party<R>,
+    call: Call,
+    limit: Duration,
+) {
+    let party = party.another(rt);
+    let host = *rt;
+    let thread = thread::spawn(rt, move || party.make(&host, host.alloc(), call, limit).0).expect(
+        rt, "a thread",
+    );
+    waiting.push(thread).expect(rt, "memory");
+}
+
+fn expect_all<R: Threaded>(rt: &R, waiting: Waiting, side: Side, outcome: Outcome) {
+    for thread in waiting {
+        let answer = thread.join(rt);
+        expect_equal_at(rt, side, answer, outcome);
+    }
+}
+
+// On a thread, with a limit, and of a task.
+const WAYS: [Way; 3] = [Way::Blocking, Way::Timeout, Way::Future];
+
+// A channel for six in which six calls of that side wait.
+fn block_six<R: Threaded>(rt: &R, side: Side) -> (Waiting, Party<R>) {
+    let (tx, rx) = bounded(rt, rt.alloc(), 6).expect(rt, "a channel");
+    let (party, other) = match side {
+        Side::Receiver => (Party::Receiver(rx), Party::Sender(tx)),
+        Side::Sender => {
+            let is_filled = tx.try_sendv((1..7u64).map(|i| (i, i)).peekable()).is_ok();
+            expect_true(rt, is_filled, "there is room for six");
+            (Party::Sender(tx), Party::Receiver(rx))
+        }
+    };
+    let mut waiting = Vec::new(rt.alloc());
+    for _ in 0..2 {
+        for way in WAYS {
+            begin(rt, &mut waiting, &party, call_of(side, way), long());
+        }
+    }
+    let_others_wait(rt);
+    (waiting, other)
+}
+
+// By one step.
+fn help_six<R: Threaded>(rt: &R, other: &Party<R>) -> bool {
+    match other {
+        Party::Sender(tx) => tx.try_sendv((1..7u64).map(|i| (i, i)).peekable()).is_ok(),
+        Party::Receiver(rx) => rx.try_recv_many(&mut Vec::new(rt.alloc()), 6) == Ok(6),
+    }
+}
+
+// What comes wakes the first thread and all tasks. Those that find nothing wait on, and each thread
+// that goes on rouses the next one.
+#[test]
+fn each_of_many_goes_on(rt: HostRuntime) {
+    for side in SIDES {
+        for at_once in [false, true] {
+            let (waiting, other) = block_six(&rt, side);
+            let watch = Watch::begin(&rt, "each of six waits", (side, at_once));
+            if at_once {
+                expect_true(&rt, help_six(&rt, &other), "the channel is open");
+            } else {
+                for _ in 0..6 {
+                    expect_true(&rt, other.help(), "the channel is open");
+                    let_others_wait(&rt);
+                }
+            }
+            expect_all(&rt, waiting, side, Outcome::Done);
+            watch.end(&rt);
+            let pending = if side == Side::Sender { 6 } else { 0 };
+            expect_equal_at(&rt, (side, at_once), other.len(), pending);
+        }
+    }
+}
+
+fn close_on_many<R: Threaded>(rt: &R, side: Side, ways: &[Way], each: u64) {
+    let (party, other) = block(rt, rt.alloc(), call_of(side, Way::Blocking));
+    let mut waiting = Vec::new(rt.alloc());
+    for _ in 0..each {
+        for way in ways {
+            begin(rt, &mut waiting, &party, call_of(side, *way), long());
+        }
+    }
+    let_others_wait(rt);
+    let_others_wait(rt);
+    let watch = Watch::begin(rt, "the end of many waits by a close", side);
+    expect_true(rt, other.close(), "it was open");
+    expect_all(rt, waiting, side, Outcome::Closed);
+    watch.end(rt);
+}
+
+#[test]
+fn a_close_ends_many_waits(rt: HostRuntime) {
+    for side in SIDES {
+        close_on_many(&rt, side, &WAYS, 10);
+    }
+}
+
+#[test]
+fn a_close_ends_ten_receives_of_tasks(rt: HostRuntime) {
+    close_on_many(&rt, Side::Receiver, &[Way::Future], 10);
+}
+
+// The time of one is over: of the first, of one between two, or of the last.
+#[test]
+fn those_beside_one_whose_time_is_over_go_on(rt: HostRuntime) {
+    for side in SIDES {
+        let call = call_of(side, Way::Blocking);
+        for before in 0..3u64 {
+            let (party, other) = block(&rt, rt.alloc(), call);
+            let pending = party.len();
+            let watch = Watch::begin(&rt, "those beside one that has left", (side, before));
+            let mut waiting = Vec::new(rt.alloc());
+            let mut leaving = Vec::new(rt.alloc());
+            for place in 0..3u64 {
+                if place == before {
+                    let timed = call_of(side, Way::Timeout);
+                    begin(&rt, &mut leaving, &party, timed, Duration::from_millis(60));
+                } else {
+                    begin(&rt, &mut waiting, &party, call, long());
+                }
+                let_others_wait(&rt);
+            }
+            expect_all(&rt, leaving, side, Outcome::Timeout);
+            expect_true(&rt, other.help() && other.help(), "the channel is open");
+            expect_all(&rt, waiting, side, Outcome::Done);
+            watch.end(&rt);
+            expect_equal_at(&rt, (side, before), party.len(), pending);
+        }
+    }
+}
+
+// Lets a thread go on and takes that back at once. Tells whether it could, so that the thread was
+// woken in vain.
+fn wake_in_vain<R: Threaded>(own: &Party<R>, other: &Party<R>) -> bool {
+    match (own, other) {
+        (Party::Sender(tx), Party::Receiver(rx)) => {
+            rx.try_recv().is_ok() && tx.try_send(5, 5).is_ok()
+        }
+        (Party::Receiver(rx), Party::Sender(tx)) => {
+            tx.try_send(5, 5).is_ok() && rx.try_recv().is_ok()
+        }
+        _ => false,
+    }
+}
+
+// It is listed again, for what comes later. The thread may be faster; then it is tried again.
+#[test]
+fn a_thread_that_was_woken_in_vain_waits_on(rt: HostRuntime) {
+    for side in SIDES {
+        let call = call_of(side, Way::Blocking);
+        let mut is_seen = false;
+        for round in 0..100u32 {
+            if is_seen {
+                break;
+            }
+            let (party, other) = block(&rt, rt.alloc(), call);
+            let mut waiting = Vec::new(rt.alloc());
+            begin(&rt, &mut waiting, &party, call, long());
+            let_others_wait(&rt);
+            let watch = Watch::begin(&rt, "a thread that was woken in vain", (side, round));
+            is_seen = wake_in_vain(&party, &other);
+            if is_seen {
+                let_others_wait(&rt);
+                expect_true(&rt, other.help(), "the channel is open");
+            }
+            expect_all(&rt, waiting, side, Outcome::Done);
+            watch.end(&rt);
+        }
+        expect_equal_at(&rt, side, is_seen, true);
+    }
+}
+
+// Answers each number with itself, until no more come.
+fn echo<R: Wait + Clone>(there: &Receiver<u64, u64, R>, back: &Sender<u64, u64, R>) -> bool {
+    for (number, priority) in there {
+        if back.send_blocking(number, priority).is_err() {
+            return false;
+        }
+    }
+    true
+}
+
+// The one that has answered looks again for the next number, while the others sleep: most numbers
+// go to one that looks, and the others to one that sleeps.
+#[test]
+fn a_number_at_a_time_reaches_one_of_many(rt: HostRuntime) {
+    let (tx, there) = bounded(&rt, rt.alloc(), 1).expect(&rt, "a channel");
+    let (back, rx) = bounded(&rt, rt.alloc(), 1).expect(&rt, "a channel");
+    let mut working = Vec::new(rt.alloc());
+    for _ in 0..6 {
+        let there = there.clone().expect(&rt, "a receiver");
+        let back = back.clone().expect(&rt, "a sender");
+        let thread = thread::spawn(&rt, move || echo(&there, &back)).expect(&rt, "a thread");
+        working.push(thread).expect(&rt, "memory");
+    }
+    for hundred in 0..20u64 {
+        let watch = Watch::begin(&rt, "a hundred numbers that come back", hundred);
+        for number in 0..100u64 {
+            expect_equal(&rt, tx.send_blocking(number, 0), Ok(()));
+            expect_equal(&rt, rx.recv_blocking(), Ok((number, 0)));
+        }
+        watch.end(&rt);
+        // Until all of them sleep.
+        let_others_wait(&rt);
+    }
+    let watch = Watch::begin(&rt, "the end of loops by a last drop", ());
+    drop(tx);
+    for thread in working {
+        expect_true(&rt, thread.join(&rt), "each number was sent back");
+    }
+    watch.end(&rt);
+}

@@ -1,0 +1,314 @@
+//! Many threads that pass messages on: nothing is lost or made up, and all of it ends.
+use super::Threaded;
+use super::parties::{call_of, moves};
+use super::watch::Watch;
+use crate::tests::driver::all::ALL;
+use crate::tests::driver::calls::{Call, Input, Pair, Pairs, Side, Way};
+use crate::tests::driver::receive::receive;
+use crate::tests::driver::send::send;
+use crate::tests::{expect_equal, expect_equal_at, expect_true};
+use async_priority_channel::{Ends, Receiver, RecvError, RecvFault, Sender, bounded, unbounded};
+use futures::executor::block_on;
+use std::alloc::Global;
+use std::sync::Wait;
+use std::thread;
+use std::time::Duration;
+
+// How many messages went a way, and their sum.
+type Total = (u64, u64);
+
+fn sum(one: Total, other: Total) -> Total {
+    (one.0.wrapping_add(other.0), one.1.wrapping_add(other.1))
+}
+
+// Of 0, 1, 2 and so on.
+fn sum_below(count: u64) -> Total {
+    let mut all = (0, 0);
+    for number in 0..count {
+        all = sum(all, (1, number));
+    }
+    all
+}
+
+fn sum_of(pairs: &[Pair]) -> Total {
+    let mut all = (0, 0);
+    for (msg, _) in pairs {
+        all = sum(all, (1, *msg));
+    }
+    all
+}
+
+// By which calls threads send and receive.
+#[derive(Clone, Copy, Debug, PartialEq)]
+enum By {
+    Futures,
+    AllCalls,
+}
+
+// The calls in turn. A send that is dropped would take its message with it.
+fn turn_of(by: By, side: Side, turn: u64) -> Call {
+    let call = ALL[(turn % 48) as usize];
+    if by == By::AllCalls && call.side() == side && call.way() != Way::Poll && moves(call) {
+        return call;
+    }
+    call_of(side, Way::Future)
+}
+
+fn input(number: u64) -> Input {
+    Input {
+        pairs: Pairs {
+            first: number,
+            count: 1,
+            spread: 8,
+        },
+        most: 2,
+        limit: Duration::from_millis(1),
+        chosen: number,
+    }
+}
+
+// Sends so many numbers, each once. Tells what came back, or was displaced by another one.
+fn deliver<R: Threaded>(rt: &R, tx: &Sender<u64, u64, R>, by: By, first: u64, count: u64) -> Total {
+    let mut back = (0, 0);
+    for i in 0..count {
+        let number = first.wrapping_add(i);
+        let call = turn_of(by, Side::Sender, number);
+        let reply = send(rt, tx, call, input(number));
+        back = sum(back, sum_of(reply.pairs.as_slice()));
+    }
+    back
+}
+
+// Receives until the channel is closed and empty.
+fn collect<R: Threaded>(rt: &R, rx: &Receiver<u64, u64, R>, by: By) -> Total {
+    let mut came = (0, 0);
+    for turn in 0..u64::MAX {
+        let call = turn_of(by, Side::Receiver, turn);
+        let reply = receive(rt, rt.alloc(), rx, call, input(turn));
+        came = sum(came, sum_of(reply.pairs.as_slice()));
+        if rx.is_closed() && rx.is_empty() {
+            break;
+        }
+    }
+    came
+}
+
+// How many threads send, how many numbers each of them, and how many receive.
+#[derive(Clone, Copy, Debug)]
+struct Load {
+    senders: u64,
+    each: u64,
+    receivers: u64,
+}
+
+// Sends 0, 1, 2 and so on. Tells what came back, and what came.
+fn relay<R: Threaded>(
+    rt: &R,
+    ends: Ends<u64, u64, R, Global>,
+    by: By,
+    load: Load,
+) -> (Total, Total) {
+    let host = *rt;
+    let (tx, rx) = ends;
+    let mut receiving = Vec::new(rt.alloc());
+    for _ in 0..load.receivers {
+        let rx = rx.clone().expect(rt, "a receiver");
+        let thread = thread::spawn(rt, move || collect(&host, &rx, by)).expect(rt, "a thread");
+        receiving.push(thread).expect(rt, "memory");
+    }
+    let mut sending = Vec::new(rt.alloc());
+    let each = load.each;
+    for i in 0..load.senders {
+        let tx = tx.clone().expect(rt, "a sender");
+        let first = i.wrapping_mul(each);
+        let thread = thread::spawn(rt, move || deliver(&host, &tx, by, first, each)).expect(
+            rt, "a thread",
+        );
+        sending.push(thread).expect(rt, "memory");
+    }
+    drop(tx);
+    let (mut back, mut came) = ((0, 0), (0, 0));
+    for thread in sending {
+        back = sum(back, thread.join(rt));
+    }
+    for thread in receiving {
+        came = sum(came, thread.join(rt));
+    }
+    (back, came)
+}
+
+const LOADS: [Load; 3] = [
+    Load {
+        senders: 1,
+        each: 1000,
+        receivers: 1,
+    },
+    Load {
+        senders: 10,
+        each: 500,
+        receivers: 1,
+    },
+    Load {
+        senders: 10,
+        each: 500,
+        receivers: 10,
+    },
+];
+
+#[test]
+fn tasks_on_many_threads_relay_all(rt: HostRuntime) {
+    for load in LOADS {
+        for is_bounded in [false, true] {
+            let made = if is_bounded {
+                bounded(&rt, rt.alloc(), 10)
+            } else {
+                unbounded(&rt, rt.alloc())
+            };
+            let ends = made.expect(&rt, "a channel");
+            let watch = Watch::begin_long(&rt, "a relay", (load, is_bounded));
+            let (back, came) = relay(&rt, ends, By::Futures, load);
+            watch.end(&rt);
+            let all = sum_below(load.senders.wrapping_mul(load.each));
+            expect_equal_at(&rt, (load, is_bounded), (back, came), ((0, 0), all));
+        }
+    }
+}
+
+#[test]
+fn by_all_calls_nothing_is_lost_or_made_up(rt: HostRuntime) {
+    let load = Load {
+        senders: 4,
+        each: 1000,
+        receivers: 4,
+    };
+    let ends = bounded(&rt, rt.alloc(), 8).expect(&rt, "a channel");
+    let watch = Watch::begin_long(&rt, "many messages by all kinds of calls", load);
+    let (back, came) = relay(&rt, ends, By::AllCalls, load);
+    watch.end(&rt);
+    expect_equal(&rt, sum(back, came), sum_below(4000));
+}
+
+// Sends so many by one call, on its thread or by a task.
+fn send_all<R: Threaded>(rt: &R, tx: &Sender<u64, u64, R>, by: Way, count: u64) -> bool {
+    let all = (0..count).map(|i| (i, i)).peekable();
+    match by {
+        Way::Future => matches!(block_on(rt, tx.sendv(all)), Ok(Ok(()))),
+        _on_its_thread => tx.sendv_blocking(all).is_ok(),
+    }
+}
+
+// Receives until the channel is closed and empty, on its thread or by tasks.
+fn receive_all<R: Threaded>(rt: &R, rx: &Receiver<u64, u64, R>, by: Way) -> Total {
+    let mut received = (0, 0);
+    if by == Way::Future {
+        for _ in 0..u64::MAX {
+            match block_on(rt, rx.recv()).expect(rt, "an executor") {
+                Ok((number, _)) => received = sum(received, (1, number)),
+                Err(_) => break,
+            }
+        }
+    } else {
+        for (number, _) in rx {
+            received = sum(received, (1, number));
+        }
+    }
+    received
+}
+
+// Each of the two wakes the other for each message.
+#[test]
+fn a_bulk_send_and_receives_take_turns(rt: HostRuntime) {
+    for sends_by in [Way::Blocking, Way::Future] {
+        for receives_by in [Way::Blocking, Way::Future] {
+            let (tx, rx) = bounded(&rt, rt.alloc(), 1).expect(&rt, "a channel");
+            let round = (sends_by, receives_by);
+            let watch = Watch::begin_long(&rt, "a bulk send into a channel for one", round);
+            let sending = thread::spawn(&rt, move || send_all(&rt, &tx, sends_by, 5000)).expect(
+                &rt, "a thread",
+            );
+            let received = receive_all(&rt, &rx, receives_by);
+            let are_sent = sending.join(&rt);
+            watch.end(&rt);
+            expect_equal_at(&rt, round, (are_sent, received), (true, sum_below(5000)));
+        }
+    }
+}
+
+#[test]
+fn one_close_is_the_first(rt: HostRuntime) {
+    let (tx, rx) = bounded::<u64, u64, _, _>(&rt, rt.alloc(), 1).expect(&rt, "a channel");
+    let mut closing = Vec::new(rt.alloc());
+    for _ in 0..16 {
+        let tx = tx.clone().expect(&rt, "a sender");
+        let thread = thread::spawn(&rt, move || tx.close()).expect(&rt, "a thread");
+        closing.push(thread).expect(&rt, "memory");
+    }
+    let mut first = 0u64;
+    for thread in closing {
+        first = first.wrapping_add(thread.join(&rt) as u64);
+    }
+    expect_equal(&rt, first, 1);
+    expect_true(&rt, rx.is_closed() && !rx.close(), "it is closed");
+}
+
+#[test]
+fn what_was_pending_comes_beside_a_close(rt: HostRuntime) {
+    let (tx, rx) = bounded(&rt, rt.alloc(), 1000).expect(&rt, "a channel");
+    let sent = tx
+        .try_sendv((0..1000u64).map(|i| (i, i)).peekable())
+        .is_ok();
+    expect_true(&rt, sent, "there is room");
+    let watch = Watch::begin(&rt, "what was pending, beside a close", ());
+    let (came, was_open) = thread::join(&rt, || collect(&rt, &rx, By::Futures), || tx.close());
+    watch.end(&rt);
+    expect_equal(&rt, (came, was_open), (sum_below(1000), true));
+    expect_equal(&rt, rx.recv_blocking(), Err(RecvFault::Closed(RecvError)));
+}
+
+// The last number that two threads pass to and fro, and how often each of them tries at most.
+const LAST: u64 = 200;
+
+const TRIES: u32 = 10_000_000;
+
+// Receives a number and sends the next one, by tries, from the first that it holds. Tells whether
+// the last one was passed on or came.
+fn pass_on<R: Wait + Clone>(
+    tx: &Sender<u64, u64, R>,
+    rx: &Receiver<u64, u64, R>,
+    first: Option<u64>,
+) -> bool {
+    let mut held = first;
+    for _ in 0..TRIES {
+        match held {
+            Some(number) => {
+                if number > LAST {
+                    return true;
+                }
+                if tx.try_send(number, 0).is_ok() {
+                    held = None;
+                    if number == LAST {
+                        return true;
+                    }
+                }
+            }
+            None => held = rx.try_recv().ok().map(|(number, _)| number.wrapping_add(1)),
+        }
+        thread::yield_now();
+    }
+    false
+}
+
+// Run one after the other, neither could finish.
+#[test]
+fn two_threads_go_on_side_by_side(rt: HostRuntime) {
+    let (there_tx, there_rx) = bounded(&rt, rt.alloc(), 1).expect(&rt, "a channel");
+    let (back_tx, back_rx) = bounded(&rt, rt.alloc(), 1).expect(&rt, "a channel");
+    let watch = Watch::begin(&rt, "numbers that are passed to and fro", ());
+    let could = thread::join(
+        &rt,
+        || pass_on(&there_tx, &back_rx, Some(1)),
+        || pass_on(&back_tx, &there_rx, None),
+    );
+    watch.end(&rt);
+    expect_equal(&rt, could, (true, true));
+}

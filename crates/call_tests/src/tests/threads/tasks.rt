@@ -1,0 +1,104 @@
+//! Futures in a task with others, and in the task of another thread.
+use super::let_others_wait;
+use super::watch::Watch;
+use crate::tests::{expect_equal, expect_equal_at, expect_true};
+use async_priority_channel::bounded;
+use futures::executor::block_on;
+use futures::future::{join, poll_immediate};
+use futures::task::{Context, Poll};
+use futures::{Future, StreamExt};
+use std::sync::atomic::{AtomicU64, Ordering};
+use std::thread;
+
+// Counts the polls of a future, and of others beside it.
+#[derive(Drop)]
+struct Counted<'a, F> {
+    inner: F,
+    polls: &'a AtomicU64,
+}
+
+impl<F: Future> Future for Counted<'_, F> {
+    type Output = F::Output;
+
+    ghost can_poll = { λ c. F.can_poll c.inner };
+
+    ghost needs = { λ c s. F.needs c.inner s };
+
+    ghost gives = { λ c x. F.gives c.inner x };
+
+    fn poll(&mut self, cx: &mut Context<'_>) -> Poll<F::Output> {
+        self.polls.fetch_add(1, Ordering::SeqCst);
+        self.inner.poll(cx)
+    }
+}
+
+// A waker wakes its task also as it is dropped: two futures of one task could wake each other for
+// ever.
+#[test]
+fn two_receives_in_one_task_rest_while_they_wait(rt: HostRuntime) {
+    let polls = AtomicU64::new(0);
+    let (first_tx, first_rx) = bounded(&rt, rt.alloc(), 1).expect(&rt, "a channel");
+    let (second_tx, second_rx) = bounded(&rt, rt.alloc(), 1).expect(&rt, "a channel");
+    let watch = Watch::begin(&rt, "two receives in one task", ());
+    let sending = thread::spawn(&rt, move || {
+        let_others_wait(&rt);
+        let first = first_tx.try_send(1u8, 1u8).is_ok();
+        let_others_wait(&rt);
+        first && second_tx.try_send(2u8, 2u8).is_ok()
+    })
+    .expect(&rt, "a thread");
+    let first = Counted {
+        inner: first_rx.recv(),
+        polls: &polls,
+    };
+    let second = Counted {
+        inner: second_rx.recv(),
+        polls: &polls,
+    };
+    let received = block_on(&rt, join(first, second)).expect(&rt, "an executor");
+    let could = sending.join(&rt);
+    watch.end(&rt);
+    expect_true(&rt, could, "there is room");
+    expect_equal(&rt, received, (Ok((1, 1)), Ok((2, 2))));
+    let polls = polls.load(Ordering::SeqCst);
+    expect_equal_at(&rt, polls, polls < 10, true);
+}
+
+// Each was polled in a task of this thread first.
+#[test]
+fn futures_go_on_in_the_task_of_another_thread(rt: HostRuntime) {
+    let (tx, rx) = bounded(&rt, rt.alloc(), 1).expect(&rt, "a channel");
+    let mut receiving = rx.recv();
+    let polled = block_on(&rt, poll_immediate(&mut receiving)).expect(&rt, "an executor");
+    expect_equal(&rt, polled, None);
+    let watch = Watch::begin(&rt, "a receive that a send has to wake", ());
+    let (received, sent) = thread::join(
+        &rt,
+        move || block_on(&rt, receiving).expect(&rt, "an executor"),
+        || {
+            let_others_wait(&rt);
+            tx.try_send('x', 1u64)
+        },
+    );
+    watch.end(&rt);
+    expect_equal(&rt, (sent, received), (Ok(()), Ok(('x', 1))));
+}
+
+#[test]
+fn a_stream_goes_on_in_the_task_of_another_thread(rt: HostRuntime) {
+    let (tx, rx) = bounded(&rt, rt.alloc(), 1).expect(&rt, "a channel");
+    let mut stream = rx.into_stream();
+    let polled = block_on(&rt, poll_immediate(stream.next())).expect(&rt, "an executor");
+    expect_equal(&rt, polled, None);
+    let watch = Watch::begin(&rt, "a stream that sends have to wake", ());
+    let (count, sent) = thread::join(
+        &rt,
+        move || block_on(&rt, stream.count()).expect(&rt, "an executor"),
+        move || {
+            let_others_wait(&rt);
+            tx.send_blocking(7u64, 1u64).is_ok() && tx.send_blocking(8, 2).is_ok()
+        },
+    );
+    watch.end(&rt);
+    expect_equal(&rt, (sent, count), (true, 2));
+}

@@ -1,0 +1,111 @@
+//! A message is dropped outside the channel's lock, whatever it is that goes with it.
+use super::{expect_equal_at, is_pending};
+use async_priority_channel::{Receiver, Sender, bounded};
+use futures::test::MockTask;
+use std::iter::once;
+use std::sync::Wait;
+use std::thread;
+use std::time::{Clock, Duration};
+
+fn long() -> Duration {
+    Duration::from_secs(5)
+}
+
+// A message whose drop asks another thread to use the channel, and tells whether it could.
+struct Asking<R: Wait + Clone + Clock> {
+    ask: Sender<(), (), R>,
+    used: Receiver<(), (), R>,
+    told: Sender<bool, (), R>,
+}
+
+impl<R: Wait + Clone + Clock> Drop for Asking<R> {
+    fn drop(self) {
+        let Asking { ask, used, told } = self;
+        let _ = ask.try_send((), ());
+        let _ = told.try_send(used.recv_timeout(long()).is_ok(), ());
+    }
+}
+
+// Uses the channel once it is asked to.
+fn use_once<T: Drop, R: Wait + Clone + Clock>(
+    asked: &Receiver<(), (), R>,
+    tx: &Sender<T, u64, R>,
+    use_it: &Sender<(), (), R>,
+) -> bool {
+    let was_asked = asked.recv_timeout(long()).is_ok();
+    tx.len();
+    was_asked && use_it.try_send((), ()).is_ok()
+}
+
+#[derive(Clone, Copy, Debug)]
+enum Holder {
+    Unpolled,
+    Waiting,
+    Bulk,
+    WaitingBulk,
+    /// The channel, whose last receiver goes.
+    Channel,
+}
+
+const HOLDERS: [Holder; 5] = [
+    Holder::Unpolled,
+    Holder::Waiting,
+    Holder::Bulk,
+    Holder::WaitingBulk,
+    Holder::Channel,
+];
+
+// Drops what has that message, by itself or as all that it has. Tells whether it was as it says.
+fn drop_holder<T: Drop, R: Wait + Clone>(
+    task: &MockTask,
+    tx: &Sender<T, u64, R>,
+    rx: Receiver<T, u64, R>,
+    msg: T,
+    by: Holder,
+) -> bool {
+    match by {
+        Holder::Unpolled => {
+            drop(tx.send(msg, 1));
+            true
+        }
+        Holder::Waiting => {
+            let mut sending = tx.send(msg, 1);
+            is_pending(task.poll(&mut sending))
+        }
+        Holder::Bulk => {
+            drop(tx.sendv(once((msg, 1)).peekable()));
+            true
+        }
+        Holder::WaitingBulk => {
+            let mut sending = tx.sendv(once((msg, 1)).peekable());
+            is_pending(task.poll(&mut sending))
+        }
+        Holder::Channel => {
+            let was_sent = rx.try_recv().is_ok() && tx.try_send(msg, 1).is_ok();
+            drop(rx.close_on_drop());
+            drop(rx);
+            was_sent
+        }
+    }
+}
+
+// Under the channel's lock the drop of a message that uses it would hang.
+#[test]
+fn a_message_is_dropped_outside_the_lock(rt: HostRuntime) {
+    let task = MockTask::new(&rt).expect(&rt, "a task");
+    for by in HOLDERS {
+        let (ask, asked) = bounded(&rt, rt.alloc(), 1).expect(&rt, "a channel");
+        let (use_it, used) = bounded(&rt, rt.alloc(), 1).expect(&rt, "a channel");
+        let (told, tells) = bounded(&rt, rt.alloc(), 1).expect(&rt, "a channel");
+        let (tx, rx) = bounded(&rt, rt.alloc(), 1).expect(&rt, "a channel");
+        expect_equal_at(&rt, by, tx.try_send(None, 1u64).is_ok(), true);
+        let msg = Some(Asking { ask, used, told });
+        let (is_dropped, is_asked) = thread::join(
+            &rt,
+            || drop_holder(&task, &tx, rx, msg, by),
+            || use_once(&asked, &tx, &use_it),
+        );
+        expect_equal_at(&rt, by, (is_dropped, is_asked), (true, true));
+        expect_equal_at(&rt, by, tells.try_recv(), Ok((true, ())));
+    }
+}
