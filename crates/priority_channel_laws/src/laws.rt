@@ -11,6 +11,9 @@ ghost use Rattle.priority_channel_core.specs.machine.Run.{Run, Operation};
 ghost use Rattle.priority_channel_laws.specs.Accepted.{accepted_in, received_in, displaced_in, taken_in, NeverRise};
 ghost use Rattle.priority_channel_laws.specs.World.{World, Event, Happens, IsOpening, Leads};
 ghost use Rattle.priority_channel_laws.specs.WaitingLaw.{NobodyIsForgotten, GivenOnce, CalledBy};
+ghost use Rattle.priority_channel_laws.specs.Threads.{ThreadWorld, IsUnused};
+ghost use Rattle.priority_channel_laws.specs.ThreadEvents.{ThreadEvent, LeadsTo};
+ghost use Rattle.priority_channel_laws.specs.QueueLaw.{HeadIsSeenTo};
 
 /// No pair is lost, made up or given twice: each pair that was pending or accepted is received,
 /// displaced by one of greater priority, taken out by a test, or still pending. A closed channel
@@ -67,4 +70,12 @@ pub fn waiting_law<T, P: Ord, W: Clone>()
         (event : Event T P W) (handed : Handed W)
         → IsOpening opening → Leads P.cmp W.is_clone opening events old
         → Happens P.cmp W.is_clone old event handed new → CalledBy W.is_clone old handed new }
+{}
+
+/// Whatever the threads of one side do, in any order, and whatever calls of the core come between:
+/// a head of their queue that sleeps although it can go on has been woken, or a thread spins, and
+/// will list or wake the head when it stops.
+pub fn queue_law<T, P: Ord>()
+    ensures { (start world : ThreadWorld T P) (events : List (ThreadEvent T P))
+        → IsUnused start → LeadsTo P.cmp start events world → HeadIsSeenTo world }
 {}

@@ -1,0 +1,4 @@
+pub mod Acts
+pub mod Kept
+pub mod Runs
+pub mod Spinners
