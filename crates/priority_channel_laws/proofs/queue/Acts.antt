@@ -11,6 +11,7 @@ use Rattle.priority_channel_core.specs.Waiters.{Waiters, on_side, enlist}
 use Rattle.priority_channel_core.specs.machine.State.{State}
 use Rattle.priority_channel_core.specs.machine.Good.{IsGood}
 use Rattle.priority_channel_core.specs.Lines.{Lined, IsFirst, Lists}
+use Rattle.priority_channel_core.proofs.Lines.{all_behind}
 use Rattle.priority_channel_laws.specs.WaitingLaw.{waker_of}
 use Rattle.priority_channel_laws.proofs.worlds.Lookups.{waker_of-listing}
 use Rattle.priority_channel_laws.specs.Threads.{Phase, Thread, ThreadWorld, wake}
@@ -89,10 +90,6 @@ refit See See' line ticket spins t f sees = record {
   given = f.given;
   leads = f.leads;
 }
-
-all_behind : {X : Type 0} (Q : X → Type 0) (first : Option X) (others : List X) → All Q (option_to_list first ++ others) → All Q others
-all_behind Q None others all = all
-all_behind Q (Some first) others all = All-tail Q first others all
 
 all_without : {X : Type 0} (Q : X → Type 0) (first : Option X) (others : List X) (test : X → Bool) → All Q (option_to_list first ++ others) → All Q (option_to_list first ++ filter test others)
 all_without Q None others test all = All-filter test Q others all
