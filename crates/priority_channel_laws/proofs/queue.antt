@@ -1,4 +1,5 @@
 pub mod Acts
 pub mod Kept
+pub mod Order
 pub mod Runs
 pub mod Spinners

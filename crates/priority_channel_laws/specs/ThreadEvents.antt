@@ -138,7 +138,7 @@ module _ {T P : Type 0} where
   Acts old which thread Promotes new =
       (number : ℕ) × (thread.phase ≡ Leads number)
       × (first : Option (ℕ × ℕ)) × (others : List (ℕ × ℕ))
-      × (old.line.others ≡ option_to_list first ++ others)
+      × (old.line.others ≡ option_to_list first ++ others) × (first ≡ None → others ≡ [])
       × Rouses (record old {
         line = record old.line { first = first; ticket = None; others = others };
         threads = turn which thread Outside old.threads;

@@ -13,7 +13,7 @@ ghost use Rattle.priority_channel_laws.specs.World.{World, Event, Happens, IsOpe
 ghost use Rattle.priority_channel_laws.specs.WaitingLaw.{NobodyIsForgotten, GivenOnce, CalledBy};
 ghost use Rattle.priority_channel_laws.specs.Threads.{ThreadWorld, IsUnused};
 ghost use Rattle.priority_channel_laws.specs.ThreadEvents.{ThreadEvent, LeadsTo};
-ghost use Rattle.priority_channel_laws.specs.QueueLaw.{HeadIsSeenTo};
+ghost use Rattle.priority_channel_laws.specs.QueueLaw.{NobodySleepsOn};
 
 /// No pair is lost, made up or given twice: each pair that was pending or accepted is received,
 /// displaced by one of greater priority, taken out by a test, or still pending. A closed channel
@@ -73,9 +73,10 @@ pub fn waiting_law<T, P: Ord, W: Clone>()
 {}
 
 /// Whatever the threads of one side do, in any order, and whatever calls of the core come between:
-/// a head of their queue that sleeps although it can go on has been woken, or a thread spins, and
-/// will list or wake the head when it stops.
+/// if threads stand in their queue although a call can go on, then the head of the queue is awake,
+/// or has been woken since it last slept, or a thread spins, and will list or wake the head when it
+/// stops.
 pub fn queue_law<T, P: Ord>()
     ensures { (start world : ThreadWorld T P) (events : List (ThreadEvent T P))
-        → IsUnused start → LeadsTo P.cmp start events world → HeadIsSeenTo world }
+        → IsUnused start → LeadsTo P.cmp start events world → NobodySleepsOn world }
 {}

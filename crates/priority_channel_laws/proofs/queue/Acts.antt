@@ -18,8 +18,8 @@ use Rattle.priority_channel_laws.specs.Threads.{Phase, Thread, ThreadWorld, wake
 use Rattle.priority_channel_laws.specs.Threads.Phase.{Outside, Spins, Asks, Waits, Leads, Sleeps}
 use Rattle.priority_channel_laws.specs.ThreadEvents.{Act, WakesTo, SpinsAs, ListsFirst, Rouses, Acts}
 use Rattle.priority_channel_laws.specs.ThreadEvents.Act.{Wakes, Joins, AsksForLead, Leaves, BeginsSpin, EndsSpin, ListsItself, Unlists, Promotes}
-use Rattle.priority_channel_laws.specs.QueueLaw.{asleep_at}
-use Rattle.priority_channel_laws.proofs.queue.Kept.{number_of, lead_of, line_of, has_waiter, Fits, Kept, asleep_number, lead_number, all_any, at_first, first_number, fits_turn}
+use Rattle.priority_channel_laws.specs.QueueLaw.{number_of, asleep_at}
+use Rattle.priority_channel_laws.proofs.queue.Kept.{lead_of, line_of, has_waiter, Fits, Kept, asleep_number, lead_number, all_any, at_first, first_number, fits_turn}
 use Rattle.priority_channel_laws.proofs.queue.Kept as kept
 use Rattle.priority_channel_laws.proofs.worlds.Positions.{Some-same}
 
@@ -398,4 +398,4 @@ module _ {T P : Type 0} where
   act_kept old new a i p at EndsSpin h = ends_spin old a i p at h.0 (spun_goes p.phase h.0 h.1) new h.2
   act_kept old new a i p at ListsItself h = lists_itself old a i p at h.0 h.1 new h.2
   act_kept old new a i p at Unlists h = subst IsAttended (sym h.3) (unlists old a i p at h.0 h.1 new.state h.2.0)
-  act_kept old new a i p at Promotes h = promotes old a i p at h.0 h.1 h.2 h.3 h.4 new h.5
+  act_kept old new a i p at Promotes h = promotes old a i p at h.0 h.1 h.2 h.3 h.4 new h.6

@@ -7,16 +7,7 @@ use Rattle.priority_channel_core.specs.Lines.{Lined, IsFirst}
 use Rattle.priority_channel_laws.proofs.worlds.Positions.{Some-same, mapped_at, changed_at}
 use Rattle.priority_channel_laws.specs.Threads.{Phase, Thread, wake}
 use Rattle.priority_channel_laws.specs.Threads.Phase.{Outside, Spins, Asks, Waits, Leads, Sleeps}
-use Rattle.priority_channel_laws.specs.QueueLaw.{asleep_at}
-
--- the number of a thread in the queue
-abbrev pub number_of : Phase → Option ℕ
-number_of Outside = None
-number_of (Spins lead) = lead
-number_of (Asks number) = Some number
-number_of (Waits number) = Some number
-number_of (Leads number) = Some number
-number_of (Sleeps number) = Some number
+use Rattle.priority_channel_laws.specs.QueueLaw.{number_of, asleep_at}
 
 -- the number of a thread that knows that it is the head
 abbrev pub lead_of : Phase → Option ℕ

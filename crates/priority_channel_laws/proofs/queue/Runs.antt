@@ -27,12 +27,12 @@ use Rattle.priority_channel_laws.specs.Threads.{Phase, Thread, ThreadWorld, wake
 use Rattle.priority_channel_laws.specs.ThreadEvents.{ThreadEvent, given_to, Occurs, LeadsTo}
 use Rattle.priority_channel_laws.specs.ThreadEvents.ThreadEvent.{Makes, Does}
 use Rattle.priority_channel_core.specs.Lines.{IsFirst}
-use Rattle.priority_channel_laws.specs.QueueLaw.{asleep_at}
-use Rattle.priority_channel_laws.proofs.queue.Kept.{number_of, line_of, has_waiter, asleep_number, lead_number, all_any, at_first}
+use Rattle.priority_channel_laws.specs.QueueLaw.{number_of, asleep_at}
+use Rattle.priority_channel_laws.proofs.queue.Kept.{line_of, has_waiter, asleep_number, lead_number, all_any, at_first}
 use Rattle.priority_channel_laws.proofs.queue.Kept as kept
 use Rattle.priority_channel_laws.proofs.queue.Acts.{IsAttended, SeenIn, act_kept, or-both}
 
-or-right-true : (a b : Bool) → b ≡ true → (a || b) ≡ true
+pub or-right-true : (a b : Bool) → b ≡ true → (a || b) ≡ true
 or-right-true true b h = refl
 or-right-true false b h = h
 
@@ -138,7 +138,7 @@ module _ {T P : Type 0} (cmp : P → P → Ordering) (old new : State T P ℕ) (
   lands call.DropSender reply h = direct None (hands old new handed cmp (λ waker kept. kept ≡ waker) call.DropSender reply tt h)
   lands call.DropReceiver reply h = direct None (hands old new handed cmp (λ waker kept. kept ≡ waker) call.DropReceiver reply tt h)
 
-all_at : {X : Type 0} (Q : X → Type 0) (xs : List X) (i : ℕ) (x : X) → All Q xs → slice_get xs i ≡ Some x → Q x
+pub all_at : {X : Type 0} (Q : X → Type 0) (xs : List X) (i : ℕ) (x : X) → All Q xs → slice_get xs i ≡ Some x → Q x
 all_at Q [] i x all h = absurd (cc)
 all_at Q (y ∷ xs) zero x all h = let s : y ≡ x = cc in rw (← s) (All-head Q y xs all)
 all_at Q (y ∷ xs) (suc i) x all h = all_at Q xs i x (All-tail Q y xs all) h
@@ -198,7 +198,7 @@ module _ {T P : Type 0} where
         ]
       ] refl
 
-  unused_attended : (world : ThreadWorld T P) → IsUnused world → IsAttended world
+  pub unused_attended : (world : ThreadWorld T P) → IsUnused world → IsAttended world
   unused_attended world o =
       let none : (i : ℕ) (t : Thread) → slice_get world.threads i ≡ Some t → number_of t.phase ≡ None
       = λ i t at. ap number_of (all_at (λ (t : Thread). t.phase ≡ Phase.Outside) world.threads i t o.3 at) in
@@ -218,7 +218,7 @@ module _ {T P : Type 0} where
       }
 
   module _ (cmp : P → P → Ordering) where
-    event_kept : (old new : ThreadWorld T P) (e : ThreadEvent T P) → IsAttended old → Occurs cmp old e new → IsAttended new
+    pub event_kept : (old new : ThreadWorld T P) (e : ThreadEvent T P) → IsAttended old → Occurs cmp old e new → IsAttended new
     event_kept old new (Makes made) a h =
         let l = lands cmp old.state new.state h.2 a.good made h.1 h.3.moves in
         subst IsAttended (sym h.4) (handed_out old a l.mid new.state h.2 l.handing h.3.good

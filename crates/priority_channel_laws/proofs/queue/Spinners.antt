@@ -3,13 +3,14 @@ use Rattle.std.proofs.Common.{◌≡◌, ℕ, ◌+◌, ◌-◌, ◌<◌, ◌≤�
 use Rattle.std.specs.Prelude.{Option, Some, None, slice_get, ◌||◌, if◌then◌else◌, option_to_list}
 use Rattle.std.specs.List.{filter}
 use Rattle.std.specs.declared.cmp.Ordering.{Ordering}
-use Rattle.priority_channel_core.specs.Lines.{Lined}
+use Rattle.priority_channel_core.specs.Lines.{Lined, IsFirst}
+use Rattle.priority_channel_laws.specs.WaitingLaw.{CanGoOn}
 use Rattle.priority_channel_laws.specs.Threads.{Phase, Thread, ThreadWorld, wake, IsUnused}
 use Rattle.priority_channel_laws.specs.Threads.Phase.{Outside, Spins, Asks, Waits, Leads, Sleeps}
 use Rattle.priority_channel_laws.specs.ThreadEvents.{Act, ThreadEvent, WakesTo, SpinsAs, ListsFirst, Rouses, Acts, Occurs, LeadsTo}
 use Rattle.priority_channel_laws.specs.ThreadEvents.Act.{Wakes, Joins, AsksForLead, Leaves, BeginsSpin, EndsSpin, ListsItself, Unlists, Promotes}
 use Rattle.priority_channel_laws.specs.ThreadEvents.ThreadEvent.{Makes, Does}
-use Rattle.priority_channel_laws.specs.QueueLaw.{SomeSpin, HeadIsSeenTo}
+use Rattle.priority_channel_laws.specs.QueueLaw.{SomeSpin, asleep_at}
 use Rattle.priority_channel_laws.proofs.queue.Kept.{has_waiter}
 use Rattle.priority_channel_laws.proofs.queue.Runs.{attended_seen, always_attended}
 
@@ -143,7 +144,7 @@ module _ {T P : Type 0} where
         rouses_counts _ new (omega arith) h.2
     act_counts new ListsItself h = lists_counts _ new (turns _ (ap is_spinning h.1) refl) h.2
     act_counts new Unlists h = subst Counts (sym h.3) c
-    act_counts new Promotes h = rouses_counts _ new (turns _ (ap is_spinning h.1) refl) h.5
+    act_counts new Promotes h = rouses_counts _ new (turns _ (ap is_spinning h.1) refl) h.6
 
   module _ (cmp : P → P → Ordering) where
     event_counts : (old new : ThreadWorld T P) (e : ThreadEvent T P) → Counts old → Occurs cmp old e new → Counts new
@@ -154,8 +155,11 @@ module _ {T P : Type 0} where
     events_count old new [] c h = subst Counts (sym h) c
     events_count old new (e ∷ more) c h = events_count h.0 new more (event_counts old h.0 e c h.1) h.2
 
-    pub head_is_seen_to : (start world : ThreadWorld T P) (events : List (ThreadEvent T P)) → IsUnused start → LeadsTo cmp start events world → HeadIsSeenTo world
-    head_is_seen_to start world events o h i t n at asleep first can =
+    -- a head that sleeps although it can go on has been woken, or a thread spins
+    pub sleeper_is_seen_to : (start world : ThreadWorld T P) (events : List (ThreadEvent T P)) → IsUnused start → LeadsTo cmp start events world
+        → (i : ℕ) (t : Thread) (n : ℕ) → slice_get world.threads i ≡ Some t → asleep_at t.phase ≡ Some n → IsFirst world.line n → CanGoOn world.state world.side
+        → (t.is_woken ≡ true) ⊎ SomeSpin world
+    sleeper_is_seen_to start world events o h i t n at asleep first can =
         elim (attended_seen world (always_attended cmp start world events o h) i t n at asleep first can) [
           | inl woken ↦ inl woken
           | inr some ↦

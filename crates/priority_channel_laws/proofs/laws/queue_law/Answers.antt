@@ -1,5 +1,5 @@
-use Rattle.priority_channel_laws.proofs.queue.Spinners.{head_is_seen_to}
+use Rattle.priority_channel_laws.proofs.queue.Order.{nobody_sleeps_on}
 use Rattle.priority_channel_laws.proofs.laws.queue_law.Goals as goal
 
 pub returns : goal.returns
-returns g c = head_is_seen_to g.P.Ord.cmp
+returns g c = nobody_sleeps_on g.P.Ord.cmp
