@@ -1,8 +1,8 @@
 -- A channel with the threads that wait on one of its sides: how far each has come.
-use Rattle.std.specs.Prelude.{◌≡◌, ℕ, ◌||◌, ◌==◌, Bool, true, false, List, [], map, slice_set, Option, Some, None, option_to_list}
+use Rattle.std.specs.Prelude.{◌≡◌, ℕ, ◌||◌, ◌==◌, Bool, List, [], map, slice_set, Option, None}
 use Rattle.std.specs.List.{All, list_any}
 use Rattle.priority_channel_core.specs.declared.side.Side.{Side}
-use Rattle.priority_channel_core.specs.machine.State.{State, Handed, opening}
+use Rattle.priority_channel_core.specs.machine.State.{State, opening}
 use Rattle.priority_channel_core.specs.machine.Good.{IsGood}
 use Rattle.priority_channel_core.specs.Lines.{Lined}
 

@@ -2,8 +2,7 @@
 use Rattle.std.proofs.Common.{◌≡◌, ◌≢◌, ℕ, ◌+◌, ◌-◌, ◌<◌, ◌⊎◌, Bool, true, false, List, [], ◌∷◌, ◌++◌, set, refl, ap, sym, subst, ◌∙◌, inl, inr, arith, zero, suc, eq-eqb}
 use Rattle.std.specs.Prelude.{Option, Some, None, slice_get, ◌||◌, ◌==◌, IsSome, option_to_list}
 use Rattle.std.specs.List.{All, filter}
-use Rattle.std.proofs.lemmas.List.Elements.{All-nil, All-cons, All-head, All-tail, All-append, All-filter, All-push, All-weaker}
-use Rattle.std.specs.declared.cmp.Ordering.{Ordering}
+use Rattle.std.proofs.lemmas.List.Elements.{All-cons, All-head, All-tail, All-filter, All-push, All-weaker}
 use Rattle.priority_channel_core.specs.declared.side.Side.{Side}
 use Rattle.priority_channel_core.specs.declared.side.Side.TheVariants.{Room, Message}
 use Rattle.priority_channel_core.specs.Waiting.{listing, Listing}
@@ -15,7 +14,7 @@ use Rattle.priority_channel_core.proofs.Lines.{all_behind}
 use Rattle.priority_channel_laws.specs.WaitingLaw.{waker_of}
 use Rattle.priority_channel_laws.proofs.worlds.Lookups.{waker_of-listing}
 use Rattle.priority_channel_laws.specs.Threads.{Phase, Thread, ThreadWorld, wake}
-use Rattle.priority_channel_laws.specs.Threads.Phase.{Outside, Spins, Asks, Waits, Leads, Sleeps}
+use Rattle.priority_channel_laws.specs.Threads.Phase.{Outside, Asks, Waits, Leads, Sleeps}
 use Rattle.priority_channel_laws.specs.ThreadEvents.{Act, WakesTo, SpinsAs, ListsFirst, Rouses, Acts}
 use Rattle.priority_channel_laws.specs.ThreadEvents.Act.{Wakes, Joins, AsksForLead, Leaves, BeginsSpin, EndsSpin, ListsItself, Unlists, Promotes}
 use Rattle.priority_channel_laws.specs.QueueLaw.{number_of, asleep_at}

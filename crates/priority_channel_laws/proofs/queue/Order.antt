@@ -1,6 +1,6 @@
 -- Each in the queue is a thread's, and each thread with a number stands in it.
-use Rattle.std.proofs.Common.{◌≡◌, ◌≢◌, ℕ, ◌+◌, ◌<◌, ◌⊎◌, Bool, true, false, not, List, [], ◌∷◌, ◌++◌, set, refl, ap, sym, subst, ◌∙◌, inl, inr, arith, eq-eqb}
-use Rattle.std.specs.Prelude.{Option, Some, None, slice_get, ◌==◌, ◌||◌, if◌then◌else◌, IsSome, option_to_list}
+use Rattle.std.proofs.Common.{◌≡◌, ◌≢◌, ℕ, ◌<◌, ◌⊎◌, Bool, true, false, not, List, [], ◌∷◌, ◌++◌, set, refl, ap, sym, subst, ◌∙◌, inl, inr, arith, eq-eqb}
+use Rattle.std.specs.Prelude.{Option, Some, None, slice_get, ◌==◌, if◌then◌else◌, IsSome, option_to_list}
 use Rattle.std.specs.List.{All, filter}
 use Rattle.std.proofs.lemmas.Bool.{ne_eqb}
 use Rattle.std.proofs.lemmas.Bool.Decides.{eqb_tells}
@@ -9,10 +9,9 @@ use Rattle.std.proofs.lemmas.List.Folds.{list_any-append}
 use Rattle.std.specs.declared.cmp.Ordering.{Ordering}
 use Rattle.priority_channel_core.specs.Waiting.{without, is_listed}
 use Rattle.priority_channel_core.specs.Lines.{Lined}
-use Rattle.priority_channel_laws.specs.WaitingLaw.{CanGoOn}
 use Rattle.priority_channel_laws.specs.Threads.{Phase, Thread, ThreadWorld, wake, IsUnused}
-use Rattle.priority_channel_laws.specs.Threads.Phase.{Outside, Spins, Asks, Waits, Leads, Sleeps}
-use Rattle.priority_channel_laws.specs.ThreadEvents.{Act, ThreadEvent, WakesTo, SpinsAs, ListsFirst, Rouses, Acts, Occurs, LeadsTo}
+use Rattle.priority_channel_laws.specs.Threads.Phase.{Outside, Asks, Waits, Leads, Sleeps}
+use Rattle.priority_channel_laws.specs.ThreadEvents.{Act, ThreadEvent, WakesTo, SpinsAs, ListsFirst, Rouses, Acts, LeadsTo}
 use Rattle.priority_channel_laws.specs.ThreadEvents.Act.{Wakes, Joins, AsksForLead, Leaves, BeginsSpin, EndsSpin, ListsItself, Unlists, Promotes}
 use Rattle.priority_channel_laws.specs.ThreadEvents.ThreadEvent.{Makes, Does}
 use Rattle.priority_channel_laws.specs.QueueLaw.{number_of, asleep_at, SomeSpin, NobodySleepsOn}
