@@ -3,3 +3,4 @@ pub mod Kept
 pub mod Order
 pub mod Runs
 pub mod Spinners
+pub mod Witness

@@ -1,5 +1,5 @@
--- What may happen on one side of a channel. An act of a thread is one hold of the queue's lock, with
--- at most one call of the core in it.
+-- What may happen on one side of a channel. An act of a thread is one hold of the queue's lock,
+-- with at most one call of the core in it.
 use Rattle.std.specs.Prelude.{◌≡◌, ◌≢◌, ℕ, ◌+◌, ◌-◌, ◌<◌, ◌≤◌, false, List, [], ◌∷◌, ◌++◌, slice_get, slice_set, Option, Some, None, IsSome, option_to_list, ◌⊎◌}
 use Rattle.std.specs.declared.cmp.Ordering.{Ordering}
 use Rattle.priority_channel_core.specs.declared.calls.Call.TheVariants as call

@@ -1,5 +1,5 @@
 //! Consequences of the definitions alone.
-ghost use Rattle.std.specs.Prelude.{◌≡◌, ◌+◌, ◌≤◌, true, List, [], ◌∷◌, ◌++◌, length, map, replicate, Ok, Err};
+ghost use Rattle.std.specs.Prelude.{◌≡◌, ◌+◌, ◌≤◌, true, List, [], ◌∷◌, ◌++◌, length, map, replicate, slice_get, Some, Ok, Err};
 ghost use Rattle.std.specs.List.{AllZip};
 ghost use Rattle.std.specs.List.Sorted.{IsPermutation};
 ghost use Rattle.priority_channel_laws.specs.Alike.{IsAlike, SameOutcome, SameState};
@@ -11,7 +11,8 @@ ghost use Rattle.priority_channel_core.specs.machine.Run.{Run, Operation};
 ghost use Rattle.priority_channel_laws.specs.Accepted.{accepted_in, received_in, displaced_in, taken_in, NeverRise};
 ghost use Rattle.priority_channel_laws.specs.World.{World, Event, Happens, IsOpening, Leads};
 ghost use Rattle.priority_channel_laws.specs.WaitingLaw.{NobodyIsForgotten, GivenOnce, CalledBy};
-ghost use Rattle.priority_channel_laws.specs.Threads.{ThreadWorld, IsUnused};
+ghost use Rattle.priority_channel_laws.specs.Threads.{Thread, ThreadWorld, IsUnused};
+ghost use Rattle.priority_channel_laws.specs.Threads.Phase.{Sleeps};
 ghost use Rattle.priority_channel_laws.specs.ThreadEvents.{ThreadEvent, LeadsTo};
 ghost use Rattle.priority_channel_laws.specs.QueueLaw.{NobodySleepsOn};
 
@@ -77,6 +78,12 @@ pub fn waiting_law<T, P: Ord, W: Clone>()
 /// or has been woken since it last slept, or a thread spins, and will list or wake the head when it
 /// stops.
 pub fn queue_law<T, P: Ord>()
-    ensures { (start world : ThreadWorld T P) (events : List (ThreadEvent T P))
+    ensures seen_to { (start world : ThreadWorld T P) (events : List (ThreadEvent T P))
         → IsUnused start → LeadsTo P.cmp start events world → NobodySleepsOn world }
+    // The acts of threads do occur: the first thread may come to sleep as the head.
+    ensures occurs { (start : ThreadWorld T P) × (world : ThreadWorld T P)
+        × (events : List (ThreadEvent T P))
+        × IsUnused start × LeadsTo P.cmp start events world
+        × (thread : Thread) × (slice_get world.threads 0 ≡ Some thread)
+        × (thread.phase ≡ Sleeps 0) }
 {}
