@@ -4,15 +4,15 @@ use Rattle.std.specs.Prelude.{Option, Some, None, slice_get, ◌||◌, ◌==◌,
 use Rattle.std.specs.List.{All, filter}
 use Rattle.std.proofs.lemmas.List.Elements.{All-cons, All-head, All-tail, All-filter, All-push, All-weaker}
 use Rattle.priority_channel_core.specs.declared.side.Side.{Side}
-use Rattle.priority_channel_core.specs.declared.side.Side.TheVariants.{Room, Message}
-use Rattle.priority_channel_core.specs.Waiting.{listing, Listing}
-use Rattle.priority_channel_core.specs.Waiters.{Waiters, on_side, enlist}
+use Rattle.priority_channel_core.specs.Waiting.{listing}
+use Rattle.priority_channel_core.specs.Waiters.{on_side}
 use Rattle.priority_channel_core.specs.machine.State.{State}
 use Rattle.priority_channel_core.specs.machine.Good.{IsGood}
 use Rattle.priority_channel_core.specs.Lines.{Lined, IsFirst, Lists}
 use Rattle.priority_channel_core.proofs.Lines.{all_behind}
 use Rattle.priority_channel_laws.specs.WaitingLaw.{waker_of}
 use Rattle.priority_channel_laws.proofs.worlds.Lookups.{waker_of-listing}
+use Rattle.priority_channel_laws.proofs.worlds.PollEnds.{enlisted_mine, tickets_given}
 use Rattle.priority_channel_laws.specs.Threads.{Phase, Thread, ThreadWorld, wake}
 use Rattle.priority_channel_laws.specs.Threads.Phase.{Outside, Asks, Waits, Leads, Sleeps}
 use Rattle.priority_channel_laws.specs.ThreadEvents.{Act, WakesTo, SpinsAs, ListsFirst, Rouses, Acts}
@@ -53,15 +53,6 @@ is_some o x e = rw e refl
 pub or-both : (a b : Bool) → (a || b) ≡ false → (a ≡ false) × (b ≡ false)
 or-both true b h = absurd (cc)
 or-both false b h = (refl, h)
-
-given_on : {W : Type 0} (side : Side) (w : Waiters W) → All (λ a. a.0 < w.next_ticket) w.room → All (λ a. a.0 < w.next_ticket) w.message
-    → All (λ a. a.0 < w.next_ticket) (on_side side w)
-given_on Room w r m = r
-given_on Message w r m = m
-
-enlisted : {W : Type 0} (side : Side) (l : Listing W) (w : Waiters W) → on_side side (enlist side l w) ≡ l.waiters
-enlisted Room l w = refl
-enlisted Message l w = refl
 
 -- how a head that sleeps is seen to: it is listed, or it has no ticket and there is a spin
 abbrev pub Seen : Lined → List (ℕ × ℕ) → Type 0 → ℕ → Type 0
@@ -126,10 +117,10 @@ module _ {T P : Type 0} where
       let xs = on_side side old.waiters in
       let l = listing given e.0 xs old.waiters.next_ticket in
       let hit : (l.ticket == t) ≡ true = eq-eqb l.ticket t (sym e.2.0) in
-      let below = given_on side old.waiters good.tickets.room_given good.tickets.message_given in (
+      let below = tickets_given old good side in (
         t,
         refl,
-        ap (waker_of t) (ap (on_side side) e.2.1 ∙ enlisted side l old.waiters) ∙ (waker_of-listing xs given e.0 old.waiters.next_ticket t below ∙ rw hit (ap Some e.1)),
+        ap (waker_of t) (ap (on_side side) e.2.1 ∙ enlisted_mine side l old.waiters) ∙ (waker_of-listing xs given e.0 old.waiters.next_ticket t below ∙ rw hit (ap Some e.1)),
       )
 
   -- the head is listed
@@ -185,6 +176,17 @@ module _ {T P : Type 0} where
                     leads = f.leads;
                   }) k.below;
             })
+      ]
+
+  -- what stays with another ticket and another state, and as a head is woken
+  pub rouses_keep : (Q : ThreadWorld T P → Type 0) (mid new : ThreadWorld T P) → Q mid
+      → ((ticket : Option ℕ) (s : State T P ℕ) → Q (record mid { line = record mid.line { ticket = ticket }; state = s }))
+      → Q (record mid { threads = wake (option_to_list mid.line.first) mid.threads }) → Rouses mid new → Q new
+  rouses_keep Q mid new same lists wakes (inl h) = subst Q (sym h.1) same
+  rouses_keep Q mid new same lists wakes (inr h) =
+      elim h.1 [
+        | inl l ↦ subst Q (sym l.6) (lists new.line.ticket new.state)
+        | inr w ↦ subst Q (sym w) wakes
       ]
 
   module _ (old : ThreadWorld T P) (a : IsAttended old) (i : ℕ) (p : Thread) (at : slice_get old.threads i ≡ Some p) where

@@ -11,12 +11,12 @@ use Rattle.priority_channel_core.specs.Waiting.{without, is_listed}
 use Rattle.priority_channel_core.specs.Lines.{Lined}
 use Rattle.priority_channel_laws.specs.Threads.{Phase, Thread, ThreadWorld, wake, IsUnused}
 use Rattle.priority_channel_laws.specs.Threads.Phase.{Outside, Asks, Waits, Leads, Sleeps}
-use Rattle.priority_channel_laws.specs.ThreadEvents.{Act, ThreadEvent, WakesTo, SpinsAs, ListsFirst, Rouses, Acts, LeadsTo}
+use Rattle.priority_channel_laws.specs.ThreadEvents.{Act, ThreadEvent, WakesTo, SpinsAs, Rouses, Acts, LeadsTo}
 use Rattle.priority_channel_laws.specs.ThreadEvents.Act.{Wakes, Joins, AsksForLead, Leaves, BeginsSpin, EndsSpin, ListsItself, Unlists, Promotes}
 use Rattle.priority_channel_laws.specs.ThreadEvents.ThreadEvent.{Makes, Does}
 use Rattle.priority_channel_laws.specs.QueueLaw.{number_of, asleep_at, SomeSpin, NobodySleepsOn}
 use Rattle.priority_channel_laws.proofs.worlds.Positions.{Some-same, mapped_at, at_mapped, changed_at, at_changed, at_unchanged}
-use Rattle.priority_channel_laws.proofs.queue.Acts.{IsAttended}
+use Rattle.priority_channel_laws.proofs.queue.Acts.{IsAttended, rouses_keep}
 use Rattle.priority_channel_laws.proofs.queue.Kept.{lead_of, asleep_number}
 use Rattle.priority_channel_laws.proofs.queue.Runs.{all_at, or-right-true, unused_attended, event_kept}
 use Rattle.priority_channel_laws.proofs.queue.Spinners.{sleeper_is_seen_to}
@@ -237,16 +237,9 @@ module _ {T P : Type 0} where
   abbrev Ordered : ThreadWorld T P → Type 0
   Ordered world = InOrder world.line.first world.line.others world.threads
 
-  lists_ordered : (mid new : ThreadWorld T P) → Ordered mid → ListsFirst mid new → Ordered new
-  lists_ordered mid new o h = subst Ordered (sym h.6) o
-
   rouses_ordered : (mid new : ThreadWorld T P) → Ordered mid → Rouses mid new → Ordered new
-  rouses_ordered mid new o (inl h) = subst Ordered (sym h.1) o
-  rouses_ordered mid new o (inr h) =
-      elim h.1 [
-        | inl lists ↦ lists_ordered mid new o lists
-        | inr wakes ↦ subst Ordered (sym wakes) (woken (option_to_list mid.line.first) mid.threads mid.line.first mid.line.others o)
-      ]
+  rouses_ordered mid new o h =
+      rouses_keep Ordered mid new o (λ ticket s. o) (woken (option_to_list mid.line.first) mid.threads mid.line.first mid.line.others o) h
 
   module _ (old : ThreadWorld T P) (a : IsAttended old) (o : Ordered old) (i : ℕ) (p : Thread) (at : slice_get old.threads i ≡ Some p) where
     differs : (n : ℕ) → number_of p.phase ≡ Some n → (j m : ℕ) (t : Thread) → i ≢ j → slice_get old.threads j ≡ Some t → number_of t.phase ≡ Some m → m ≢ n
@@ -281,7 +274,7 @@ module _ {T P : Type 0} where
         subst Ordered (sym h.3) (leaves old.threads i p _ at h.0 (ap number_of h.1) (differs h.0 (ap number_of h.1)) old.line.first old.line.others o refl (λ w e. h.2 (w, e)))
     act_ordered new BeginsSpin h = subst Ordered (sym h.5) (keeps _ (spins_same p.phase h.0 h.1) refl)
     act_ordered new EndsSpin h = rouses_ordered _ new (keeps _ (sym (spins_same h.0 p.phase h.1)) refl) h.2
-    act_ordered new ListsItself h = lists_ordered _ new (keeps _ (sym (ap number_of h.1)) refl) h.2
+    act_ordered new ListsItself h = subst Ordered (sym h.2.6) (keeps _ (sym (ap number_of h.1)) refl)
     act_ordered new Unlists h = subst Ordered (sym h.3) o
     act_ordered new Promotes h =
         let first = (a.kept.fits i p at).leads h.0 (ap lead_of h.1) in

@@ -1,5 +1,5 @@
 -- Calls of the core by anybody, and any number of events.
-use Rattle.std.proofs.Common.{◌≡◌, ◌≢◌, ℕ, ◌<◌, ◌⊎◌, Bool, true, false, List, [], ◌∷◌, ◌++◌, length, refl, ap, sym, subst, ◌∙◌, inl, inr, arith, zero, suc, eq-eqb}
+use Rattle.std.proofs.Common.{◌≡◌, ◌≢◌, ℕ, ◌<◌, ◌⊎◌, Bool, true, false, List, [], ◌∷◌, ◌++◌, refl, ap, sym, subst, ◌∙◌, inl, inr, arith, zero, suc, eq-eqb}
 use Rattle.std.specs.Prelude.{Option, Some, None, slice_get, ◌==◌, ◌||◌}
 use Rattle.std.specs.List.{All}
 use Rattle.std.proofs.lemmas.List.Elements.{All-head, All-tail, All-nil}
@@ -22,6 +22,8 @@ use Rattle.priority_channel_core.specs.Future.Task.{Send, Sendv, Recv}
 use Rattle.priority_channel_laws.specs.WaitingLaw.{waker_of, CanGoOn, side_of}
 use Rattle.priority_channel_laws.proofs.worlds.Hands.{Hands, hands, handed_of}
 use Rattle.priority_channel_laws.proofs.worlds.Lookups.{waker_of-without, waker_of-listing, waker_of-listed, ticket_listed}
+use Rattle.priority_channel_laws.proofs.worlds.Events.{some_pending}
+use Rattle.priority_channel_laws.proofs.worlds.Standings.{same_side}
 use Rattle.priority_channel_laws.proofs.worlds.PollEnds.{Ended, Waits, poll_end, still_given, stays_or_leaves}
 use Rattle.priority_channel_laws.specs.Threads.{Phase, Thread, ThreadWorld, wake, IsUnused}
 use Rattle.priority_channel_laws.specs.ThreadEvents.{ThreadEvent, given_to, Occurs, LeadsTo}
@@ -67,12 +69,6 @@ relisted xs given kept next t v below ne h =
     ] in
     let n : (l.ticket == t) ≡ false = ne_eqb l.ticket t other in
     waker_of-listing xs given kept next t below ∙ rw n h
-
-same_side : (a b : Side) → (a ≡ b) ⊎ (a ≢ b)
-same_side Room Room = inl refl
-same_side Room Message = inr (λ e. cc)
-same_side Message Room = inr (λ e. cc)
-same_side Message Message = inl refl
 
 unlist_side : {W : Type 0} (given : Option ℕ) (side : Side) (w : Waiters W) → on_side side (unlist given w) ≡ without_given given (on_side side w)
 unlist_side given Room w = refl
@@ -120,32 +116,12 @@ module _ {T P : Type 0} (cmp : P → P → Ordering) (old new : State T P ℕ) (
         ∙ (ap (waker_of t) (unlist_side (Some ticket) side old.waiters) ∙ unlisted (on_side side old.waiters) (Some ticket) t v ne w);
   }
   lands (call.GiveUp ticket) reply h = absurd h
-  lands (call.TrySend msg priority) reply h = direct None (hands old new handed cmp (λ waker kept. kept ≡ waker) (call.TrySend msg priority) reply tt h)
-  lands (call.TrySendv pairs) reply h = direct None (hands old new handed cmp (λ waker kept. kept ≡ waker) (call.TrySendv pairs) reply tt h)
-  lands (call.TrySendEvicting msg priority) reply h = direct None (hands old new handed cmp (λ waker kept. kept ≡ waker) (call.TrySendEvicting msg priority) reply tt h)
-  lands call.TryRecv reply h = direct None (hands old new handed cmp (λ waker kept. kept ≡ waker) call.TryRecv reply tt h)
-  lands (call.TakeWhere place) reply h = direct None (hands old new handed cmp (λ waker kept. kept ≡ waker) (call.TakeWhere place) reply tt h)
-  lands call.Close reply h = direct None (hands old new handed cmp (λ waker kept. kept ≡ waker) call.Close reply tt h)
-  lands call.IsClosed reply h = direct None (hands old new handed cmp (λ waker kept. kept ≡ waker) call.IsClosed reply tt h)
-  lands call.IsEmpty reply h = direct None (hands old new handed cmp (λ waker kept. kept ≡ waker) call.IsEmpty reply tt h)
-  lands call.IsFull reply h = direct None (hands old new handed cmp (λ waker kept. kept ≡ waker) call.IsFull reply tt h)
-  lands call.Len reply h = direct None (hands old new handed cmp (λ waker kept. kept ≡ waker) call.Len reply tt h)
-  lands call.Capacity reply h = direct None (hands old new handed cmp (λ waker kept. kept ≡ waker) call.Capacity reply tt h)
-  lands call.SenderCount reply h = direct None (hands old new handed cmp (λ waker kept. kept ≡ waker) call.SenderCount reply tt h)
-  lands call.ReceiverCount reply h = direct None (hands old new handed cmp (λ waker kept. kept ≡ waker) call.ReceiverCount reply tt h)
-  lands call.CloneSender reply h = direct None (hands old new handed cmp (λ waker kept. kept ≡ waker) call.CloneSender reply tt h)
-  lands call.CloneReceiver reply h = direct None (hands old new handed cmp (λ waker kept. kept ≡ waker) call.CloneReceiver reply tt h)
-  lands call.DropSender reply h = direct None (hands old new handed cmp (λ waker kept. kept ≡ waker) call.DropSender reply tt h)
-  lands call.DropReceiver reply h = direct None (hands old new handed cmp (λ waker kept. kept ≡ waker) call.DropReceiver reply tt h)
+  lands made reply h = direct None (hands old new handed cmp (λ waker kept. kept ≡ waker) made reply tt h)
 
 pub all_at : {X : Type 0} (Q : X → Type 0) (xs : List X) (i : ℕ) (x : X) → All Q xs → slice_get xs i ≡ Some x → Q x
 all_at Q [] i x all h = absurd (cc)
 all_at Q (y ∷ xs) zero x all h = let s : y ≡ x = cc in rw (← s) (All-head Q y xs all)
 all_at Q (y ∷ xs) (suc i) x all h = all_at Q xs i x (All-tail Q y xs all) h
-
-some_pending : {A : Type 0} (xs : List A) → xs ≢ [] → 0 < length xs
-some_pending [] ne = absurd (ne refl)
-some_pending (x ∷ xs) ne = omega arith
 
 module _ {T P : Type 0} where
   -- who is handed out is woken, and then the lists may change at the tickets of others

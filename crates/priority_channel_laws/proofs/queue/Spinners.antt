@@ -7,11 +7,12 @@ use Rattle.priority_channel_core.specs.Lines.{Lined, IsFirst}
 use Rattle.priority_channel_laws.specs.WaitingLaw.{CanGoOn}
 use Rattle.priority_channel_laws.specs.Threads.{Phase, Thread, ThreadWorld, wake, IsUnused}
 use Rattle.priority_channel_laws.specs.Threads.Phase.{Outside, Spins, Asks, Waits, Leads, Sleeps}
-use Rattle.priority_channel_laws.specs.ThreadEvents.{Act, ThreadEvent, WakesTo, SpinsAs, ListsFirst, Rouses, Acts, Occurs, LeadsTo}
+use Rattle.priority_channel_laws.specs.ThreadEvents.{Act, ThreadEvent, WakesTo, SpinsAs, Rouses, Acts, Occurs, LeadsTo}
 use Rattle.priority_channel_laws.specs.ThreadEvents.Act.{Wakes, Joins, AsksForLead, Leaves, BeginsSpin, EndsSpin, ListsItself, Unlists, Promotes}
 use Rattle.priority_channel_laws.specs.ThreadEvents.ThreadEvent.{Makes, Does}
 use Rattle.priority_channel_laws.specs.QueueLaw.{SomeSpin, asleep_at}
 use Rattle.priority_channel_laws.proofs.queue.Kept.{has_waiter}
+use Rattle.priority_channel_laws.proofs.queue.Acts.{rouses_keep}
 use Rattle.priority_channel_laws.proofs.queue.Runs.{attended_seen, always_attended}
 
 abbrev is_spinning : Phase → Bool
@@ -102,16 +103,9 @@ module _ {T P : Type 0} where
   abbrev Counts : ThreadWorld T P → Type 0
   Counts world = world.line.spinning ≤ spinners world.threads
 
-  lists_counts : (mid new : ThreadWorld T P) → Counts mid → ListsFirst mid new → Counts new
-  lists_counts mid new c h = subst Counts (sym h.6) c
-
   rouses_counts : (mid new : ThreadWorld T P) → Counts mid → Rouses mid new → Counts new
-  rouses_counts mid new c (inl h) = subst Counts (sym h.1) c
-  rouses_counts mid new c (inr h) =
-      elim h.1 [
-        | inl lists ↦ lists_counts mid new c lists
-        | inr wakes ↦ subst Counts (sym wakes) (let w = woken (option_to_list mid.line.first) mid.threads in omega arith)
-      ]
+  rouses_counts mid new c h =
+      rouses_keep Counts mid new c (λ ticket s. c) (let w = woken (option_to_list mid.line.first) mid.threads in omega arith) h
 
   module _ (old : ThreadWorld T P) (c : Counts old) (i : ℕ) (p : Thread) (at : slice_get old.threads i ≡ Some p) where
     turns : (x : Thread) → is_spinning p.phase ≡ false → is_spinning x.phase ≡ false → old.line.spinning ≤ spinners (set old.threads i x)
@@ -142,7 +136,7 @@ module _ {T P : Type 0} where
         let a : one (is_spinning p.phase) ≡ 1 = ap one q.1 in
         let b : one (is_spinning h.0) ≡ 0 = ap one q.0 in
         rouses_counts _ new (omega arith) h.2
-    act_counts new ListsItself h = lists_counts _ new (turns _ (ap is_spinning h.1) refl) h.2
+    act_counts new ListsItself h = subst Counts (sym h.2.6) (turns _ (ap is_spinning h.1) refl)
     act_counts new Unlists h = subst Counts (sym h.3) c
     act_counts new Promotes h = rouses_counts _ new (turns _ (ap is_spinning h.1) refl) h.6
 

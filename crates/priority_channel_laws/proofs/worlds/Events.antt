@@ -29,7 +29,7 @@ called_nobody (Waiting t w) = refl
 called_nobody (Called t w) = refl
 called_nobody Done = refl
 
-some_pending : {A : Type 0} (xs : List A) → xs ≢ [] → 0 < length xs
+pub some_pending : {A : Type 0} (xs : List A) → xs ≢ [] → 0 < length xs
 some_pending [] ne = absurd (ne refl)
 some_pending (x ∷ xs) ne = omega arith
 
