@@ -1,5 +1,6 @@
--- What may happen on one side of a channel. An act of a thread is one hold of the queue's lock,
--- with at most one call of the core in it.
+-- What may happen on one side of a channel. An act of a thread is the end of its sleep, or one hold
+-- of the queue's lock with at most one call of the core in it. The code makes `Unlists` and
+-- `Promotes` in one hold; here others may come between.
 use Rattle.std.specs.Prelude.{◌≡◌, ◌≢◌, ℕ, ◌+◌, ◌-◌, ◌<◌, ◌≤◌, false, List, [], ◌∷◌, ◌++◌, slice_get, slice_set, Option, Some, None, IsSome, option_to_list, ◌⊎◌}
 use Rattle.std.specs.declared.cmp.Ordering.{Ordering}
 use Rattle.priority_channel_core.specs.declared.calls.Call.TheVariants as call
@@ -14,16 +15,17 @@ use Rattle.priority_channel_laws.specs.Threads.{Phase, Thread, ThreadWorld, turn
 use Rattle.priority_channel_laws.specs.Threads.Phase.{Outside, Spins, Asks, Waits, Leads, Sleeps}
 
 pub data Act : Type 0 where
-  -- the thread goes on from its sleep, woken or not
+  -- the thread goes on from its sleep, woken or not (`park`)
   Wakes : Act
-  -- it joins the queue, asks whether it is the head, or leaves from behind the head
+  -- it joins the queue (`join`), asks whether it is the head (`lead`), or leaves (`leave`)
   Joins : Act
   AsksForLead : Act
   Leaves : Act
-  -- it begins to spin, and stops
+  -- it begins to spin (`begin_spin`, `unlist`), and stops (`end_spin`, `rouse`)
   BeginsSpin : Act
   EndsSpin : Act
-  -- the head is listed and sleeps, takes itself off the channel's list, and promotes the next
+  -- the head is listed and sleeps (`list_first`), takes itself off the list (`unlist`), and
+  -- promotes the next (`move_up`, `rouse`)
   ListsItself : Act
   Unlists : Act
   Promotes : Act

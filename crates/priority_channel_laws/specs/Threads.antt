@@ -45,7 +45,7 @@ wake waiters threads =
       is_woken = thread.is_woken || list_any (λ a. a.1 == thread.waiter) waiters;
     }) threads
 
--- a new channel with an empty queue, and threads that were not woken
+-- a new channel with an empty queue, and all threads outside it
 abbrev pub IsUnused : {T P : Type 0} → ThreadWorld T P → Type 0
 IsUnused world =
     IsGood world.state × (world.state ≡ opening world.state.capacity world.state.is_reserved)
