@@ -1,3 +1,4 @@
 pub mod alike
+pub mod queue
 pub mod runs
 pub mod worlds

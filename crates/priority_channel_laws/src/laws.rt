@@ -1,5 +1,5 @@
 //! Consequences of the definitions alone.
-ghost use Rattle.std.specs.Prelude.{◌≡◌, ◌+◌, ◌≤◌, true, List, [], ◌∷◌, ◌++◌, length, map, replicate, Ok, Err};
+ghost use Rattle.std.specs.Prelude.{◌≡◌, ◌+◌, ◌≤◌, true, List, [], ◌∷◌, ◌++◌, length, map, replicate, slice_get, Some, Ok, Err};
 ghost use Rattle.std.specs.List.{AllZip};
 ghost use Rattle.std.specs.List.Sorted.{IsPermutation};
 ghost use Rattle.priority_channel_laws.specs.Alike.{IsAlike, SameOutcome, SameState};
@@ -11,6 +11,10 @@ ghost use Rattle.priority_channel_core.specs.machine.Run.{Run, Operation};
 ghost use Rattle.priority_channel_laws.specs.Accepted.{accepted_in, received_in, displaced_in, taken_in, NeverRise};
 ghost use Rattle.priority_channel_laws.specs.World.{World, Event, Happens, IsOpening, Leads};
 ghost use Rattle.priority_channel_laws.specs.WaitingLaw.{NobodyIsForgotten, GivenOnce, CalledBy};
+ghost use Rattle.priority_channel_laws.specs.Threads.{Thread, ThreadWorld, IsUnused};
+ghost use Rattle.priority_channel_laws.specs.Threads.Phase.{Sleeps};
+ghost use Rattle.priority_channel_laws.specs.ThreadEvents.{ThreadEvent, LeadsTo};
+ghost use Rattle.priority_channel_laws.specs.QueueLaw.{NobodySleepsOn};
 
 /// No pair is lost, made up or given twice: each pair that was pending or accepted is received,
 /// displaced by one of greater priority, taken out by a test, or still pending. A closed channel
@@ -67,4 +71,19 @@ pub fn waiting_law<T, P: Ord, W: Clone>()
         (event : Event T P W) (handed : Handed W)
         → IsOpening opening → Leads P.cmp W.is_clone opening events old
         → Happens P.cmp W.is_clone old event handed new → CalledBy W.is_clone old handed new }
+{}
+
+/// Whatever the threads of one side do, in any order, and whatever calls of the core come between:
+/// if threads stand in their queue although a call can go on, then the head of the queue is awake,
+/// or has been woken since it last slept, or a thread spins, and will list or wake the head when it
+/// stops.
+pub fn queue_law<T, P: Ord>()
+    ensures seen_to { (start world : ThreadWorld T P) (events : List (ThreadEvent T P))
+        → IsUnused start → LeadsTo P.cmp start events world → NobodySleepsOn world }
+    // The acts of threads do occur: the first thread may come to sleep as the head.
+    ensures occurs { (start : ThreadWorld T P) × (world : ThreadWorld T P)
+        × (events : List (ThreadEvent T P))
+        × IsUnused start × LeadsTo P.cmp start events world
+        × (thread : Thread) × (slice_get world.threads 0 ≡ Some thread)
+        × (thread.phase ≡ Sleeps 0) }
 {}

@@ -1,4 +1,3 @@
 pub mod LeftOver
-pub mod Lines
 pub mod Holdings
 pub mod Tries

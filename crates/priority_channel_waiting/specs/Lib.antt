@@ -1,4 +1,3 @@
-pub mod Lines
 pub mod Waits
 pub mod Tails
 pub mod Holding

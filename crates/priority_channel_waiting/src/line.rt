@@ -5,11 +5,12 @@
 //! `Queued`, `Lead`, `Spinner` and `Listing` are not `Drop`, so code cannot forget them. A thread
 //! that joins a queue must leave it or become its head (`Lead`). A head must promote the next
 //! thread. A thread that spins must report when it stops.
-ghost use Rattle.std.specs.Prelude.{◌≡◌, ◌≢◌, ◌↔◌, ℕ, ◌+◌, ◌-◌, ◌<◌, ◌∷◌, ◌++◌, [], option_to_list, IfOk, IfErr, IfNone, IfSome, IsSome, IsTrue, OnOk, OnErr, Some, None};
+ghost use Rattle.std.specs.Prelude.{◌≡◌, ◌≢◌, ◌↔◌, ℕ, ◌+◌, ◌-◌, ◌<◌, ◌≤◌, ◌∷◌, ◌++◌, [], option_to_list, IfOk, IfErr, IfNone, IfSome, IsSome, IsTrue, OnOk, OnErr, Some, None};
 ghost use Rattle.priority_channel_core.specs.Waiting.{without};
 ghost use Rattle.priority_channel_core.specs.Waiters.{unlist};
 ghost use Rattle.priority_channel_core.specs.code.Channel.{IsBlocked};
-ghost use Rattle.priority_channel_waiting.specs.Lines.{IsFirst, Lists};
+ghost use Rattle.priority_channel_core.specs.machine.Good.{IsGood};
+ghost use Rattle.priority_channel_core.specs.Lines.{IsFirst, Lists};
 
 use crate::waiter::{Core, Waiter};
 use priority_channel_core::comparisons::Comparisons;
@@ -35,7 +36,7 @@ pub struct Line<A: Allocator> {
 impl<A: Allocator> Model for Line<A> {
     ghost use Rattle.std.specs.Prelude.{◌≡◌, ◌<◌, [], None};
     ghost use Rattle.std.specs.List.{All};
-    ghost use Rattle.priority_channel_waiting.specs.Lines.{Lined};
+    ghost use Rattle.priority_channel_core.specs.Lines.{Lined};
 
     ghost Value = { Lined };
 
@@ -192,6 +193,7 @@ impl<A: Allocator> Line<A> {
     /// Counts a thread that starts to spin.
     pub fn begin_spin(&mut self) -> Spinner
         ensures counted { 0 < self.new.spinning }
+        ensures once { self.new.spinning ≤ self.old.spinning + 1 }
         ensures line { self.new ≡ record self.old { spinning = self.new.spinning } }
     {
         self.spinning = self.spinning.saturating_add(1);
@@ -233,6 +235,7 @@ impl<A: Allocator + Copy> Line<A> {
             × Lists side self.old.ticket first.1 self.new.ticket core.old.state core.new.state) }
         ensures waits { IsBlocked side core.old.state → IsSome self.old.first
             → result ≢ Listing.Free }
+        ensures good { result ≢ Listing.Free → IsGood core.new.state }
         ensures free { result ≡ Listing.Free → (core.new.state ≡ core.old.state)
             × (self.new ≡ self.old) }
         ensures refused { result ≡ Listing.Refused → IsBlocked side core.old.state

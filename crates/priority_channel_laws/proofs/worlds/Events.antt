@@ -26,7 +26,7 @@ called_nobody : {W : Type 0} (s : Standing W) → standing_after nobody s ≡ s
 called_nobody (Waiting t w) = refl
 called_nobody s = refl
 
-some_pending : {A : Type 0} (xs : List A) → xs ≢ [] → 0 < length xs
+pub some_pending : {A : Type 0} (xs : List A) → xs ≢ [] → 0 < length xs
 some_pending [] ne = absurd (ne refl)
 some_pending (x ∷ xs) ne = omega arith
 

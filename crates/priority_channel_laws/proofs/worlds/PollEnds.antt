@@ -27,7 +27,8 @@ use Rattle.priority_channel_laws.specs.WaitingLaw.{side_of}
 use Rattle.priority_channel_laws.proofs.worlds.Hands.{handed_of, StaysOrLeaves, Hands, hands_sends, hands_receives}
 
 module _ {W : Type 0} where
-  enlisted_mine : (side : Side) (listed : Listing W) (w : Waiters W) → on_side side (enlist side listed w) ≡ listed.waiters
+  -- a listed waiter is on its own side
+  pub enlisted_mine : (side : Side) (listed : Listing W) (w : Waiters W) → on_side side (enlist side listed w) ≡ listed.waiters
   enlisted_mine Room listed w = refl
   enlisted_mine Message listed w = refl
 
@@ -49,17 +50,18 @@ module _ {T P W : Type 0} where
   stays_or_leaves old new handed h Room = h.room
   stays_or_leaves old new handed h Message = h.message
 
+  pub tickets_given : (s : State T P W) → IsGood s → (side : Side) → All (λ a. a.0 < s.waiters.next_ticket) (lists_of s side)
+  tickets_given s good Room = good.tickets.room_given
+  tickets_given s good Message = good.tickets.message_given
+
+  -- the tickets of a list that stayed, or is empty, were given
   pub still_given : (old new : State T P W) (handed : Handed W) → Hands old new handed → IsGood old → (side : Side) → All (λ a. a.0 < new.waiters.next_ticket) (lists_of new side)
   still_given old new handed h good side =
-      let given = either side in
+      let given = tickets_given old good side in
       elim (stays_or_leaves old new handed h side) [
         | inl s ↦ rw (s.0, h.next) given
         | inr s ↦ rw s.0 (All-nil (λ (a : ℕ × W). a.0 < new.waiters.next_ticket))
       ]
-    where
-      either : (side : Side) → All (λ a. a.0 < old.waiters.next_ticket) (lists_of old side)
-      either Room = good.tickets.room_given
-      either Message = good.tickets.message_given
 
   -- a poll that ends its future
   pub record Ended (old : State T P W) (given : Option ℕ) (future : Futures T P W) (handed : Handed W) (new : State T P W) : Type 0 where

@@ -27,7 +27,7 @@ gone_only xs (Some u) t k h =
       | inr e ↦ let r = e.0 in (rw r at p, λ q. e.1 (cc))
     ]
 
-same_side : (a b : Side) → (a ≡ b) ⊎ (a ≢ b)
+pub same_side : (a b : Side) → (a ≡ b) ⊎ (a ≢ b)
 same_side Room Room = inl refl
 same_side Room Message = inr (λ e. cc)
 same_side Message Room = inr (λ e. cc)

@@ -1,0 +1,90 @@
+-- The acts of threads occur: a thread joins, is the head, and is listed.
+use Rattle.std.proofs.Common.{rules, ◌<◌, ◌≡◌, ℕ, List, [], ◌∷◌, refl, inl, arith, false}
+use Rattle.std.specs.Prelude.{Some, None, slice_get, ◌^◌}
+use Rattle.std.specs.List.{All}
+use Rattle.std.proofs.lemmas.List.Elements.{All-nil, All-cons}
+use Rattle.std.specs.declared.cmp.Ordering.{Ordering}
+use Rattle.priority_channel_core.specs.declared.side.Side.TheVariants.{Message}
+use Rattle.priority_channel_core.specs.Waiting.{IsRising}
+use Rattle.priority_channel_core.specs.Lines.{Lined}
+use Rattle.priority_channel_core.specs.machine.State.{State, opening}
+use Rattle.priority_channel_core.specs.machine.Good.{IsGood}
+use Rattle.priority_channel_laws.specs.Threads.{Phase, Thread, ThreadWorld, IsUnused}
+use Rattle.priority_channel_laws.specs.Threads.Phase.{Outside, Sleeps}
+use Rattle.priority_channel_laws.specs.ThreadEvents.{ThreadEvent, LeadsTo}
+use Rattle.priority_channel_laws.specs.ThreadEvents.ThreadEvent.{Does}
+use Rattle.priority_channel_laws.specs.ThreadEvents.Act.{Joins, AsksForLead, ListsItself}
+
+module _ {T P : Type 0} where
+  -- an empty channel of capacity 1
+  abbrev empty : List (ℕ × ℕ) → ℕ → State T P ℕ
+  empty waiters next = record (opening 1 false) { waiters = record { room = []; message = waiters; next_ticket = next } }
+
+  good : (waiters : List (ℕ × ℕ)) (next : ℕ) → IsRising waiters → All (λ a. a.0 < next) waiters → next < 2 ^ 64 → IsGood (empty waiters next)
+  good waiters next rising given fits = record {
+    has_capacity = omega arith;
+    capacity_fits = omega arith;
+    reserved_fits = λ h. absurd (cc);
+    within_capacity = omega arith;
+    within_limit = omega arith;
+    accepted_before = omega arith;
+    accepted_fits = omega arith;
+    no_waiters_if_closed = λ h. absurd (cc);
+    room_waiters_if_full = λ h. refl;
+    message_waiters_if_empty = λ h. absurd (omega arith);
+    tickets = record {
+      room_rises = search rules;
+      message_rises = rising;
+      room_given = All-nil (λ (a : ℕ × ℕ). a.0 < next);
+      message_given = given;
+      apart = λ t h. absurd (cc);
+    };
+    tickets_fit = fits;
+    closed_if_no_senders = λ h. absurd (omega arith);
+    closed_if_no_receivers = λ h. absurd (omega arith);
+  }
+
+  abbrev world : State T P ℕ → Lined → Phase → ThreadWorld T P
+  world state line phase = record {
+    side = Message;
+    state = state;
+    line = line;
+    threads = record { waiter = 7; phase = phase; is_woken = false } ∷ [];
+  }
+
+  abbrev before : ThreadWorld T P
+  before = world (empty [] 0) (record { first = None; ticket = None; others = []; next_number = 0; spinning = 0 }) Outside
+
+  abbrev after : ThreadWorld T P
+  after = world (empty ((0, 7) ∷ []) 1) (record { first = Some (0, 7); ticket = Some 0; others = []; next_number = 1; spinning = 0 }) (Sleeps 0)
+
+  unused : IsUnused before
+  unused = (
+    good [] 0 (search rules) (All-nil (λ (a : ℕ × ℕ). a.0 < 0)) (omega arith),
+    refl,
+    refl,
+    All-cons (λ (thread : Thread). thread.phase ≡ Outside) _ [] refl (All-nil (λ (thread : Thread). thread.phase ≡ Outside)),
+  )
+
+  good_after : IsGood (empty ((0, 7) ∷ []) 1)
+  good_after = good ((0, 7) ∷ []) 1 (search rules) (All-cons (λ (a : ℕ × ℕ). a.0 < 1) (0, 7) [] (omega arith) (All-nil (λ (a : ℕ × ℕ). a.0 < 1))) (omega arith)
+
+  leads : (cmp : P → P → Ordering) → LeadsTo cmp before (Does 0 Joins ∷ Does 0 AsksForLead ∷ Does 0 ListsItself ∷ []) after
+  leads cmp = (
+    _,
+    (_, refl, (refl, inl (refl, refl), refl)),
+    (
+      _,
+      (_, refl, (0, refl, inl ((7, refl), refl))),
+      (
+        after,
+        (_, refl, (0, refl, ((0, 7), refl, (refl, refl), ((7, refl, (refl, refl)), refl), refl, good_after, refl))),
+        refl,
+      ),
+    ),
+  )
+
+  pub occurs : (cmp : P → P → Ordering)
+      → (start : ThreadWorld T P) × (world : ThreadWorld T P) × (events : List (ThreadEvent T P)) × IsUnused start × LeadsTo cmp start events world
+      × (thread : Thread) × (slice_get world.threads 0 ≡ Some thread) × (thread.phase ≡ Sleeps 0)
+  occurs cmp = (before, after, Does 0 Joins ∷ Does 0 AsksForLead ∷ Does 0 ListsItself ∷ [], unused, leads cmp, _, refl, refl)
