@@ -22,8 +22,7 @@ impl<T, P: Ord, R: Wait + Clone, A: Allocator + Copy> Receiver<T, P, R, A> {
     /// meanwhile. The error is `Closed` if no message can come any more, or `Memory` if the call
     /// has to wait and memory for waiting is refused.
     ///
-    /// It blocks an executor, so a task uses `recv`. A proof does not see that a loop over this
-    /// call ends. It sees that `for pair in &rx` does.
+    /// It blocks an executor, so a task uses `recv`. A loop is `for pair in &rx` (see `Iter`).
     ///
     /// ```
     /// let (tx, rx) = bounded(&rt, rt.alloc(), 1)?;
@@ -37,9 +36,9 @@ impl<T, P: Ord, R: Wait + Clone, A: Allocator + Copy> Receiver<T, P, R, A> {
         Ok(self.handle.wait(Receive, &Endless, &mut None)?)
     }
 
-    /// As `recv_blocking`, but waits no longer than `timeout`. With a timeout of zero it is like
-    /// `try_recv`. There is no limit if the timeout ends past the range of the clock. A message
-    /// that comes at the last moment is received.
+    /// As `recv_blocking`, but waits no longer than `timeout`. If that is zero, it does not wait.
+    /// There is no limit if the timeout ends past the range of the clock. A message that comes at
+    /// the last moment is received.
     ///
     /// `Timeout` is returned only if the clock was read at or past the deadline, or cannot be read.
     ///
@@ -101,11 +100,8 @@ impl<T, P: Ord, R: Wait + Clone, A: Allocator + Copy> Sender<T, P, R, A> {
         Ok(self.handle.wait((msg, priority), &Endless, &mut None)?)
     }
 
-    /// As `send_blocking`, but waits no longer than `timeout`. With a timeout of zero it is like
-    /// `try_send`. There is no limit if the timeout ends past the range of the clock. Either the
+    /// As `send_blocking`, but waits no longer than `timeout`, as `recv_timeout` does. Either the
     /// message was sent, or the error gives it back.
-    ///
-    /// `Timeout` is returned only if the clock was read at or past the deadline, or cannot be read.
     ///
     /// ```
     /// let (tx, rx) = bounded(&rt, rt.alloc(), 1)?;

@@ -96,14 +96,6 @@ fn ends<T: Drop, P: Ord + Drop, R: Wait + Clone, A: Allocator + Copy>(
     ensures capacity { IfOk result (λ ends. ends.0.capacity ≡ cap) }
     ensures same { IfOk result (λ ends. ends.1 ≡ ends.0) }
 {
-    let (sending, receiving) = Handle::pair(rt, alloc, cap, core)?;
-    let sender = End {
-        handle: sending,
-        role: Sending,
-    };
-    let receiver = End {
-        handle: receiving,
-        role: Receiving,
-    };
-    Ok((sender, receiver))
+    let (one, other) = Handle::pair(rt, alloc, cap, core)?;
+    Ok((End::new(one, Sending), End::new(other, Receiving)))
 }

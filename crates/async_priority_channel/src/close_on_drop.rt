@@ -1,12 +1,12 @@
 //! A guard that closes its channel.
+use crate::end::{End, Role};
 use crate::handle::Handle;
-use crate::receiver::Receiver;
-use crate::sender::Sender;
+use priority_channel_core::side::Side;
 use std::alloc::{Allocator, Global};
 use std::sync::Wait;
 
 /// Closes the channel when it is dropped, so that no sender or receiver waits for one that has
-/// failed. `Sender::close_on_drop` and `Receiver::close_on_drop` make it.
+/// failed. `close_on_drop` of a sender or a receiver makes it.
 ///
 /// ```
 /// fn first<R: Wait + Clone>(rx: &Receiver<u64, u64, R>) -> Result<u64, TryRecvError> {
@@ -32,7 +32,7 @@ impl<T, P: Ord, R: Wait + Clone, A: Allocator + Copy> Drop for CloseOnDrop<'_, T
     }
 }
 
-impl<T, P: Ord, R: Wait + Clone, A: Allocator + Copy> Sender<T, P, R, A> {
+impl<S: Role, T, P: Ord, R: Wait + Clone, A: Allocator + Copy> End<S, T, P, R, A> {
     /// A guard whose drop closes the channel, however its scope is left. Pending messages can still
     /// be received.
     ///
@@ -45,19 +45,10 @@ impl<T, P: Ord, R: Wait + Clone, A: Allocator + Copy> Sender<T, P, R, A> {
     /// assert!(rt; other.is_closed());
     /// assert_eq!(rt; rx.try_recv(), Ok(("Foo", 0)));
     /// ```
-    pub fn close_on_drop(&self) -> CloseOnDrop<'_, T, P, R, A> {
-        CloseOnDrop {
-            handle: &self.handle,
-            lets_go: false,
-        }
-    }
-}
-
-impl<T, P: Ord, R: Wait + Clone, A: Allocator + Copy> Receiver<T, P, R, A> {
-    /// A guard whose drop closes the channel, however its scope is left. Messages that are pending
-    /// then can be received as long as there is a receiver, and are dropped with the last one. A
-    /// message may hold the means of an answer: then the client that waits for that answer learns
-    /// that none comes.
+    ///
+    /// If the guard is a receiver's, messages that are still pending when the last receiver is
+    /// dropped are dropped with it. A message may hold the means of an answer: then the client that
+    /// waits for that answer learns that none comes.
     ///
     /// ```
     /// let (answer, answers) = unbounded::<&str, u64, _, _>(&rt, rt.alloc())?;
@@ -71,7 +62,7 @@ impl<T, P: Ord, R: Wait + Clone, A: Allocator + Copy> Receiver<T, P, R, A> {
     pub fn close_on_drop(&self) -> CloseOnDrop<'_, T, P, R, A> {
         CloseOnDrop {
             handle: &self.handle,
-            lets_go: true,
+            lets_go: matches!(S::SIDE, Side::Message),
         }
     }
 }

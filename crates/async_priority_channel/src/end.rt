@@ -4,6 +4,7 @@ ghost use Rattle.priority_channel_core.specs.machine.OtherCalls.{capacity_told};
 
 use crate::handle::Handle;
 use priority_channel_core::awaitable_atomics::Wakes;
+use priority_channel_core::side::Side;
 use priority_channel_waiting::waiter::{Core, Waiter};
 use std::alloc::{AllocError, Allocator, Global};
 use std::marker::Model;
@@ -12,14 +13,13 @@ use std::sync::Wait;
 
 /// What an end of a channel does: `Sending` or `Receiving`.
 pub trait Role: Copy {
-    /// Counts another such end. It returns false, and changes nothing, if there are too many.
-    fn join<T, P: Ord, A: Allocator + Copy>(core: &mut Core<T, P, A>) -> bool;
-
-    /// Counts one such end less. The last one closes the channel.
-    fn leave<T, P: Ord, A: Allocator + Copy>(core: &mut Core<T, P, A>) -> Wakes<Waiter<A>, A>;
+    /// The side on which it waits.
+    const SIDE: Side;
 }
 
-/// A handle of a channel: a `Sender` or a `Receiver`. These are the calls that both have.
+/// A handle of a channel: a `Sender` or a `Receiver`. Both have `close`, `close_on_drop`,
+/// `downgrade`, `same_channel`, `clone`, and the queries `is_closed`, `is_empty`, `is_full`, `len`,
+/// `capacity`, `sender_count` and `receiver_count`.
 ///
 /// A handle can be moved to other threads, lent to them, and cloned. The channel closes when its
 /// last sender or its last receiver is dropped.
@@ -33,8 +33,9 @@ pub trait Role: Copy {
 ///
 /// The channel calls some of the user's code under its lock: the order of priorities, the iterator
 /// of a bulk send and its drop, the functions that `peek_with`, `take_where` and `retain` are
-/// given, and the clone of a priority that `peek_priority` makes. This code must neither use the
-/// channel nor own a handle of it.
+/// given, and the clone of a priority that `peek_priority` makes. If this code makes a call on the
+/// channel, or drops a handle of it, it waits for ever. It should be short, since all other calls
+/// wait for it.
 ///
 /// ```
 /// fn is_idle<S: Role, R: Wait + Clone>(end: &End<S, u64, u64, R>) -> bool {
@@ -55,6 +56,12 @@ impl<S: Role, T, P: Ord, R: Wait + Clone, A: Allocator + Copy> Model for End<S, 
 }
 
 impl<S: Role, T, P: Ord, R: Wait + Clone, A: Allocator + Copy> End<S, T, P, R, A> {
+    pub(crate) fn new(handle: Handle<T, P, R, A>, role: S) -> Self
+        ensures { result ≡ handle }
+    {
+        End { handle, role }
+    }
+
     /// Closes the channel for good, and returns whether it was open. Pending messages can still be
     /// received. All waiting tasks and threads are woken.
     ///
@@ -206,11 +213,10 @@ impl<S: Role, T: Drop, P: Ord + Drop, R: Wait + Clone, A: Allocator + Copy> Clon
     fn clone(&self) -> Result<Self, AllocError> {
         let handle = self.handle.share()?;
         // This comes last, so that a refusal above leaves the count unchanged.
-        if !S::join(&mut self.handle.lock()) {
+        if !join(S::SIDE, &mut self.handle.lock()) {
             return Err(AllocError);
         }
-        let role = self.role;
-        Ok(End { handle, role })
+        Ok(End::new(handle, self.role))
     }
 }
 
@@ -220,12 +226,33 @@ impl<S: Role, T: Drop, P: Ord + Drop, R: Wait + Clone, A: Allocator + Copy> Drop
         let End { handle, role: _ } = self;
         let mut core = handle.lock();
         let receivers = core.receiver_count();
-        let wakes = S::leave(&mut core);
+        let wakes = leave(S::SIDE, &mut core);
         let was_last = receivers > 0 && core.receiver_count() == 0;
         handle.release(core, wakes);
         if was_last && handle.lets_go() {
             let_go(&handle);
         }
+    }
+}
+
+/// Counts another sender or receiver. It returns false, and changes nothing, if there are too many.
+pub(crate) fn join<T, P: Ord, A: Allocator + Copy>(side: Side, core: &mut Core<T, P, A>) -> bool {
+    match side {
+        Side::Room => core.clone_sender(),
+        Side::Message => core.clone_receiver(),
+    }
+}
+
+// Counts one sender or receiver less. The last one closes the channel. The prover does not know
+// that the count behind the lock includes this handle, so we test it.
+fn leave<T, P: Ord, A: Allocator + Copy>(
+    side: Side,
+    core: &mut Core<T, P, A>,
+) -> Wakes<Waiter<A>, A> {
+    match side {
+        Side::Room if core.sender_count() > 0 => core.drop_sender(),
+        Side::Message if core.receiver_count() > 0 => core.drop_receiver(),
+        _ => core.nobody(),
     }
 }
 

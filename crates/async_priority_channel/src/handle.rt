@@ -141,18 +141,6 @@ impl<T, P: Ord, R: Wait + Clone, A: Allocator + Copy> Handle<T, P, R, A> {
         wake_all(&self.rt, wakes);
     }
 
-    pub fn room(&self) -> &Source
-        ensures { result.now.id ≡ self.now.room }
-    {
-        &self.shared.room.source
-    }
-
-    pub fn message(&self) -> &Source
-        ensures { result.now.id ≡ self.now.message }
-    {
-        &self.shared.message.source
-    }
-
     fn waits(&self, side: Side) -> &Waits<A>
         ensures { result.now ≡ source_of side self.now }
     {
@@ -180,21 +168,18 @@ impl<T, P: Ord, R: Wait + Clone, A: Allocator + Copy> Handle<T, P, R, A> {
         self.shared.alloc
     }
 
-    /// The waiter of a task or a thread. It is made on its first wait. None if memory was refused.
-    pub fn waiter_in<'k>(&self, waiter: &'k mut Option<Waiter<A>>) -> Option<&'k Waiter<A>> {
-        Waiter::of_party(self.shared.alloc, waiter)
-    }
-
-    /// Stores the task's waker in a future's waiter. None if the waiter or the waker was refused.
+    /// Stores the waker of a task that waits on this side in its waiter. None if the waiter or the
+    /// waker was refused.
     pub fn register<'k>(
         &self,
         cx: &mut Context<'_>,
-        source: &Source,
+        side: Side,
         waiter: &'k mut Option<Waiter<A>>,
     ) -> Option<&'k Waiter<A>>
-        ensures heard { IsSome result → IsArmed cx.new × Hears cx.new source.now.id }
+        ensures heard { IsSome result → IsArmed cx.new × Hears cx.new (source_of side self.now) }
         ensures kept { Keeps cx.old cx.new }
     {
+        let source = &self.waits(side).source;
         Waiter::register_party(&self.rt, self.shared.alloc, cx, source, waiter)
     }
 

@@ -6,11 +6,11 @@ ghost use Rattle.priority_channel_core.specs.declared.errors.RecvFault.{RecvFaul
 ghost use Rattle.async_priority_channel.specs.Batches.{Appends, IsWithin};
 
 use crate::receiver::Receiver;
-use crate::stream::Receives;
+use crate::waiting::{RecvState, Task};
 use futures::Future;
 use futures::task::{Context, Poll};
 use priority_channel_core::errors::{RecvError, RecvFault, TryRecvManyError};
-use priority_channel_waiting::attempts::{Outcome, Receive};
+use priority_channel_waiting::states::One;
 use std::alloc::{Allocator, Global};
 use std::marker::Model;
 use std::sync::Wait;
@@ -21,8 +21,8 @@ impl<T, P: Ord, R: Wait + Clone, A: Allocator + Copy> Receiver<T, P, R, A> {
     /// call between them.
     ///
     /// The error is that of one receive, also with a `limit` of 0, or `Memory` if there is no
-    /// memory for a first message. Memory for the pending messages is reserved before the lock is
-    /// taken. If it is refused, as many messages come as there is capacity for.
+    /// memory for a first message. It first reads the length, and reserves memory for the pending
+    /// messages. If that is refused, as many messages come as there is capacity for.
     ///
     /// ```
     /// let (tx, rx) = unbounded(&rt, rt.alloc())?;
@@ -160,7 +160,8 @@ impl<T, P: Ord, R: Wait + Clone, A: Allocator + Copy> Receiver<T, P, R, A> {
             receiver: self,
             batch,
             limit,
-            receives: Receives::new(),
+            task: Task::new(RecvState::new()),
+            is_done: false,
         }
     }
 }
@@ -176,8 +177,7 @@ fn reserve<X, B: Allocator>(batch: &mut Vec<X, B>, limit: usize, pending: u64)
 
 /// Receives many messages once there is one. `Receiver::recv_many` makes it.
 ///
-/// If it is polled again after its answer, it is pending, changes nothing, and asks to be polled
-/// once more. So it should not be polled any more.
+/// If it is polled again after its answer, it does as a `Recv` (see `Waiting`).
 ///
 /// ```
 /// let (tx, rx) = unbounded(&rt, rt.alloc())?;
@@ -193,7 +193,8 @@ pub struct RecvMany<'a, T, P: Ord, B: Allocator, R: Wait + Clone, A: Allocator +
     receiver: &'a Receiver<T, P, R, A>,
     batch: &'a mut Vec<(T, P), B>,
     limit: usize,
-    receives: Receives<A>,
+    task: Task<(), One, A>,
+    is_done: bool,
 }
 
 impl<'a, T, P: Ord, B: Allocator, R: Wait + Clone, A: Allocator + Copy> Model
@@ -205,7 +206,7 @@ impl<'a, T, P: Ord, B: Allocator, R: Wait + Clone, A: Allocator + Copy> Model
     ghost view = { λ f. record {
       channel = f.receiver.now;
       limit = f.limit;
-      is_done = f.receives.has_ended;
+      is_done = f.is_done;
     } };
 }
 
@@ -230,17 +231,13 @@ impl<T, P: Ord, B: Allocator, R: Wait + Clone, A: Allocator + Copy> Future
         ensures waits { self.old.is_done ≡ false → OnPending result (self.new ≡ self.old) }
         ensures done { self.old.is_done ≡ true → (result ≡ Poll.Pending) × (self.new ≡ self.old) }
     {
-        if self.receives.has_ended() {
+        if self.is_done {
             return cx.yield_now();
         }
         let receiver = self.receiver;
-        poll_batch(
-            receiver,
-            &mut *self.batch,
-            self.limit,
-            &mut self.receives,
-            cx,
-        )
+        let polled = poll_batch(receiver, &mut *self.batch, self.limit, &mut self.task, cx);
+        self.is_done = matches!(&polled, Poll::Ready(_));
+        polled
     }
 }
 
@@ -249,7 +246,7 @@ fn poll_batch<T, P: Ord, B: Allocator, R: Wait + Clone, A: Allocator + Copy>(
     receiver: &Receiver<T, P, R, A>,
     batch: &mut Vec<(T, P), B>,
     limit: usize,
-    receives: &mut Receives<A>,
+    task: &mut Task<(), One, A>,
     cx: &mut Context<'_>,
 ) -> Poll<Result<usize, RecvFault>>
     ensures appended { IfReady result (λ answer. IfOk answer
@@ -259,23 +256,19 @@ fn poll_batch<T, P: Ord, B: Allocator, R: Wait + Clone, A: Allocator + Copy>(
     ensures registered { OnPending result (Covers cx.new
         (λ source. source ≡ receiver.now.message)) }
     ensures kept { Keeps cx.old cx.new }
-    ensures answered { IfReady result (λ _. receives.new.has_ended ≡ true) }
-    ensures waits { OnPending result (receives.new.has_ended ≡ receives.old.has_ended) }
 {
     let answer = match receiver.answer_at_once(batch, limit) {
         Some(answer) => answer,
-        None => match receives.wait(&receiver.handle, cx) {
-            Outcome::Blocked(Receive) => return Poll::Pending,
-            Outcome::Closed(Receive) => Err(RecvFault::Closed(RecvError)),
-            Outcome::Memory(Receive) => Err(RecvFault::Memory),
-            Outcome::Done(first) => Ok(receiver.receive_with(first, batch, limit)),
+        None => match task.receive(&receiver.handle, cx) {
+            Poll::Pending => return Poll::Pending,
+            Poll::Ready(Ok(first)) => Ok(receiver.receive_with(first, batch, limit)),
+            Poll::Ready(Err(fault)) => Err(fault),
         },
     };
-    receives.finish(&receiver.handle);
+    task.state.give_up_on(&mut receiver.handle.lock());
     Poll::Ready(answer)
 }
 
-// A waker wakes its task when it is dropped, so the waiter is dropped after the lock is released.
 impl<T, P: Ord, B: Allocator, R: Wait + Clone, A: Allocator + Copy> Drop
     for RecvMany<'_, T, P, B, R, A> {
     fn drop(self) {
@@ -283,8 +276,9 @@ impl<T, P: Ord, B: Allocator, R: Wait + Clone, A: Allocator + Copy> Drop
             receiver,
             batch: _,
             limit: _,
-            receives,
+            task,
+            is_done: _,
         } = self;
-        receives.end(&receiver.handle);
+        task.end(&receiver.handle);
     }
 }

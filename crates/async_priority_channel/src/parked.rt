@@ -22,7 +22,7 @@
 //! | spin    | tries up to 20 times, with pauses      | core, in  | relist                       |
 //! |         | (`look_for_a_while`)                   | each try  |                              |
 //! | relist  | lists or wakes the head (`rouse`)      | both      | return; blocked: join        |
-//! | join    | joins the queue (`wait_in_line`)       | queue     | alone: head; else: queued    |
+//! | join    | joins the queue (`wait_blocked`)       | queue     | alone: head; else: queued    |
 //! |         |                                        |           | refused: return              |
 //! | queued  | sleeps (`sleep_in_line`)               | none      | woken as head: head          |
 //! |         |                                        |           | late: leave; else: queued    |
@@ -99,9 +99,25 @@ impl<T, P: Ord, R: Wait + Clone, A: Allocator + Copy> Handle<T, P, R, A> {
         if let Err(over) = until.left() {
             return self.end_wait(call, over);
         }
-        match self.spin(call).answer() {
-            Ok(answer) => answer,
-            Err(blocked) => self.wait_in_line(blocked, until, waiter),
+        let blocked = match self.spin(call).answer() {
+            Ok(answer) => return answer,
+            Err(blocked) => blocked,
+        };
+        let Some(waiter) = Waiter::of_party(self.alloc(), waiter) else {
+            return Err(Ended::Memory(blocked));
+        };
+        let side = C::side();
+        let joined = self.line(side).join(waiter);
+        let Ok(party) = joined else {
+            return Err(Ended::Memory(blocked));
+        };
+        match self.sleep_in_line(side, party, until, waiter) {
+            Ok(lead) => {
+                let answer = self.wait_as_first(blocked, until, waiter);
+                self.hand_on(side, lead);
+                answer
+            }
+            Err(over) => self.end_wait(blocked, over),
         }
     }
 
@@ -165,34 +181,6 @@ impl<T, P: Ord, R: Wait + Clone, A: Allocator + Copy> Handle<T, P, R, A> {
         match listing {
             Listing::Listed => {}
             Listing::Free | Listing::Refused => line.wake_first(),
-        }
-    }
-
-    fn wait_in_line<C: Attempt<T, P, A>, U: Until>(
-        &self,
-        call: C,
-        until: &U,
-        waiter: &mut Option<Waiter<A>>,
-    ) -> Result<C::Done, Ended<C, U::Over>>
-        requires { C.can_attempt call }
-        ensures { IfErr result (λ ended. C.can_attempt (given_back ended)
-            × C.leaves call (given_back ended)) }
-    {
-        let Some(waiter) = self.waiter_in(waiter) else {
-            return Err(Ended::Memory(call));
-        };
-        let side = C::side();
-        let joined = self.line(side).join(waiter);
-        let Ok(party) = joined else {
-            return Err(Ended::Memory(call));
-        };
-        match self.sleep_in_line(side, party, until, waiter) {
-            Ok(lead) => {
-                let answer = self.wait_as_first(call, until, waiter);
-                self.hand_on(side, lead);
-                answer
-            }
-            Err(over) => self.end_wait(call, over),
         }
     }
 

@@ -10,9 +10,7 @@ impl<T, P: Ord, R: Wait + Clone, A: Allocator + Copy> Receiver<T, P, R, A> {
     /// result. Both stay pending. None if nothing is pending. By the time of the answer another
     /// receiver may have taken them.
     ///
-    /// `look` is called under the channel's lock: a call that it makes on the channel, or a handle
-    /// of the channel that it drops, waits for ever. It should be short, since all other calls wait
-    /// for it.
+    /// `look` is called under the channel's lock (see `End`).
     ///
     /// ```
     /// let (tx, rx) = unbounded(&rt, rt.alloc())?;

@@ -3,10 +3,10 @@ ghost use Rattle.std.specs.Prelude.{◌≡◌};
 ghost use Rattle.priority_channel_waiting.specs.Holding.{unpolled};
 
 use crate::end::{End, Role};
-use crate::waiting::Recv;
-use priority_channel_core::awaitable_atomics::Wakes;
+use crate::handle::Handle;
+use crate::waiting::{Recv, RecvState, Task, Waiting};
 use priority_channel_core::errors::TryRecvError;
-use priority_channel_waiting::waiter::{Core, Waiter};
+use priority_channel_core::side::Side;
 use std::alloc::{Allocator, Global};
 use std::fmt;
 use std::sync::Wait;
@@ -16,17 +16,7 @@ use std::sync::Wait;
 pub struct Receiving;
 
 impl Role for Receiving {
-    fn join<T, P: Ord, A: Allocator + Copy>(core: &mut Core<T, P, A>) -> bool {
-        core.clone_receiver()
-    }
-
-    fn leave<T, P: Ord, A: Allocator + Copy>(core: &mut Core<T, P, A>) -> Wakes<Waiter<A>, A> {
-        // The prover does not know that the count includes the receiver, so we test it.
-        if core.receiver_count() == 0 {
-            return core.nobody();
-        }
-        core.drop_receiver()
-    }
+    const SIDE: Side = Side::Message;
 }
 
 /// Receives the messages of a channel: the greatest priority first, and among equal priorities the
@@ -40,10 +30,8 @@ impl Role for Receiving {
 /// | what a test chooses | `take_where`, `retain` | | | |
 /// | a query | `peek_priority`, `peek_with` | | | |
 ///
-/// The other calls are `close`, `close_on_drop`, `downgrade`, `same_channel`, `clone`, and the
-/// queries `is_closed`, `is_empty`, `is_full`, `len`, `capacity`, `sender_count` and
-/// `receiver_count`. `End` has those that a sender has too, and tells what a call costs and which
-/// of the user's code is called under the channel's lock.
+/// `End` has the calls that a sender has too, and tells what a call costs and which of the user's
+/// code is called under the channel's lock.
 ///
 /// Messages that are pending when the last receiver is dropped stay in memory as long as there is a
 /// handle of the channel, and so does what they own. A client that waits for the answer to a
@@ -60,13 +48,37 @@ impl Role for Receiving {
 /// ```
 pub type Receiver<T, P, R, A = Global> = End<Receiving, T, P, R, A>;
 
+/// A receiver, or a reference to one: what a loop or a stream over the messages holds.
+pub trait Holds<T, P: Ord, R: Wait + Clone, A: Allocator + Copy> {
+    ghost use Rattle.async_priority_channel.specs.Handles.{Channel};
+
+    ghost channel: { Self → Channel };
+
+    fn handle(&self) -> &Handle<T, P, R, A>
+        ensures { result.now ≡ channel self.now };
+}
+
+impl<T, P: Ord, R: Wait + Clone, A: Allocator + Copy> Holds<T, P, R, A> for Receiver<T, P, R, A> {
+    ghost channel = { λ receiver. receiver };
+
+    fn handle(&self) -> &Handle<T, P, R, A> {
+        &self.handle
+    }
+}
+
+impl<T, P: Ord, R: Wait + Clone, A: Allocator + Copy> Holds<T, P, R, A> for &Receiver<T, P, R, A> {
+    ghost channel = { λ receiver. receiver.now };
+
+    fn handle(&self) -> &Handle<T, P, R, A> {
+        &self.handle
+    }
+}
+
 impl<T: Drop, P: Ord + Drop, R: Wait + Clone, A: Allocator + Copy> Receiver<T, P, R, A> {
     /// Receives a message as soon as there is one. This is a future, which does nothing until it is
     /// polled. If it is dropped before it has answered, it takes nothing. The error is `Closed` if
     /// no message can come any more, or `Memory` if memory was refused. That includes the memory
     /// that keeps its waker, which the first poll that waits asks for.
-    ///
-    /// The first `?` below is for `block_on`, the second for the error of the receive.
     ///
     /// ```
     /// let (tx, rx) = unbounded(&rt, rt.alloc())?;
@@ -79,7 +91,10 @@ impl<T: Drop, P: Ord + Drop, R: Wait + Clone, A: Allocator + Copy> Receiver<T, P
         ensures channel { result.channel ≡ self.now }
         ensures fresh { result.state ≡ unpolled tt }
     {
-        Recv::new(self)
+        Waiting {
+            end: self,
+            task: Task::new(RecvState::new()),
+        }
     }
 }
 

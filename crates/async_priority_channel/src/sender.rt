@@ -7,10 +7,9 @@ ghost use Rattle.priority_channel_core.specs.Errors.{rest_of};
 ghost use Rattle.priority_channel_waiting.specs.Holding.{HoldsTail, unpolled};
 
 use crate::end::{End, Role};
-use crate::waiting::{Send, Sendv};
-use priority_channel_core::awaitable_atomics::Wakes;
+use crate::waiting::{Send, SendState, Sendv, SendvState, Task, Waiting};
 use priority_channel_core::errors::TrySendError;
-use priority_channel_waiting::waiter::{Core, Waiter};
+use priority_channel_core::side::Side;
 use std::alloc::{Allocator, Global};
 use std::fmt;
 use std::iter::Peekable;
@@ -21,17 +20,7 @@ use std::sync::Wait;
 pub struct Sending;
 
 impl Role for Sending {
-    fn join<T, P: Ord, A: Allocator + Copy>(core: &mut Core<T, P, A>) -> bool {
-        core.clone_sender()
-    }
-
-    fn leave<T, P: Ord, A: Allocator + Copy>(core: &mut Core<T, P, A>) -> Wakes<Waiter<A>, A> {
-        // The prover does not know that the count includes the sender, so we test it.
-        if core.sender_count() == 0 {
-            return core.nobody();
-        }
-        core.drop_sender()
-    }
+    const SIDE: Side = Side::Room;
 }
 
 /// Sends messages into a channel, each with a priority.
@@ -42,10 +31,8 @@ impl Role for Sending {
 /// | many messages | `try_sendv` | `sendv_blocking` | `sendv_timeout`, `sendv_deadline` | `sendv` |
 /// | one that may displace another | `try_send_evicting` | | | |
 ///
-/// The other calls are `close`, `close_on_drop`, `downgrade`, `same_channel`, `clone`, and the
-/// queries `is_closed`, `is_empty`, `is_full`, `len`, `capacity`, `sender_count` and
-/// `receiver_count`. `End` has those that a receiver has too, and tells what a call costs and which
-/// of the user's code is called under the channel's lock.
+/// `End` has the calls that a receiver has too, and tells what a call costs and which of the user's
+/// code is called under the channel's lock.
 ///
 /// ```
 /// let (tx, rx) = unbounded(&rt, rt.alloc())?;
@@ -65,8 +52,8 @@ impl<T: Drop, P: Ord + Drop, R: Wait + Clone, A: Allocator + Copy> Sender<T, P, 
     /// channel could not get memory for more. What was sent stays sent, and the rest can be sent
     /// again.
     ///
-    /// The iterator is called under the channel's lock, and is dropped there if all was sent. A
-    /// call that it makes on the channel, or a handle of the channel that it drops, waits for ever.
+    /// The iterator is called under the channel's lock (see `End`), and is dropped there if all was
+    /// sent.
     ///
     /// ```
     /// let (tx, rx) = bounded(&rt, rt.alloc(), 2)?;
@@ -110,7 +97,10 @@ impl<T: Drop, P: Ord + Drop, R: Wait + Clone, A: Allocator + Copy> Sender<T, P, 
         ensures channel { result.channel ≡ self.now }
         ensures holds { result.state ≡ unpolled (msg, priority) }
     {
-        Send::new(self, msg, priority)
+        Waiting {
+            end: self,
+            task: Task::new(SendState::new(msg, priority)),
+        }
     }
 
     /// Sends all messages, as there is room. This is a future: each poll sends a prefix, and the
@@ -135,7 +125,10 @@ impl<T: Drop, P: Ord + Drop, R: Wait + Clone, A: Allocator + Copy> Sender<T, P, 
         ensures channel { result.channel ≡ self.now }
         ensures holds { result.state ≡ unpolled msgs }
     {
-        Sendv::new(self, msgs)
+        Waiting {
+            end: self,
+            task: Task::new(SendvState::new(msgs)),
+        }
     }
 }
 

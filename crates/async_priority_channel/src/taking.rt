@@ -13,9 +13,8 @@ impl<T, P: Ord, R: Wait + Clone, A: Allocator + Copy> Receiver<T, P, R, A> {
     /// had never been sent.
     ///
     /// The test is called on pending messages in no specified order, and on none after it has
-    /// returned true. It is called under the channel's lock: a call that it makes on the channel
-    /// waits for ever. It should be short, since all other calls wait for it. It is dropped once
-    /// the lock is released.
+    /// returned true. It is called under the channel's lock (see `End`), and dropped once the lock
+    /// is released.
     ///
     /// It takes no memory, and wakes the waiting senders. Beside the tests, the cost is at most
     /// twice as many comparisons of priorities as the number of pending messages has binary digits.
@@ -44,8 +43,8 @@ impl<T, P: Ord, R: Wait + Clone, A: Allocator + Copy> Receiver<T, P, R, A> {
     /// specified order, also from a closed channel. They are not received: what is kept is in the
     /// order as if they had never been sent.
     ///
-    /// The test is called once on each pending message, in no specified order. As with
-    /// `take_where`, it must not use the channel, and all other calls wait for it.
+    /// The test is called once on each pending message, in no specified order, and under the
+    /// channel's lock.
     ///
     /// It first reserves memory for as many messages as are pending. If that is refused, nothing
     /// has changed, and the test was not called. If a message is taken out, the waiting senders are

@@ -3,8 +3,11 @@
 mod recv;
 mod send;
 mod sendv;
+mod task;
 
 pub use priority_channel_waiting::states::{RecvState, SendState, SendvState};
 pub use recv::Recv;
 pub use send::Send;
 pub use sendv::Sendv;
+pub(crate) use task::Task;
+pub use task::Waiting;

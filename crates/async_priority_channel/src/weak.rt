@@ -2,7 +2,7 @@
 ghost use Rattle.std.specs.Prelude.{IfOk, IfSome};
 ghost use Rattle.async_priority_channel.specs.Handles.{SameChannel};
 
-use crate::end::{End, Role};
+use crate::end::{End, Role, join};
 use crate::handle::Handle;
 use crate::receiver::Receiving;
 use crate::sender::Sending;
@@ -16,14 +16,6 @@ use std::sync::Wait;
 ///
 /// It cannot open a closed channel again. Pending messages stay in memory while it exists, also
 /// once all senders and receivers are gone, unless a receiver's `close_on_drop` has them dropped.
-///
-/// ```
-/// let weak = rx.downgrade()?;
-/// tx.try_send("still here", 0)?;
-/// if let Some(receiver) = weak.upgrade() {
-///     assert_eq!(rt; receiver.try_recv(), Ok(("still here", 0)));
-/// }
-/// ```
 #[derive(Drop)]
 pub struct Weak<S: Role, T, P: Ord, R: Wait + Clone, A: Allocator + Copy = Global> {
     handle: Handle<T, P, R, A>,
@@ -43,11 +35,11 @@ pub type WeakSender<T, P, R, A = Global> = Weak<Sending, T, P, R, A>;
 /// A weak handle of a receiver. `Receiver::downgrade` makes it.
 ///
 /// ```
-/// let (tx, rx) = unbounded::<&str, u64, _, _>(&rt, rt.alloc())?;
 /// let weak = rx.downgrade()?;
-/// assert!(rt; weak.upgrade().is_some());
-/// drop(rx);
-/// assert!(rt; weak.upgrade().is_none() && tx.is_closed());
+/// tx.try_send("still here", 0)?;
+/// if let Some(receiver) = weak.upgrade() {
+///     assert_eq!(rt; receiver.try_recv(), Ok(("still here", 0)));
+/// }
 /// ```
 pub type WeakReceiver<T, P, R, A = Global> = Weak<Receiving, T, P, R, A>;
 
@@ -60,8 +52,8 @@ impl<S: Role, T, P: Ord, R: Wait + Clone, A: Allocator + Copy> Model for Weak<S,
 }
 
 impl<S: Role, T: Drop, P: Ord + Drop, R: Wait + Clone, A: Allocator + Copy> Weak<S, T, P, R, A> {
-    /// Another sender, or receiver, of the channel. None if the channel is closed, as it is once
-    /// its last sender or its last receiver is gone, or if a clone would be refused.
+    /// Another sender, or receiver, of the channel. None if the channel is closed, or if a clone
+    /// would be refused.
     ///
     /// ```
     /// let (tx, rx) = unbounded::<&str, u64, _, _>(&rt, rt.alloc())?;
@@ -79,18 +71,16 @@ impl<S: Role, T: Drop, P: Ord + Drop, R: Wait + Clone, A: Allocator + Copy> Weak
             return None;
         }
         // This comes last, so that a refusal above leaves the count unchanged.
-        if !S::join(&mut core) {
+        if !join(S::SIDE, &mut core) {
             return None;
         }
         drop(core);
-        let role = self.role;
-        Some(End { handle, role })
+        Some(End::new(handle, self.role))
     }
 }
 
 impl<S: Role, T, P: Ord, R: Wait + Clone, A: Allocator + Copy> Weak<S, T, P, R, A> {
-    /// Whether the channel is closed: by a call of `close`, or by the drop of the last sender or
-    /// receiver.
+    /// Whether the channel is closed, as `End::is_closed` tells.
     ///
     /// ```
     /// let (tx, _rx) = unbounded::<&str, u64, _, _>(&rt, rt.alloc())?;

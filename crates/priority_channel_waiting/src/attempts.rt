@@ -7,15 +7,14 @@ ghost use Rattle.priority_channel_core.specs.code.Lists.{HasList};
 ghost use Rattle.priority_channel_core.specs.machine.Step.{Step};
 ghost use Rattle.priority_channel_core.specs.code.Calls.{Performs};
 ghost use Rattle.priority_channel_waiting.specs.Holding.{HoldsTail};
-ghost use Rattle.priority_channel_core.specs.code.Replies.{waits_under};
-ghost use Rattle.priority_channel_waiting.specs.Waits.{left_over, given_back, outcome_of_try, recv_tried, recv_polled};
+ghost use Rattle.priority_channel_waiting.specs.Waits.{left_over, given_back, outcome_of_try, recv_tried};
 ghost use Rattle.priority_channel_waiting.specs.Tails.{tail_of_itself, tail_of_tail};
 
 use crate::timeouts::Ended;
 use crate::waiter::{Core, Waiter};
 use priority_channel_core::awaitable_atomics::Wakes;
-use priority_channel_core::calls::{Answer, Call, CorePoll};
-use priority_channel_core::errors::{RecvFault, TryRecvError, TrySendError};
+use priority_channel_core::calls::{Answer, Call};
+use priority_channel_core::errors::{TryRecvError, TrySendError};
 use priority_channel_core::side::Side;
 use std::alloc::Allocator;
 use std::iter::Peekable;
@@ -101,44 +100,6 @@ impl<T, P: Ord, A: Allocator + Copy> Attempt<T, P, A> for Receive {
             Err(TryRecvError::Closed) => Outcome::Closed(Receive),
         };
         (outcome, wakes)
-    }
-}
-
-impl Receive {
-    /// Receives in one step. If there is no message, waits under the ticket.
-    pub fn poll_on<T, P: Ord, A: Allocator + Copy>(
-        self,
-        core: &mut Core<T, P, A>,
-        ticket: &mut Option<u64>,
-        waiter: &Waiter<A>,
-    ) -> (Outcome<(T, P), Self>, Wakes<Waiter<A>, A>)
-        ensures step { (reply : _) × (result.0 ≡ recv_polled self reply)
-            × (ticket.new ≡ waits_under reply)
-            × Step P.cmp ⟦<Waiter<A> as Clone>⟧.is_clone core.old.state
-            (Call.PollRecv ticket.old waiter.now) (Answer.PollRecv reply) result.1 core.new.state }
-    {
-        let (received, wakes) = core.poll_recv(*ticket, waiter);
-        (receive_polled(self, received, ticket), wakes)
-    }
-}
-
-fn receive_polled<D>(
-    receive: Receive,
-    received: CorePoll<Result<D, RecvFault>, ()>,
-    ticket: &mut Option<u64>,
-) -> Outcome<D, Receive>
-    ensures outcome { result ≡ recv_polled receive received }
-    ensures ticket { ticket.new ≡ waits_under received }
-{
-    *ticket = None;
-    match received {
-        CorePoll::Ready(Ok(done)) => Outcome::Done(done),
-        CorePoll::Ready(Err(RecvFault::Closed(_))) => Outcome::Closed(receive),
-        CorePoll::Ready(Err(RecvFault::Memory)) => Outcome::Memory(receive),
-        CorePoll::Pending((), given) => {
-            *ticket = Some(given);
-            Outcome::Blocked(receive)
-        }
     }
 }
 

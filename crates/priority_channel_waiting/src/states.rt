@@ -1,6 +1,5 @@
-//! The states of futures between polls: a send has its pair, a bulk send the pairs that were not
-//! sent yet, and each future its ticket. A poll is made on the core, under one hold of the lock
-//! that guards it.
+//! The states of futures between polls. A poll is made on the core, under one hold of the lock that
+//! guards it.
 ghost use Rattle.std.specs.Prelude.{◌≡◌, ◌↔◌, ◌*◌, List, [], length, false, IsTrue, IfSome, MatchOption, Some, None, is_some};
 ghost use Rattle.std.specs.Option.{ForSome};
 ghost use Rattle.std.specs.Iterator.Adapters.{peekable_can};
@@ -27,50 +26,74 @@ use priority_channel_core::errors::{
 };
 use std::alloc::Allocator;
 use std::iter::Peekable;
-use std::marker::Model;
+use std::marker::{Model, PhantomData};
 
-// What is still to be done (None once it is done), and the ticket of the last poll.
+/// The state of a future: its remaining work, until it has answered or was given up, and its
+/// ticket. A try or a poll of a state that is done returns `Pending` and changes nothing. `N` is
+/// `One` or `Many`.
 #[derive(Drop)]
-struct Kept<K> {
+pub struct State<K, N = One> {
     kept: Option<K>,
     ticket: Option<u64>,
+    pairs: PhantomData<N>,
 }
 
-impl<K> Model for Kept<K> {
+/// The future sends or receives one pair.
+#[derive(Clone, Copy)]
+pub struct One;
+
+/// The future sends many pairs.
+#[derive(Clone, Copy)]
+pub struct Many;
+
+/// The state of a send, which keeps its pair.
+pub type SendState<T, P> = State<(T, P)>;
+
+/// The state of a bulk send, which keeps the pairs that were not sent yet.
+pub type SendvState<M> = State<M, Many>;
+
+/// The state of a receive.
+pub type RecvState = State<()>;
+
+impl<K, N> Model for State<K, N> {
     ghost use Rattle.std.specs.Prelude.{◌≡◌, None};
     ghost use Rattle.priority_channel_waiting.specs.Holding.{Holding};
 
     ghost Value = { Holding K };
 
-    ghost view = { λ k. record { kept = k.kept; ticket = k.ticket } };
+    ghost view = { λ s. record { kept = s.kept; ticket = s.ticket } };
 
-    ghost invariant = { λ k. k.kept ≡ None → k.ticket ≡ None };
+    ghost invariant = { λ s. s.kept ≡ None → s.ticket ≡ None };
 }
 
-impl<K> Kept<K> {
-    fn new(kept: K) -> Self
-        ensures { result ≡ unpolled kept }
+impl<K, N> State<K, N> {
+    fn of(kept: Option<K>, ticket: Option<u64>) -> Self
+        requires { kept ≡ None → ticket ≡ None }
+        ensures { result ≡ record { kept = kept; ticket = ticket } }
     {
-        Kept {
-            kept: Some(kept),
-            ticket: None,
+        State {
+            kept,
+            ticket,
+            pairs: PhantomData,
         }
     }
 
-    fn ticket(&self) -> Option<u64>
+    /// The ticket under which it waits, or waited until it was woken.
+    pub fn ticket(&self) -> Option<u64>
         ensures { result ≡ self.now.ticket }
     {
         self.ticket
     }
 
-    fn is_done(&self) -> bool
+    /// Whether it has answered or was given up.
+    pub fn is_done(&self) -> bool
         ensures { IsTrue result ↔ (self.now.kept ≡ None) }
     {
         self.kept.is_none()
     }
 }
 
-impl<K: Drop> Kept<K> {
+impl<K: Drop, N> State<K, N> {
     // Takes out the remaining work and the ticket. None if it was done.
     fn take(&mut self) -> Option<(K, Option<u64>)>
         ensures taken { MatchOption result (self.old ≡ done) (λ taken.
@@ -89,17 +112,11 @@ impl<K: Drop> Kept<K> {
     {
         match answer {
             CorePoll::Ready(outcome) => {
-                *self = Kept {
-                    kept: None,
-                    ticket: None,
-                };
+                *self = State::of(None, None);
                 Poll::Ready(outcome)
             }
             CorePoll::Pending(kept, ticket) => {
-                *self = Kept {
-                    kept: Some(kept),
-                    ticket: Some(ticket),
-                };
+                *self = State::of(Some(kept), Some(ticket));
                 Poll::Pending
             }
         }
@@ -120,19 +137,13 @@ impl<K: Drop> Kept<K> {
         ensures waits { OnPending result (core.new ≡ core.old) }
         ensures cost { ComparesAtMost 0 (search_bound core.old.state.waiters) core.old core.new }
     {
-        *self = Kept {
-            kept: None,
-            ticket: None,
-        };
+        *self = State::of(None, None);
         let answer = match tried {
             Ok(()) => Ok(()),
             Err(TrySendError::Closed(unsent)) => Err(SendFault::Closed(SendError(unsent))),
             Err(TrySendError::Memory(unsent)) => Err(SendFault::Memory(unsent)),
             Err(TrySendError::Full(unsent)) => {
-                *self = Kept {
-                    kept: Some(unsent),
-                    ticket,
-                };
+                *self = State::of(Some(unsent), ticket);
                 return Poll::Pending;
             }
         };
@@ -140,7 +151,9 @@ impl<K: Drop> Kept<K> {
         Poll::Ready(answer)
     }
 
-    fn give_up_on<T, P: Ord, W: Clone, A: Allocator + Copy>(
+    /// Ends the future, which no longer waits, and returns what it kept: what was not sent. None if
+    /// it was done. What was sent stays sent.
+    pub fn give_up_on<T, P: Ord, W: Clone, A: Allocator + Copy>(
         &mut self,
         core: &mut PriorityQueueChannel<T, P, W, A>,
     ) -> Option<K>
@@ -169,48 +182,18 @@ fn give_up_given<T, P: Ord, W: Clone, A: Allocator + Copy>(
     }
 }
 
-/// The state of a send: its pair, until it has answered or was given up, and its ticket.
-#[derive(Drop)]
-pub struct SendState<T, P> {
-    pair: Kept<(T, P)>,
-}
-
-impl<T, P> Model for SendState<T, P> {
-    ghost use Rattle.priority_channel_waiting.specs.Holding.{Holding};
-
-    ghost Value = { Holding (T × P) };
-
-    ghost view = { λ s. s.pair };
-}
-
 impl<T, P> SendState<T, P> {
     /// A send that has not been polled yet.
     pub fn new(msg: T, priority: P) -> Self
         ensures { result ≡ unpolled (msg, priority) }
     {
-        SendState {
-            pair: Kept::new((msg, priority)),
-        }
-    }
-
-    /// The ticket under which it waits, or waited until it was woken.
-    pub fn ticket(&self) -> Option<u64>
-        ensures { result ≡ self.now.ticket }
-    {
-        self.pair.ticket()
-    }
-
-    /// Whether it has answered or was given up.
-    pub fn is_done(&self) -> bool
-        ensures { IsTrue result ↔ (self.now.kept ≡ None) }
-    {
-        self.pair.is_done()
+        State::of(Some((msg, priority)), None)
     }
 }
 
 impl<T: Drop, P: Ord + Drop> SendState<T, P> {
     /// Sends the pair if it need not wait, as a poll with any waker would. If the channel is open
-    /// and full, it returns `Pending` and changes nothing. A state that is done does the same.
+    /// and full, it returns `Pending` and changes nothing.
     pub fn try_on<W: Clone, A: Allocator + Copy>(
         &mut self,
         core: &mut PriorityQueueChannel<T, P, W, A>,
@@ -227,16 +210,15 @@ impl<T: Drop, P: Ord + Drop> SendState<T, P> {
         ensures cost { ComparesAtMost (digits (length core.new.state.pending))
             (search_bound core.old.state.waiters) core.old core.new }
     {
-        let Some((pair, ticket)) = self.pair.take() else {
+        let Some((pair, ticket)) = self.take() else {
             return (Poll::Pending, core.nobody());
         };
         let (msg, priority) = pair;
         let (tried, wakes) = core.try_send(msg, priority);
-        (self.pair.keep_tried(tried, ticket, core), wakes)
+        (self.keep_tried(tried, ticket, core), wakes)
     }
 
-    /// Sends the pair, or waits for room with the waker. A state that is done returns `Pending` and
-    /// changes nothing.
+    /// Sends the pair, or waits for room with the waker.
     pub fn poll_on<W: Clone, A: Allocator + Copy>(
         &mut self,
         core: &mut PriorityQueueChannel<T, P, W, A>,
@@ -255,42 +237,12 @@ impl<T: Drop, P: Ord + Drop> SendState<T, P> {
         ensures cost { ComparesAtMost (digits (length core.new.state.pending))
             (search_bound core.old.state.waiters) core.old core.new }
     {
-        let Some(((msg, priority), ticket)) = self.pair.take() else {
+        let Some(((msg, priority), ticket)) = self.take() else {
             return (Poll::Pending, core.nobody());
         };
         let (answer, wakes) = core.poll_send(msg, priority, ticket, waker);
-        (self.pair.keep(answer), wakes)
+        (self.keep(answer), wakes)
     }
-
-    /// Ends the send, which no longer waits, and returns the pair that was not sent. None if the
-    /// send was done.
-    pub fn give_up_on<W: Clone, A: Allocator + Copy>(
-        &mut self,
-        core: &mut PriorityQueueChannel<T, P, W, A>,
-    ) -> Option<(T, P)>
-        ensures kept { result ≡ self.old.kept }
-        ensures done { self.new ≡ done }
-        ensures left { GivesUpTicket P.cmp W.is_clone core.old.state self.old.ticket
-            core.new.state }
-        ensures cost { ComparesAtMost 0 (search_bound core.old.state.waiters) core.old core.new }
-    {
-        self.pair.give_up_on(core)
-    }
-}
-
-/// The state of a bulk send: the pairs that were not sent yet, until it has answered or was given
-/// up, and its ticket.
-#[derive(Drop)]
-pub struct SendvState<M> {
-    rest: Kept<M>,
-}
-
-impl<M> Model for SendvState<M> {
-    ghost use Rattle.priority_channel_waiting.specs.Holding.{Holding};
-
-    ghost Value = { Holding M };
-
-    ghost view = { λ s. s.rest };
 }
 
 impl<M> SendvState<M> {
@@ -298,47 +250,13 @@ impl<M> SendvState<M> {
     pub fn new(msgs: M) -> Self
         ensures { result ≡ unpolled msgs }
     {
-        SendvState {
-            rest: Kept::new(msgs),
-        }
-    }
-
-    /// The ticket under which it waits, or waited until it was woken.
-    pub fn ticket(&self) -> Option<u64>
-        ensures { result ≡ self.now.ticket }
-    {
-        self.rest.ticket()
-    }
-
-    /// Whether it has answered or was given up.
-    pub fn is_done(&self) -> bool
-        ensures { IsTrue result ↔ (self.now.kept ≡ None) }
-    {
-        self.rest.is_done()
-    }
-}
-
-impl<M: Drop> SendvState<M> {
-    /// Ends the bulk send, which no longer waits, and returns the pairs that were not sent. None if
-    /// the bulk send was done. What was sent stays sent.
-    pub fn give_up_on<T, P: Ord, W: Clone, A: Allocator + Copy>(
-        &mut self,
-        core: &mut PriorityQueueChannel<T, P, W, A>,
-    ) -> Option<M>
-        ensures kept { result ≡ self.old.kept }
-        ensures done { self.new ≡ done }
-        ensures left { GivesUpTicket P.cmp W.is_clone core.old.state self.old.ticket
-            core.new.state }
-        ensures cost { ComparesAtMost 0 (search_bound core.old.state.waiters) core.old core.new }
-    {
-        self.rest.give_up_on(core)
+        State::of(Some(msgs), None)
     }
 }
 
 impl<T: Drop, P: Ord + Drop, I: Iterator<Item = (T, P)>> SendvState<Peekable<I>> {
-    /// Sends as many pairs as there is room for. If that was not all, it does nothing more: it
-    /// returns `Pending`, as a state that is done does, and waits on under the ticket that it had.
-    /// Otherwise it does what a poll with any waker would.
+    /// Sends as many pairs as there is room for. If that was not all, it returns `Pending`, and
+    /// waits on under the ticket that it had. Otherwise it does what a poll with any waker would.
     pub fn try_on<W: Clone, A: Allocator + Copy>(
         &mut self,
         core: &mut PriorityQueueChannel<T, P, W, A>,
@@ -370,15 +288,14 @@ impl<T: Drop, P: Ord + Drop, I: Iterator<Item = (T, P)>> SendvState<Peekable<I>>
             (search_bound core.old.state.waiters) core.old core.new) }
         ensures good { IfSome self.old.kept (λ _. IsGood core.new.state) }
     {
-        let Some((rest, ticket)) = self.rest.take() else {
+        let Some((rest, ticket)) = self.take() else {
             return (Poll::Pending, core.nobody());
         };
         let (tried, wakes) = core.try_sendv(rest);
-        (self.rest.keep_tried(tried, ticket, core), wakes)
+        (self.keep_tried(tried, ticket, core), wakes)
     }
 
-    /// Sends as many pairs as there is room for, and waits for room with the rest and the waker. A
-    /// state that is done returns `Pending` and changes nothing.
+    /// Sends as many pairs as there is room for, and waits for room with the rest and the waker.
     pub fn poll_on<W: Clone, A: Allocator + Copy>(
         &mut self,
         core: &mut PriorityQueueChannel<T, P, W, A>,
@@ -409,26 +326,12 @@ impl<T: Drop, P: Ord + Drop, I: Iterator<Item = (T, P)>> SendvState<Peekable<I>>
             (search_bound core.old.state.waiters) core.old core.new) }
         ensures good { IfSome self.old.kept (λ _. IsGood core.new.state) }
     {
-        let Some((msgs, ticket)) = self.rest.take() else {
+        let Some((msgs, ticket)) = self.take() else {
             return (Poll::Pending, core.nobody());
         };
         let (answer, wakes) = core.poll_sendv(msgs, ticket, waker);
-        (self.rest.keep(answer), wakes)
+        (self.keep(answer), wakes)
     }
-}
-
-/// The state of a receive: its ticket, and whether it is done.
-#[derive(Drop)]
-pub struct RecvState {
-    receive: Kept<()>,
-}
-
-impl Model for RecvState {
-    ghost use Rattle.priority_channel_waiting.specs.Holding.{Holding};
-
-    ghost Value = { Holding (Unit {0}) };
-
-    ghost view = { λ s. s.receive };
 }
 
 impl RecvState {
@@ -436,27 +339,11 @@ impl RecvState {
     pub fn new() -> Self
         ensures { result ≡ unpolled tt }
     {
-        RecvState {
-            receive: Kept::new(()),
-        }
-    }
-
-    /// The ticket under which it waits, or waited until it was woken.
-    pub fn ticket(&self) -> Option<u64>
-        ensures { result ≡ self.now.ticket }
-    {
-        self.receive.ticket()
-    }
-
-    /// Whether it has answered or was given up.
-    pub fn is_done(&self) -> bool
-        ensures { IsTrue result ↔ (self.now.kept ≡ None) }
-    {
-        self.receive.is_done()
+        State::of(Some(()), None)
     }
 
     /// Receives a pair if it need not wait, as a poll with any waker would. If the channel is open
-    /// and empty, it returns `Pending` and changes nothing. A state that is done does the same.
+    /// and empty, it returns `Pending` and changes nothing.
     pub fn try_on<T, P: Ord, W: Clone, A: Allocator + Copy>(
         &mut self,
         core: &mut PriorityQueueChannel<T, P, W, A>,
@@ -489,8 +376,7 @@ impl RecvState {
         }
     }
 
-    /// Receives a pair, or waits for a message with the waker. A state that is done returns
-    /// `Pending` and changes nothing.
+    /// Receives a pair, or waits for a message with the waker.
     pub fn poll_on<T, P: Ord, W: Clone, A: Allocator + Copy>(
         &mut self,
         core: &mut PriorityQueueChannel<T, P, W, A>,
@@ -507,24 +393,10 @@ impl RecvState {
         ensures cost { ComparesAtMost (2 * digits (length core.old.state.pending))
             (search_bound core.old.state.waiters) core.old core.new }
     {
-        let Some(((), ticket)) = self.receive.take() else {
+        let Some(((), ticket)) = self.take() else {
             return (Poll::Pending, core.nobody());
         };
-        let (answer, wakes) = core.poll_recv(ticket, waker);
-        (self.receive.keep(answer), wakes)
-    }
-
-    /// Ends the receive, which no longer waits. None if the receive was done.
-    pub fn give_up_on<T, P: Ord, W: Clone, A: Allocator + Copy>(
-        &mut self,
-        core: &mut PriorityQueueChannel<T, P, W, A>,
-    ) -> Option<()>
-        ensures kept { result ≡ self.old.kept }
-        ensures done { self.new ≡ done }
-        ensures left { GivesUpTicket P.cmp W.is_clone core.old.state self.old.ticket
-            core.new.state }
-        ensures cost { ComparesAtMost 0 (search_bound core.old.state.waiters) core.old core.new }
-    {
-        self.receive.give_up_on(core)
+        let (received, wakes) = core.poll_recv(ticket, waker);
+        (self.keep(received), wakes)
     }
 }

@@ -88,26 +88,17 @@ impl<A: Allocator + Copy> Waiter<A> {
         ensures kept { Keeps cx.old cx.new }
     {
         let waiter = Waiter::of_party(alloc, party)?;
-        if waiter.register(rt, cx, source) {
-            Some(waiter)
-        } else {
-            None
+        let mut slot = waiter.inner.waker.lock(rt);
+        let _pending: Poll<()> = cx.register(source, &mut slot);
+        if slot.is_none() {
+            return None;
         }
+        drop(slot);
+        Some(waiter)
     }
 }
 
 impl<A: Allocator> Waiter<A> {
-    /// Stores the task's waker here. False if no waker could be made: the task then yields.
-    pub fn register<R: Wait>(&self, rt: &R, cx: &mut Context<'_>, source: &Source) -> bool
-        ensures armed { IsArmed cx.new }
-        ensures heard { Hears cx.new source.now.id }
-        ensures kept { Keeps cx.old cx.new }
-    {
-        let mut slot = self.inner.waker.lock(rt);
-        let _pending: Poll<()> = cx.register(source, &mut slot);
-        slot.is_some()
-    }
-
     /// Parks the thread until it is woken, or `limit` has passed. It may return early. It returns
     /// at once if a wake came since the thread was last parked.
     pub fn park<R: Wait>(&self, rt: &R, limit: Option<Duration>) {

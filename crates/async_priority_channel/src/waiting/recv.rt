@@ -3,23 +3,20 @@ ghost use Rattle.std.specs.Prelude.{◌≡◌, ⊤, None, Result};
 ghost use Rattle.futures.specs.Task.{Covers, Keeps};
 ghost use Rattle.futures.specs.Poll.{IfReady, OnPending};
 ghost use Rattle.priority_channel_core.specs.declared.errors.RecvFault.{RecvFault};
-ghost use Rattle.priority_channel_waiting.specs.Holding.{unpolled, done};
+ghost use Rattle.priority_channel_waiting.specs.Holding.{done};
 
-use crate::receiver::Receiver;
-use crate::waiting::RecvState;
+use crate::receiver::Receiving;
+use crate::waiting::Waiting;
 use futures::Future;
 use futures::task::{Context, Poll};
 use priority_channel_core::errors::RecvFault;
-use priority_channel_waiting::waiter::Waiter;
+use priority_channel_waiting::states::One;
 use std::alloc::{Allocator, Global};
-use std::marker::Model;
 use std::sync::Wait;
 
 /// Receives one message once there is one. `Receiver::recv` makes it.
 ///
-/// The error is `Closed` if no message can come any more, or `Memory` if memory was refused. If it
-/// is polled again after its answer, it is pending, changes nothing, and asks to be polled once
-/// more. So it should not be polled any more.
+/// The error is `Closed` if no message can come any more, or `Memory` if memory was refused.
 ///
 /// ```
 /// let (tx, rx) = bounded(&rt, rt.alloc(), 1)?;
@@ -28,33 +25,7 @@ use std::sync::Wait;
 /// tx.try_send("Foo", 0)?;
 /// assert_eq!(rt; block_on(&rt, receiving)?, Ok(("Foo", 0)));
 /// ```
-#[must_use = "a future does nothing until it is polled: `block_on`, or a call that ends in `_blocking`"]
-pub struct Recv<'a, T, P: Ord, R: Wait + Clone, A: Allocator + Copy = Global> {
-    receiver: &'a Receiver<T, P, R, A>,
-    state: RecvState,
-    waiter: Option<Waiter<A>>,
-}
-
-impl<'a, T, P: Ord, R: Wait + Clone, A: Allocator + Copy> Model for Recv<'a, T, P, R, A> {
-    ghost use Rattle.async_priority_channel.specs.Handles.{Underway};
-
-    ghost Value = { Underway (Unit {0}) };
-
-    ghost view = { λ f. record { channel = f.receiver.now; state = f.state } };
-}
-
-impl<'a, T: Drop, P: Ord + Drop, R: Wait + Clone, A: Allocator + Copy> Recv<'a, T, P, R, A> {
-    pub(crate) fn new(receiver: &'a Receiver<T, P, R, A>) -> Self
-        ensures channel { result.channel ≡ receiver.now }
-        ensures fresh { result.state ≡ unpolled tt }
-    {
-        Recv {
-            receiver,
-            state: RecvState::new(),
-            waiter: None,
-        }
-    }
-}
+pub type Recv<'a, T, P, R, A = Global> = Waiting<'a, Receiving, (), One, T, P, R, A>;
 
 impl<T: Drop, P: Ord + Drop, R: Wait + Clone, A: Allocator + Copy> Future for Recv<'_, T, P, R, A> {
     type Output = Result<(T, P), RecvFault>;
@@ -74,39 +45,10 @@ impl<T: Drop, P: Ord + Drop, R: Wait + Clone, A: Allocator + Copy> Future for Re
         ensures done { self.old.state.kept ≡ None → (result ≡ Poll.Pending)
             × (self.new ≡ self.old) }
     {
-        if self.state.is_done() {
+        if self.task.state.is_done() {
             return cx.yield_now();
         }
-        let receiver = self.receiver;
-        let handle = &receiver.handle;
-        let mut core = handle.lock();
-        let (tried, wakes) = self.state.try_on(&mut core);
-        handle.release(core, wakes);
-        if let Poll::Ready(received) = tried {
-            return Poll::Ready(received);
-        }
-        let Some(waiter) = handle.register(cx, handle.message(), &mut self.waiter) else {
-            self.state.give_up_on(&mut handle.lock());
-            return Poll::Ready(Err(RecvFault::Memory));
-        };
-        let mut core = handle.lock();
-        let (polled, wakes) = self.state.poll_on(&mut core, waiter);
-        handle.release(core, wakes);
-        polled
-    }
-}
-
-impl<T: Drop, P: Ord + Drop, R: Wait + Clone, A: Allocator + Copy> Drop for Recv<'_, T, P, R, A> {
-    fn drop(self) {
-        let Recv {
-            receiver,
-            mut state,
-            waiter,
-        } = self;
-        if state.ticket().is_some() {
-            state.give_up_on(&mut receiver.handle.lock());
-        }
-        // A waker wakes its task when it is dropped.
-        drop(waiter);
+        let end = self.end;
+        self.task.receive(&end.handle, cx)
     }
 }

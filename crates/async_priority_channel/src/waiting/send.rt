@@ -2,24 +2,22 @@
 ghost use Rattle.std.specs.Prelude.{◌≡◌, ⊤, None};
 ghost use Rattle.futures.specs.Task.{Covers, Keeps};
 ghost use Rattle.futures.specs.Poll.{IfReady, OnPending};
-ghost use Rattle.priority_channel_waiting.specs.Holding.{unpolled, done};
+ghost use Rattle.priority_channel_waiting.specs.Holding.{done};
 ghost use Rattle.async_priority_channel.specs.Handles.{HandsBack};
 
-use crate::sender::Sender;
-use crate::waiting::SendState;
+use crate::sender::Sending;
+use crate::waiting::Waiting;
 use futures::Future;
 use futures::task::{Context, Poll};
 use priority_channel_core::errors::SendFault;
-use priority_channel_waiting::waiter::Waiter;
+use priority_channel_core::side::Side;
+use priority_channel_waiting::states::One;
 use std::alloc::{Allocator, Global};
-use std::marker::Model;
 use std::sync::Wait;
 
 /// Sends one message once there is room. `Sender::send` makes it.
 ///
-/// The error is `Closed`, or `Memory` if memory was refused, and gives the message back. If it is
-/// polled again after its answer, it is pending, changes nothing, and asks to be polled once more.
-/// So it should not be polled any more.
+/// The error is `Closed`, or `Memory` if memory was refused, and gives the message back.
 ///
 /// ```
 /// let (tx, rx) = bounded(&rt, rt.alloc(), 1)?;
@@ -29,33 +27,7 @@ use std::sync::Wait;
 /// assert_eq!(rt; rx.try_recv(), Ok(("Foo", 0)));
 /// assert_eq!(rt; block_on(&rt, sending)?, Ok(()));
 /// ```
-#[must_use = "a future does nothing until it is polled: `block_on`, or a call that ends in `_blocking`"]
-pub struct Send<'a, T, P: Ord, R: Wait + Clone, A: Allocator + Copy = Global> {
-    sender: &'a Sender<T, P, R, A>,
-    state: SendState<T, P>,
-    waiter: Option<Waiter<A>>,
-}
-
-impl<'a, T, P: Ord, R: Wait + Clone, A: Allocator + Copy> Model for Send<'a, T, P, R, A> {
-    ghost use Rattle.async_priority_channel.specs.Handles.{Underway};
-
-    ghost Value = { Underway (T × P) };
-
-    ghost view = { λ f. record { channel = f.sender.now; state = f.state } };
-}
-
-impl<'a, T: Drop, P: Ord + Drop, R: Wait + Clone, A: Allocator + Copy> Send<'a, T, P, R, A> {
-    pub(crate) fn new(sender: &'a Sender<T, P, R, A>, msg: T, priority: P) -> Self
-        ensures channel { result.channel ≡ sender.now }
-        ensures holds { result.state ≡ unpolled (msg, priority) }
-    {
-        Send {
-            sender,
-            state: SendState::new(msg, priority),
-            waiter: None,
-        }
-    }
-}
+pub type Send<'a, T, P, R, A = Global> = Waiting<'a, Sending, (T, P), One, T, P, R, A>;
 
 impl<T: Drop, P: Ord + Drop, R: Wait + Clone, A: Allocator + Copy> Future for Send<'_, T, P, R, A> {
     type Output = Result<(), SendFault<(T, P)>>;
@@ -77,43 +49,25 @@ impl<T: Drop, P: Ord + Drop, R: Wait + Clone, A: Allocator + Copy> Future for Se
         ensures done { self.old.state.kept ≡ None → (result ≡ Poll.Pending)
             × (self.new ≡ self.old) }
     {
-        if self.state.is_done() {
+        if self.task.state.is_done() {
             return cx.yield_now();
         }
-        let sender = self.sender;
-        let handle = &sender.handle;
+        let end = self.end;
+        let handle = &end.handle;
         let mut core = handle.lock();
-        let (tried, wakes) = self.state.try_on(&mut core);
+        let (tried, wakes) = self.task.state.try_on(&mut core);
         handle.release(core, wakes);
         if let Poll::Ready(sent) = tried {
             return Poll::Ready(sent);
         }
-        let Some(waiter) = handle.register(cx, handle.room(), &mut self.waiter) else {
-            let unsent = self.state.give_up_on(&mut handle.lock());
+        let Some(waiter) = handle.register(cx, Side::Room, &mut self.task.waiter) else {
+            let unsent = self.task.state.give_up_on(&mut handle.lock());
             let Some(pair) = unsent else { unreachable!() };
             return Poll::Ready(Err(SendFault::Memory(pair)));
         };
         let mut core = handle.lock();
-        let (polled, wakes) = self.state.poll_on(&mut core, waiter);
+        let (polled, wakes) = self.task.state.poll_on(&mut core, waiter);
         handle.release(core, wakes);
         polled
-    }
-}
-
-impl<T: Drop, P: Ord + Drop, R: Wait + Clone, A: Allocator + Copy> Drop for Send<'_, T, P, R, A> {
-    fn drop(self) {
-        let Send {
-            sender,
-            mut state,
-            waiter,
-        } = self;
-        let mut unsent = None;
-        if state.ticket().is_some() {
-            unsent = state.give_up_on(&mut sender.handle.lock());
-        }
-        // A message may hold a handle of this channel, and a waker wakes its task when it is
-        // dropped.
-        drop((unsent, state));
-        drop(waiter);
     }
 }

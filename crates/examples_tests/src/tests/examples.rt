@@ -169,7 +169,7 @@ fn example_of_close_on_drop(rt: HostRuntime) {
 }
 
 #[test]
-fn example_of_sender_close_on_drop(rt: HostRuntime) {
+fn example_of_end_close_on_drop(rt: HostRuntime) {
     let (tx, rx) = unbounded(&rt, rt.alloc()).expect(&rt, "unbounded");
     let other = tx.clone().expect(&rt, "clone");
     let guard = tx.close_on_drop();
@@ -180,7 +180,7 @@ fn example_of_sender_close_on_drop(rt: HostRuntime) {
 }
 
 #[test]
-fn example_of_receiver_close_on_drop(rt: HostRuntime) {
+fn example_of_end_close_on_drop_2(rt: HostRuntime) {
     let (answer, answers) = unbounded::<&str, u64, _, _>(&rt, rt.alloc()).expect(&rt, "unbounded");
     let (tx, requests) = unbounded(&rt, rt.alloc()).expect(&rt, "unbounded");
     expect_true(&rt, tx.try_send(answer, 0).is_ok());
@@ -807,16 +807,6 @@ fn example_of_sendv(rt: HostRuntime) {
 }
 
 #[test]
-fn example_of_weak(rt: HostRuntime) {
-    let (tx, rx) = bounded(&rt, rt.alloc(), 1).expect(&rt, "bounded");
-    let weak = rx.downgrade().expect(&rt, "downgrade");
-    tx.try_send("still here", 0).expect(&rt, "try_send");
-    if let Some(receiver) = weak.upgrade() {
-        expect_equal(&rt, receiver.try_recv(), Ok(("still here", 0)));
-    }
-}
-
-#[test]
 fn example_of_weak_sender(rt: HostRuntime) {
     let (tx, rx) = bounded(&rt, rt.alloc(), 1).expect(&rt, "bounded");
     let weak = tx.downgrade().expect(&rt, "downgrade");
@@ -828,11 +818,12 @@ fn example_of_weak_sender(rt: HostRuntime) {
 
 #[test]
 fn example_of_weak_receiver(rt: HostRuntime) {
-    let (tx, rx) = unbounded::<&str, u64, _, _>(&rt, rt.alloc()).expect(&rt, "unbounded");
+    let (tx, rx) = bounded(&rt, rt.alloc(), 1).expect(&rt, "bounded");
     let weak = rx.downgrade().expect(&rt, "downgrade");
-    expect_true(&rt, weak.upgrade().is_some());
-    drop(rx);
-    expect_true(&rt, weak.upgrade().is_none() && tx.is_closed());
+    tx.try_send("still here", 0).expect(&rt, "try_send");
+    if let Some(receiver) = weak.upgrade() {
+        expect_equal(&rt, receiver.try_recv(), Ok(("still here", 0)));
+    }
 }
 
 #[test]

@@ -1,4 +1,3 @@
-use Rattle.std.proofs.Common.{sym, ◌∙◌}
 use Rattle.std.specs.Iterator.Adapters.{peekable_can}
 use Rattle.priority_channel_core.specs.code.Lists.{HasList}
 use Rattle.priority_channel_core.specs.code.Calls.{Performs}
@@ -11,17 +10,17 @@ use Rattle.priority_channel_waiting.proofs.states.SendvState+Peekable+I.poll_on.
 pub returns-clause-step : goal.returns-clause-step
 returns-clause-step g c =
     polls_kept (Performs (HasList g.I.Iterator.next_gives) g.P.Ord.cmp g.W.Clone.is_clone) (λ msgs. Sendv msgs) (λ reply. answer.PollSendv reply) _ _ _ _ _ _ _ _ _ _
-    (sym c.self.view_is ∙ c.in-Some.ensures.taken) c.keep.ensures.told c.keep.ensures.left c.poll_sendv-answer.ensures.step (sendv_left _ _ _)
+    c.in-Some.ensures.taken c.keep.ensures.told c.keep.ensures.left c.poll_sendv-answer.ensures.step (sendv_left _ _ _)
 
 pub returns-clause-unsent : goal.returns-clause-unsent
 returns-clause-unsent g c =
-    rw (← c.self.view_is, c.in-Some.ensures.taken, c.keep.ensures.told)
+    rw (c.in-Some.ensures.taken, c.keep.ensures.told)
     (unsent_kept (HoldsTail (HasList g.I.Iterator.next_gives) c.in-Some.msgs) c.poll_sendv-answer.result.0
     (polled_tail (HasList g.I.Iterator.next_gives) g.P.Ord.cmp g.W.Clone.is_clone _ _ _ _ _ _ _ c.poll_sendv-answer.ensures.step))
 
 pub returns-clause-kept : goal.returns-clause-kept
 returns-clause-kept g c =
-    rw (← c.self.view_is, c.in-Some.ensures.taken, c.keep.ensures.left)
+    rw (c.in-Some.ensures.taken, c.keep.ensures.left)
     (left_kept (HoldsTail (HasList g.I.Iterator.next_gives) c.in-Some.msgs) c.poll_sendv-answer.result.0
     (polled_tail (HasList g.I.Iterator.next_gives) g.P.Ord.cmp g.W.Clone.is_clone _ _ _ _ _ _ _ c.poll_sendv-answer.ensures.step))
 

@@ -1,12 +1,12 @@
-use Rattle.std.proofs.Common.{sym, ◌∙◌, ap, arith}
+use Rattle.std.proofs.Common.{ap, arith}
 use Rattle.priority_channel_bag.specs.Digits.{digits}
 use Rattle.priority_channel_waiting.proofs.Tries.{sent_at_once, tried_searches_less, pending_stays}
-use Rattle.priority_channel_waiting.proofs.states.SendState.try_on.Goals as goal
+use Rattle.priority_channel_waiting.proofs.states.SendState+T+P.try_on.Goals as goal
 
 pub returns-clause-step : goal.returns-clause-step
 returns-clause-step g c =
     sent_at_once g.P.Ord.cmp g.W.Clone.is_clone _ _ _ _ _ _ _ _ _ _
-    (sym c.self.view_is ∙ c.in-Some.ensures.taken) c.keep_tried.ensures.told c.keep_tried.ensures.left c.try_send-tried.ensures.step c.keep_tried.ensures.answered
+    c.in-Some.ensures.taken c.keep_tried.ensures.told c.keep_tried.ensures.left c.try_send-tried.ensures.step c.keep_tried.ensures.answered
 
 pub returns-clause-cost : goal.returns-clause-cost
 returns-clause-cost g c =
