@@ -1,12 +1,14 @@
 -- What a future of a channel holds, and what it gives at its end.
-use Rattle.std.specs.Prelude.{◌≡◌, ℕ, Bool, Option, Some, None, List, Result, IfErr, IsSomeAnd}
+use Rattle.std.specs.Prelude.{◌≡◌, ℕ, Bool, Option, Some, None, List, Result, Err, IfErr, IfSome, IsSomeAnd}
 use Rattle.std.specs.declared.cmp.Ordering.{Ordering}
 use Rattle.std.specs.declared.vec.IntoIter.{IntoIter}
 use Rattle.std.specs.declared.iter.Ahead.{Ahead}
 use Rattle.priority_channel_core.specs.declared.errors.RecvFault.{RecvFault}
 use Rattle.priority_channel_core.specs.declared.errors.SendFault.{SendFault}
 use Rattle.priority_channel_core.specs.Errors.{unsent}
+use Rattle.priority_channel_waiting.specs.declared.timeouts.RecvTimeoutError.TheVariants as recv_late
 use Rattle.priority_channel_waiting.specs.declared.timeouts.SendTimeoutError.{SendTimeoutError}
+use Rattle.priority_channel_waiting.specs.declared.timeouts.SendTimeoutError.TheVariants.{Timeout}
 use Rattle.priority_channel_core.specs.declared.calls.Call.TheVariants as call
 use Rattle.priority_channel_core.specs.declared.calls.Answer.TheVariants as answer
 use Rattle.priority_channel_core.specs.declared.calls.CorePoll.TheVariants.{Pending}
@@ -22,10 +24,29 @@ pub record Underway (X : Type 0) : Type 0 where
   pub ticket : Option ℕ
   pub source : ℕ
 
--- what was held is still held, and goes on so; nothing stays nothing
-abbrev pub Continues : {X : Type 0} → Option X → Option X → (X → X → Type 0) → Type 0
-Continues None new goes = new ≡ None
-Continues (Some before) new goes = IsSomeAnd new (λ after. goes before after)
+-- How a call that waits has come so far: answered; with what is left, where it was no more than a
+-- try; or listed with what is left, under a ticket in place of the one before.
+pub data Ending (R C : Type 0) : Type 0 where
+  answered : R → Ending R C
+  blocked : C → Ending R C
+  listed : C → Option ℕ → Option ℕ → Ending R C
+
+module _ {S R C : Type 0} (comes : S → C → Ending R C → S → Type 0) where
+  -- what a future gives that holds a pass and a call: a reply, and its pass
+  abbrev pub Gives : Option (S × C) → R × S → Type 0
+  Gives None given = ⊥
+  Gives (Some held) given = comes held.0 held.1 (answered given.0) given.1
+
+  -- it waits on, with its pass and what is left
+  abbrev pub WaitsOn : Underway (S × C) → Underway (S × C) → Type 0
+  WaitsOn old new = IfSome old.holds (λ before. IsSomeAnd new.holds
+      (λ after. comes before.0 before.1 (listed after.1 old.ticket new.ticket) after.0))
+
+-- what comes back of a send is what it was to send
+abbrev pub IsBack : {Q : Type 0} → Q → Ending (Result (Unit {0}) (SendFault Q)) Q → Type 0
+IsBack pair (answered reply) = IfErr reply (λ fault. unsent fault ≡ pair)
+IsBack pair (blocked kept) = kept ≡ pair
+IsBack pair (listed kept old new) = kept ≡ pair
 
 module _ {T P W : Type 0} where
   -- a poll of who was listed under the one ticket, if any, and is now under the other for a message
@@ -45,33 +66,32 @@ module _ {T P W : Type 0} where
       (ticket ≡ old) × (new ≡ Some at) × (kept ≡ rest)
   ListsSendv rest old new made reply = ⊥
 
+  -- the call of which a receive ends so
+  abbrev pub EndsRecv : {C : Type 0} → Ending (Result (T × P) RecvFault) C → Calls T P W
+      → Answers T P → Type 0
+  EndsRecv (answered reply) = AnswersRecv (recv_in_time reply)
+  EndsRecv (blocked call) = AnswersRecv (Err recv_late.Timeout)
+  EndsRecv (listed call old new) = ListsRecv old new
+
+  -- and a send of this pair
+  abbrev pub EndsSend : T × P → Ending (Result (Unit {0}) (SendFault (T × P))) (T × P)
+      → Calls T P W → Answers T P → Type 0
+  EndsSend pair (answered reply) = AnswersSend pair.0 pair.1 (send_in_time reply)
+  EndsSend pair (blocked kept) = AnswersSend pair.0 pair.1 (Err (Timeout kept))
+  EndsSend pair (listed kept old new) = ListsSend pair old new
+
   module _ (cmp : P → P → Ordering) (is_clone : W → W → Type 0) (capacity : ℕ)
       (is_reserved : Bool) where
-    -- What a future gives: its reply and its pass, which was told of the call that answered so.
-    abbrev pub GivesRecv : Option (Carried T P W) → Result (T × P) RecvFault × Carried T P W
-        → Type 0
-    GivesRecv None given = ⊥
-    GivesRecv (Some old) given =
-        IsAnswered cmp is_clone capacity is_reserved old (AnswersRecv (recv_in_time given.0))
-        given.1
+    abbrev pub Receives : {C : Type 0} → Carried T P W → Ending (Result (T × P) RecvFault) C
+        → Carried T P W → Type 0
+    Receives old ending new =
+        IsAnswered cmp is_clone capacity is_reserved old (EndsRecv ending) new
 
-    abbrev pub GivesSend : Option (Carried T P W × (T × P))
-        → Result (Unit {0}) (SendFault (T × P)) × Carried T P W → Type 0
-    GivesSend None given = ⊥
-    GivesSend (Some held) given =
-        IsAnswered cmp is_clone capacity is_reserved held.0
-        (AnswersSend held.1.0 held.1.1 (send_in_time given.0)) given.1
-        × IfErr given.0 (λ fault. unsent fault ≡ held.1)
-
-    abbrev pub GivesSendv : {Z : Type 0}
-        → Option (Carried T P W × Ahead (IntoIter (T × P) Z) (T × P))
-        → Result (Unit {0}) (SendFault (Ahead (IntoIter (T × P) Z) (T × P))) × Carried T P W
-        → Type 0
-    GivesSendv None given = ⊥
-    GivesSendv (Some held) given =
-        HasCalled held.0 given.1
-        (IsSentOn cmp is_clone capacity is_reserved held.0 (list_in held.1)
-        (listed_in_time (send_in_time given.0)) given.1)
+    abbrev pub Sends : Carried T P W → T × P → Ending (Result (Unit {0}) (SendFault (T × P))) (T × P)
+        → Carried T P W → Type 0
+    Sends old pair ending new =
+        IsAnswered cmp is_clone capacity is_reserved old (EndsSend pair ending) new
+        × IsBack pair ending
 
     -- sending the rest from here on is sending these pairs from there on
     abbrev pub GoesOn : Carried T P W → List (T × P) → Carried T P W → List (T × P) → Type 0
@@ -80,28 +100,15 @@ module _ {T P W : Type 0} where
         → IsSentOn cmp is_clone capacity is_reserved new rest result later
         → IsSentOn cmp is_clone capacity is_reserved old pairs result later
 
-    -- What a future holds that waits on: its pass, last told of the poll that listed it.
-    abbrev pub WaitsRecv : Underway (Carried T P W) → Underway (Carried T P W) → Type 0
-    WaitsRecv old new =
-        Continues old.holds new.holds
-        (λ before after. IsAnswered cmp is_clone capacity is_reserved before
-        (ListsRecv old.ticket new.ticket) after)
-
-    -- and its pair
-    abbrev pub WaitsSend : Underway (Carried T P W × (T × P)) → Underway (Carried T P W × (T × P))
-        → Type 0
-    WaitsSend old new =
-        Continues old.holds new.holds
-        (λ before after. (after.1 ≡ before.1)
-        × IsAnswered cmp is_clone capacity is_reserved before.0
-        (ListsSend before.1 old.ticket new.ticket) after.0)
-
-    -- and the rest of its pairs
-    abbrev pub WaitsSendv : {Z : Type 0}
-        → Underway (Carried T P W × Ahead (IntoIter (T × P) Z) (T × P))
-        → Underway (Carried T P W × Ahead (IntoIter (T × P) Z) (T × P)) → Type 0
-    WaitsSendv old new =
-        Continues old.holds new.holds
-        (λ before after. IsAnswered cmp is_clone capacity is_reserved before.0
-        (ListsSendv (list_in after.1) old.ticket new.ticket) after.0
-        × GoesOn before.0 (list_in before.1) after.0 (list_in after.1))
+    abbrev pub SendsAll : {Z : Type 0} → Carried T P W → Ahead (IntoIter (T × P) Z) (T × P)
+        → Ending (Result (Unit {0}) (SendFault (Ahead (IntoIter (T × P) Z) (T × P))))
+        (Ahead (IntoIter (T × P) Z) (T × P)) → Carried T P W → Type 0
+    SendsAll old msgs (answered reply) new =
+        HasCalled old new (IsSentOn cmp is_clone capacity is_reserved old (list_in msgs)
+        (listed_in_time (send_in_time reply)) new)
+    SendsAll old msgs (blocked rest) new =
+        HasCalled old new (IsSentOn cmp is_clone capacity is_reserved old (list_in msgs)
+        (Err (Timeout (list_in rest))) new)
+    SendsAll old msgs (listed rest was is_now) new =
+        IsAnswered cmp is_clone capacity is_reserved old (ListsSendv (list_in rest) was is_now) new
+        × GoesOn old (list_in msgs) new (list_in rest)

@@ -28,21 +28,10 @@ use Rattle.priority_channel_witnessed.specs.Passes.{Carried, IsTold, Tells}
 abbrev pub recv_in_time : {X : Type 0} → Result X RecvFault → Result X RecvTimeoutError
 recv_in_time result = result_map_both (λ pair. pair) recv_fault_in_time result
 
--- what it gives, or that the time is over
-abbrev pub received_or_over : {X O : Type 0} → Result (Result X RecvFault) O
-    → Result X RecvTimeoutError
-received_or_over (Ok result) = recv_in_time result
-received_or_over (Err over) = Err recv_late.Timeout
-
 -- the same of a send
 abbrev pub send_in_time : {K : Type 0} → Result (Unit {0}) (SendFault K)
     → Result (Unit {0}) (SendTimeoutError K)
 send_in_time result = result_map_both (λ done. done) send_fault_in_time result
-
-abbrev pub sent_or_over : {K O : Type 0} → Result (Result (Unit {0}) (SendFault K)) (K × O)
-    → Result (Unit {0}) (SendTimeoutError K)
-sent_or_over (Ok result) = send_in_time result
-sent_or_over (Err over) = Err (Timeout over.0)
 
 -- what a bulk send gives, with the list of what comes back
 abbrev pub with_list : {X Z : Type 0} → SendTimeoutError (Ahead (IntoIter X Z) X)

@@ -5,6 +5,7 @@
 //! handles of `async_priority_channel` are not for it.
 #![tactic(auto)]
 
+mod attempt;
 mod chronicle;
 mod entry;
 mod journal;

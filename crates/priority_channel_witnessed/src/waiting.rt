@@ -5,40 +5,283 @@
 //! calls of the history: the first poll a try, and where that finds nothing, and at each later
 //! poll, one that lists the task's waker. So a future that is answered at once asks for no memory.
 //! Each message wakes all tasks that wait for one, and room all who wait for that.
-ghost use Rattle.std.specs.Prelude.{◌≡◌, ◌≤◌};
-ghost use mathlib.Core.List.{IsPrefix};
-ghost use Rattle.priority_channel_witnessed.specs.Futures.{GoesOn};
+ghost use Rattle.std.specs.Prelude.{◌≡◌, ⊤, Some, None, IfOk, IfErr};
+ghost use Rattle.futures.specs.Task.{Covers, Keeps};
+ghost use Rattle.futures.specs.Poll.{IfReady, OnPending};
+ghost use Rattle.priority_channel_witnessed.specs.Futures.{answered, listed, Gives, WaitsOn};
 
-mod recv;
-mod send;
-mod sendv;
-
+use crate::attempt::{Attempt, Receive};
 use crate::chronicle::Pass;
+use crate::entry::Pairs;
 use crate::witnessed::Witnessed;
+use futures::Future;
+use futures::task::{Context, Poll};
 use priority_channel_chronicle::Recording;
-pub use recv::Recv;
-pub use send::Send;
-pub use sendv::Sendv;
-use std::alloc::Allocator;
+use priority_channel_waiting::waiter::Waiter;
+use std::alloc::{Allocator, Global};
+use std::marker::Model;
 use std::sync::Wait;
 
-impl<T, P: Ord, W: Clone, J: Recording, A: Allocator + Copy> Witnessed<T, P, W, J, A> {
-    // The holder of this pass waits no more, where it is listed.
-    fn unlist<R: Wait>(&self, rt: &R, pass: &mut Pass<T, P, W, J>, ticket: Option<u64>)
-        ensures number { pass.new.number ≡ pass.old.number }
-        ensures counted { pass.old.count ≤ pass.new.count }
-        ensures begins { IsPrefix pass.old.seen pass.new.seen }
-        ensures goes_on { (pairs : _) → GoesOn P.cmp W.is_clone J.capacity J.is_reserved
-            pass.old pairs pass.new pairs }
+/// Receives one pair once there is one, and gives the pass back. `Witnessed::recv` makes it.
+///
+/// Its fault is `Closed`, where none can come any more, or `Memory`, where memory was refused.
+pub type Recv<'a, T, P, W, R, J, A = Global> = Waits<'a, Receive, T, P, W, R, J, A>;
+
+/// Sends one pair once there is room, and gives the pass back. `Witnessed::send` makes it.
+///
+/// Its fault is `Closed`, or `Memory` where memory was refused, and gives the pair back. Dropped
+/// before its answer it drops the pair.
+pub type Send<'a, T, P, W, R, J, A = Global> = Waits<'a, (T, P), T, P, W, R, J, A>;
+
+/// Sends all pairs of a vector, as there is room, and gives the pass back. `Witnessed::sendv` makes
+/// it.
+///
+/// Its fault is `Closed`, or `Memory` where memory was refused, and gives the rest back. Dropped
+/// before its answer it drops the rest; what was sent stays sent.
+pub type Sendv<'a, T, P, W, R, J, A = Global> = Waits<'a, Pairs<T, P, A>, T, P, W, R, J, A>;
+
+/// A call that waits as a future. Polled again after its answer it is pending, changes nothing, and
+/// asks to be polled once more, so it should not be polled on.
+#[must_use = "a future does nothing until it is polled: `block_on`, or a call that ends in `_blocking`"]
+pub struct Waits<
+    'a,
+    C: Attempt<T, P, W, J, A>,
+    T,
+    P: Ord,
+    W: Clone,
+    R: Wait,
+    J: Recording,
+    A: Allocator + Copy = Global,
+> {
+    channel: &'a Witnessed<T, P, W, J, A>,
+    rt: &'a R,
+    holds: Option<(Pass<T, P, W, J>, C)>,
+    ticket: Option<u64>,
+    waiter: Option<W>,
+}
+
+impl<
+    'a,
+    C: Attempt<T, P, W, J, A>,
+    T,
+    P: Ord,
+    W: Clone,
+    R: Wait,
+    J: Recording,
+    A: Allocator + Copy,
+> Model for Waits<'a, C, T, P, W, R, J, A> {
+    ghost use Rattle.priority_channel_witnessed.specs.Passes.{Carried};
+    ghost use Rattle.priority_channel_witnessed.specs.Futures.{Underway};
+
+    ghost Value = { Underway (Carried T P W × C) };
+
+    ghost view = { λ f. record {
+      holds = f.holds;
+      ticket = f.ticket;
+      source = C.woken_at f.channel.now.room.id f.channel.now.message.id;
+    } };
+}
+
+impl<T: Drop, P: Ord + Drop, J: Recording, A: Allocator + Copy> Witnessed<T, P, Waiter<A>, J, A> {
+    /// Receives a pair once there is one, as `recv_blocking`, but as a future, which gives the pass
+    /// back with its reply.
+    ///
+    /// ```
+    /// let (received, pass) = block_on(rt, channel.recv(rt, pass))?;
+    /// ```
+    pub fn recv<'a, R: Wait>(
+        &'a self,
+        rt: &'a R,
+        pass: Pass<T, P, Waiter<A>, J>,
+    ) -> Recv<'a, T, P, Waiter<A>, R, J, A>
+        ensures holds { result.holds ≡ Some (pass, record {}) }
+        ensures fresh { result.ticket ≡ None }
     {
-        if let Some(ticket) = ticket {
-            self.give_up(rt, pass, ticket);
+        Waits::new(self, rt, pass, Receive)
+    }
+
+    /// Sends a pair once there is room, as `send_blocking`, but as a future, which gives the pass
+    /// back with its reply.
+    ///
+    /// ```
+    /// let (sent, pass) = block_on(rt, channel.send(rt, pass, "Foo", 0))?;
+    /// ```
+    pub fn send<'a, R: Wait>(
+        &'a self,
+        rt: &'a R,
+        pass: Pass<T, P, Waiter<A>, J>,
+        msg: T,
+        priority: P,
+    ) -> Send<'a, T, P, Waiter<A>, R, J, A>
+        ensures holds { result.holds ≡ Some (pass, (msg, priority)) }
+        ensures fresh { result.ticket ≡ None }
+    {
+        Waits::new(self, rt, pass, (msg, priority))
+    }
+
+    /// Sends all pairs of a vector, in order, as `sendv_blocking`, but as a future, which gives the
+    /// pass back with its reply.
+    ///
+    /// ```
+    /// let (sent, pass) = block_on(rt, channel.sendv(rt, pass, jobs.into_iter().peekable()))?;
+    /// ```
+    pub fn sendv<'a, R: Wait>(
+        &'a self,
+        rt: &'a R,
+        pass: Pass<T, P, Waiter<A>, J>,
+        msgs: Pairs<T, P, A>,
+    ) -> Sendv<'a, T, P, Waiter<A>, R, J, A>
+        ensures holds { result.holds ≡ Some (pass, msgs) }
+        ensures fresh { result.ticket ≡ None }
+    {
+        Waits::new(self, rt, pass, msgs)
+    }
+}
+
+impl<
+    'a,
+    C: Attempt<T, P, Waiter<A>, J, A>,
+    T,
+    P: Ord,
+    R: Wait,
+    J: Recording,
+    A: Allocator + Copy,
+> Waits<'a, C, T, P, Waiter<A>, R, J, A> {
+    fn new(
+        channel: &'a Witnessed<T, P, Waiter<A>, J, A>,
+        rt: &'a R,
+        pass: Pass<T, P, Waiter<A>, J>,
+        call: C,
+    ) -> Self
+        ensures holds { result.holds ≡ Some (pass, call) }
+        ensures fresh { result.ticket ≡ None }
+    {
+        Waits {
+            channel,
+            rt,
+            holds: Some((pass, call)),
+            ticket: None,
+            waiter: None,
         }
     }
 
-    // It leaves the channel.
-    fn withdraw<R: Wait>(&self, rt: &R, mut pass: Pass<T, P, W, J>, ticket: Option<u64>) {
-        self.unlist(rt, &mut pass, ticket);
-        self.leave(rt, pass);
+    // A try, where the task is not listed.
+    fn try_first(&self, pass: &mut Pass<T, P, Waiter<A>, J>, call: C) -> Result<C::Reply, C>
+        ensures answered { IfOk result (λ reply. C.comes pass.old call (answered reply) pass.new) }
+        ensures goes_on { IfErr result (λ rest. (ending : _) (later : _)
+            → C.comes pass.new rest ending later → C.comes pass.old call ending later) }
+    {
+        if self.ticket.is_some() {
+            return Err(call);
+        }
+        call.now(self.channel, self.rt, pass)
+    }
+
+    // Leaves the task's waker, and is answered or listed; or ends, for want of memory.
+    fn list(
+        &mut self,
+        cx: &mut Context<'_>,
+        pass: &mut Pass<T, P, Waiter<A>, J>,
+        call: C,
+    ) -> Result<C::Reply, C>
+        ensures answered { IfOk result (λ reply. C.comes pass.old call (answered reply) pass.new) }
+        ensures listed { IfErr result (λ rest.
+            C.comes pass.old call (listed rest self.old.ticket self.new.ticket) pass.new) }
+        ensures goes_on { IfErr result (λ rest. (ending : _) (later : _)
+            → C.comes pass.new rest ending later → C.comes pass.old call ending later) }
+        ensures registered { IfErr result (λ _. Covers cx.new (λ source.
+            source ≡ self.new.source)) }
+        ensures kept { Keeps cx.old cx.new }
+        ensures source { self.new.source ≡ self.old.source }
+        ensures holds { self.new.holds ≡ self.old.holds }
+    {
+        let channel = self.channel;
+        let rt = self.rt;
+        let party = &mut self.waiter;
+        let Some(waiter) = Waiter::register_party(rt, channel.alloc, cx, C::source(channel), party)
+        else {
+            return match channel.last(rt, pass, call, self.ticket) {
+                Ok(reply) => Ok(reply),
+                Err(rest) => Ok(rest.refuse()),
+            };
+        };
+        match call.or_list(channel, rt, pass, self.ticket, waiter) {
+            Ok(reply) => Ok(reply),
+            Err((rest, given)) => {
+                self.ticket = Some(given);
+                Err(rest)
+            }
+        }
+    }
+}
+
+impl<
+    C: Attempt<T, P, Waiter<A>, J, A> + Drop,
+    T: Drop,
+    P: Ord + Drop,
+    R: Wait,
+    J: Recording,
+    A: Allocator + Copy,
+> Future for Waits<'_, C, T, P, Waiter<A>, R, J, A> {
+    type Output = (C::Reply, Pass<T, P, Waiter<A>, J>);
+
+    ghost needs = { λ f source. source ≡ f.source };
+
+    ghost gives = { λ f given. Gives C.comes f.holds given };
+
+    fn poll(&mut self, cx: &mut Context<'_>) -> Poll<Self::Output>
+        ensures value { IfReady result (Gives C.comes self.old.holds) }
+        ensures again { OnPending result ⊤ }
+        ensures same { OnPending result ((x : _)
+            → Gives C.comes self.new.holds x → Gives C.comes self.old.holds x) }
+        ensures registered { OnPending result (Covers cx.new (λ source.
+            source ≡ self.new.source)) }
+        ensures kept { Keeps cx.old cx.new }
+        ensures answered { IfReady result (λ _. self.new.holds ≡ None) }
+        ensures waits { OnPending result (WaitsOn C.comes self.old self.new) }
+        ensures done { self.old.holds ≡ None → (result ≡ Poll.Pending) × (self.new ≡ self.old) }
+    {
+        let Some((mut pass, call)) = self.holds.take() else {
+            return cx.yield_now();
+        };
+        match self.try_first(&mut pass, call) {
+            Ok(reply) => Poll::Ready((reply, pass)),
+            Err(rest) => match self.list(cx, &mut pass, rest) {
+                Ok(reply) => Poll::Ready((reply, pass)),
+                Err(rest) => {
+                    self.holds = Some((pass, rest));
+                    Poll::Pending
+                }
+            },
+        }
+    }
+}
+
+impl<
+    C: Attempt<T, P, W, J, A> + Drop,
+    T: Drop,
+    P: Ord + Drop,
+    W: Clone + Drop,
+    R: Wait,
+    J: Recording,
+    A: Allocator + Copy,
+> Drop for Waits<'_, C, T, P, W, R, J, A> {
+    fn drop(self) {
+        let Waits {
+            channel,
+            rt,
+            holds,
+            ticket,
+            waiter,
+        } = self;
+        if let Some((mut pass, rest)) = holds {
+            if let Some(ticket) = ticket {
+                channel.give_up(rt, &mut pass, ticket);
+            }
+            channel.leave(rt, pass);
+            drop(rest);
+        }
+        // A waker wakes as it is dropped.
+        drop(waiter);
     }
 }

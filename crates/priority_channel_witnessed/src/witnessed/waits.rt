@@ -14,27 +14,100 @@
 //! Whom a call hands out cannot be let go, so a body that forgets to wake them does not compile.
 //! That a wake arrives is no part of a contract, nor is the time: both are tested. A thread that
 //! waits takes memory for its waiter and for its place in the list.
-ghost use Rattle.std.specs.Prelude.{◌≡◌};
-ghost use Rattle.priority_channel_witnessed.specs.Waits.{sent_or_over};
+ghost use Rattle.std.specs.Prelude.{◌≡◌, IfOk, IfErr};
+ghost use Rattle.priority_channel_witnessed.specs.Futures.{answered, blocked};
 
-use priority_channel_core::errors::{SendError, SendFault};
-use priority_channel_waiting::timeouts::SendTimeoutError;
+use crate::attempt::Attempt;
+use crate::chronicle::Pass;
+use crate::witnessed::Witnessed;
+use priority_channel_chronicle::Recording;
+use priority_channel_waiting::until::Until;
+use priority_channel_waiting::waiter::Waiter;
+use std::alloc::Allocator;
+use std::sync::{Wait, WaitMethods};
 
 mod recv;
 mod send;
 mod sendv;
 
-// What a send answered; or what it has not sent, and evidence that its time is over.
-type Sent<C, O> = Result<Result<(), SendFault<C>>, (C, O)>;
+impl<T, P: Ord, J: Recording, A: Allocator + Copy> Witnessed<T, P, Waiter<A>, J, A> {
+    // Calls at once, or waits, where the time is not over.
+    fn wait<C: Attempt<T, P, Waiter<A>, J, A>, R: Wait, U: Until>(
+        &self,
+        rt: &R,
+        pass: &mut Pass<T, P, Waiter<A>, J>,
+        call: C,
+        until: &U,
+    ) -> Result<C::Reply, (C, U::Over)>
+        ensures answered { IfOk result (λ reply. C.comes pass.old call (answered reply) pass.new) }
+        ensures over { IfErr result (λ rest. C.comes pass.old call (blocked rest.0) pass.new) }
+    {
+        match call.now(self, rt, pass) {
+            Ok(reply) => Ok(reply),
+            Err(rest) => {
+                if let Err(over) = until.left() {
+                    return Err((rest, over));
+                }
+                match Waiter::new(self.alloc) {
+                    Ok(waiter) => self.wait_parked(rt, pass, rest, until, &waiter),
+                    Err(_) => Ok(rest.refuse()),
+                }
+            }
+        }
+    }
 
-// The same, as a caller with a limit is told it.
-fn in_time<C, O: Drop>(sent: Sent<C, O>) -> Result<(), SendTimeoutError<C>>
-    ensures { result ≡ sent_or_over sent }
-{
-    match sent {
-        Ok(Ok(())) => Ok(()),
-        Ok(Err(SendFault::Closed(SendError(rest)))) => Err(SendTimeoutError::Closed(rest)),
-        Ok(Err(SendFault::Memory(rest))) => Err(SendTimeoutError::Memory(rest)),
-        Err((rest, _over)) => Err(SendTimeoutError::Timeout(rest)),
+    // Is listed, and sleeps until it is answered or the time is over.
+    fn wait_parked<C: Attempt<T, P, Waiter<A>, J, A>, R: Wait, U: Until>(
+        &self,
+        rt: &R,
+        pass: &mut Pass<T, P, Waiter<A>, J>,
+        call: C,
+        until: &U,
+        waiter: &Waiter<A>,
+    ) -> Result<C::Reply, (C, U::Over)>
+        ensures answered { IfOk result (λ reply. C.comes pass.old call (answered reply) pass.new) }
+        ensures over { IfErr result (λ rest. C.comes pass.old call (blocked rest.0) pass.new) }
+    {
+        let mut rest = call;
+        let mut ticket = None;
+        for _ in rt.forever() {
+            match rest.or_list(self, rt, pass, ticket, waiter) {
+                Ok(reply) => return Ok(reply),
+                Err((kept, given)) => match until.left() {
+                    Ok(left) => {
+                        waiter.park(rt, left);
+                        ticket = Some(given);
+                        rest = kept;
+                    }
+                    Err(over) => {
+                        return match self.last(rt, pass, kept, Some(given)) {
+                            Ok(reply) => Ok(reply),
+                            Err(rest) => Err((rest, over)),
+                        };
+                    }
+                },
+            }
+        }
+        unreachable!()
+    }
+
+    // Waits no more, and calls once more.
+    pub(crate) fn last<C: Attempt<T, P, Waiter<A>, J, A>, R: Wait>(
+        &self,
+        rt: &R,
+        pass: &mut Pass<T, P, Waiter<A>, J>,
+        call: C,
+        ticket: Option<u64>,
+    ) -> Result<C::Reply, C>
+        ensures answered { IfOk result (λ reply. C.comes pass.old call (answered reply) pass.new) }
+        ensures blocked { IfErr result (λ rest. C.comes pass.old call (blocked rest) pass.new) }
+        ensures refused { IfErr result
+            (λ rest. C.comes pass.old call (answered (C.no_memory rest)) pass.new) }
+    {
+        let Some(ticket) = ticket else {
+            return call.now(self, rt, pass);
+        };
+        call.give_up(self, rt, pass, ticket);
+        call.now(self, rt, pass)
     }
 }

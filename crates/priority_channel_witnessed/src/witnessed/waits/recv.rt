@@ -1,17 +1,16 @@
 //! Receiving a pair on a thread that waits for it.
-ghost use Rattle.priority_channel_witnessed.specs.Passes.{Tells};
-ghost use Rattle.priority_channel_witnessed.specs.Waits.{IsAnswered, AnswersRecv, recv_in_time, received_or_over};
+ghost use Rattle.priority_channel_witnessed.specs.Waits.{IsAnswered, AnswersRecv, recv_in_time};
 
+use crate::attempt::Receive;
 use crate::chronicle::Pass;
 use crate::witnessed::Witnessed;
 use priority_channel_chronicle::Recording;
-use priority_channel_core::calls::{Answer, Call, CorePoll};
-use priority_channel_core::errors::{RecvError, RecvFault, TryRecvError};
+use priority_channel_core::errors::RecvFault;
 use priority_channel_waiting::timeouts::RecvTimeoutError;
-use priority_channel_waiting::until::{Deadline, Endless, Until};
-use priority_channel_waiting::waiter::{Waiter, wake_all};
+use priority_channel_waiting::until::{Deadline, Endless};
+use priority_channel_waiting::waiter::Waiter;
 use std::alloc::Allocator;
-use std::sync::{Wait, WaitMethods};
+use std::sync::Wait;
 use std::time::{Clock, Duration, Instant};
 
 impl<T, P: Ord, J: Recording, A: Allocator + Copy> Witnessed<T, P, Waiter<A>, J, A> {
@@ -33,9 +32,9 @@ impl<T, P: Ord, J: Recording, A: Allocator + Copy> Witnessed<T, P, Waiter<A>, J,
         ensures { IsAnswered P.cmp ⟦<Waiter<A> as Clone>⟧.is_clone J.capacity J.is_reserved
             pass.old (AnswersRecv (recv_in_time result)) pass.new }
     {
-        match self.recv_until(rt, pass, &Endless) {
+        match self.wait(rt, pass, Receive, &Endless) {
             Ok(received) => received,
-            Err(never) => match never {},
+            Err((_receive, never)) => match never {},
         }
     }
 
@@ -64,9 +63,9 @@ impl<T, P: Ord, J: Recording, A: Allocator + Copy> Witnessed<T, P, Waiter<A>, J,
             pass.old (AnswersRecv result) pass.new }
     {
         let deadline = Deadline::after(rt, timeout);
-        match self.recv_until(rt, pass, &deadline) {
+        match self.wait(rt, pass, Receive, &deadline) {
             Ok(received) => Ok(received?),
-            Err(_overdue) => Err(RecvTimeoutError::Timeout),
+            Err((_receive, _overdue)) => Err(RecvTimeoutError::Timeout),
         }
     }
 
@@ -81,111 +80,9 @@ impl<T, P: Ord, J: Recording, A: Allocator + Copy> Witnessed<T, P, Waiter<A>, J,
             pass.old (AnswersRecv result) pass.new }
     {
         let deadline = Deadline::at(rt, deadline);
-        match self.recv_until(rt, pass, &deadline) {
+        match self.wait(rt, pass, Receive, &deadline) {
             Ok(received) => Ok(received?),
-            Err(_overdue) => Err(RecvTimeoutError::Timeout),
+            Err((_receive, _overdue)) => Err(RecvTimeoutError::Timeout),
         }
-    }
-
-    // Receives at once, or waits, where the time is not over.
-    fn recv_until<R: Wait, U: Until>(
-        &self,
-        rt: &R,
-        pass: &mut Pass<T, P, Waiter<A>, J>,
-        until: &U,
-    ) -> Result<Result<(T, P), RecvFault>, U::Over>
-        ensures { IsAnswered P.cmp ⟦<Waiter<A> as Clone>⟧.is_clone J.capacity J.is_reserved
-            pass.old (AnswersRecv (received_or_over result)) pass.new }
-    {
-        match self.recv_now(rt, pass) {
-            Ok(pair) => Ok(Ok(pair)),
-            Err(TryRecvError::Closed) => Ok(Err(RecvFault::Closed(RecvError))),
-            Err(TryRecvError::Empty) => {
-                if let Err(over) = until.left() {
-                    return Err(over);
-                }
-                match Waiter::new(self.alloc) {
-                    Ok(waiter) => self.recv_parked(rt, pass, until, &waiter),
-                    Err(_) => Ok(Err(RecvFault::Memory)),
-                }
-            }
-        }
-    }
-
-    // Is listed for a message, and sleeps until one comes or the time is over.
-    fn recv_parked<R: Wait, U: Until>(
-        &self,
-        rt: &R,
-        pass: &mut Pass<T, P, Waiter<A>, J>,
-        until: &U,
-        waiter: &Waiter<A>,
-    ) -> Result<Result<(T, P), RecvFault>, U::Over>
-        ensures { IsAnswered P.cmp ⟦<Waiter<A> as Clone>⟧.is_clone J.capacity J.is_reserved
-            pass.old (AnswersRecv (received_or_over result)) pass.new }
-    {
-        let mut ticket = None;
-        for _ in rt.forever() {
-            match self.recv_or_list(rt, pass, ticket, waiter) {
-                CorePoll::Ready(received) => return Ok(received),
-                CorePoll::Pending((), given) => match until.left() {
-                    Ok(left) => {
-                        waiter.park(rt, left);
-                        ticket = Some(given);
-                    }
-                    Err(over) => return self.recv_last(rt, pass, given, over),
-                },
-            }
-        }
-        unreachable!()
-    }
-
-    // Waits no more, and receives what has come by then.
-    fn recv_last<R: Wait, O: Drop>(
-        &self,
-        rt: &R,
-        pass: &mut Pass<T, P, Waiter<A>, J>,
-        ticket: u64,
-        over: O,
-    ) -> Result<Result<(T, P), RecvFault>, O>
-        ensures { IsAnswered P.cmp ⟦<Waiter<A> as Clone>⟧.is_clone J.capacity J.is_reserved
-            pass.old (AnswersRecv (received_or_over result)) pass.new }
-    {
-        self.give_up(rt, pass, ticket);
-        match self.recv_now(rt, pass) {
-            Ok(pair) => Ok(Ok(pair)),
-            Err(TryRecvError::Closed) => Ok(Err(RecvFault::Closed(RecvError))),
-            Err(TryRecvError::Empty) => Err(over),
-        }
-    }
-
-    // `try_recv`, and wakes whom it hands out.
-    pub(crate) fn recv_now<R: Wait>(
-        &self,
-        rt: &R,
-        pass: &mut Pass<T, P, Waiter<A>, J>,
-    ) -> Result<(T, P), TryRecvError>
-        ensures { (handed : _) × Tells P.cmp ⟦<Waiter<A> as Clone>⟧.is_clone J.capacity
-            J.is_reserved pass.old Call.TryRecv (Answer.TryRecv result) handed pass.new }
-    {
-        let (received, wakes) = self.try_recv(rt, pass);
-        wake_all(rt, wakes);
-        received
-    }
-
-    // `poll_recv`, and wakes whom it hands out.
-    pub(crate) fn recv_or_list<R: Wait>(
-        &self,
-        rt: &R,
-        pass: &mut Pass<T, P, Waiter<A>, J>,
-        ticket: Option<u64>,
-        waiter: &Waiter<A>,
-    ) -> CorePoll<Result<(T, P), RecvFault>, ()>
-        ensures { (handed : _) × Tells P.cmp ⟦<Waiter<A> as Clone>⟧.is_clone J.capacity
-            J.is_reserved pass.old (Call.PollRecv ticket waiter.now)
-            (Answer.PollRecv result) handed pass.new }
-    {
-        let (polled, wakes) = self.poll_recv(rt, pass, ticket, waiter);
-        wake_all(rt, wakes);
-        polled
     }
 }

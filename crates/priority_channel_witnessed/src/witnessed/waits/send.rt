@@ -4,19 +4,18 @@ ghost use Rattle.priority_channel_core.specs.Errors.{rest_of, unsent};
 ghost use Rattle.priority_channel_core.specs.code.Replies.{kept_by};
 ghost use Rattle.priority_channel_waiting.specs.Waits.{unsent_in_time};
 ghost use Rattle.priority_channel_witnessed.specs.Passes.{Tells};
-ghost use Rattle.priority_channel_witnessed.specs.Waits.{IsAnswered, AnswersSend, send_in_time, sent_or_over};
+ghost use Rattle.priority_channel_witnessed.specs.Waits.{IsAnswered, AnswersSend, send_in_time};
 
 use crate::chronicle::Pass;
 use crate::witnessed::Witnessed;
-use crate::witnessed::waits::{Sent, in_time};
 use priority_channel_chronicle::Recording;
 use priority_channel_core::calls::{Answer, Call, CorePoll};
-use priority_channel_core::errors::{SendError, SendFault, TrySendError};
+use priority_channel_core::errors::{SendFault, TrySendError};
 use priority_channel_waiting::timeouts::SendTimeoutError;
-use priority_channel_waiting::until::{Deadline, Endless, Until};
+use priority_channel_waiting::until::{Deadline, Endless};
 use priority_channel_waiting::waiter::{Waiter, wake_all};
 use std::alloc::Allocator;
-use std::sync::{Wait, WaitMethods};
+use std::sync::Wait;
 use std::time::{Clock, Duration, Instant};
 
 impl<T, P: Ord, J: Recording, A: Allocator + Copy> Witnessed<T, P, Waiter<A>, J, A> {
@@ -41,7 +40,7 @@ impl<T, P: Ord, J: Recording, A: Allocator + Copy> Witnessed<T, P, Waiter<A>, J,
             pass.old (AnswersSend msg priority (send_in_time result)) pass.new }
         ensures unsent { IfErr result (λ fault. unsent fault ≡ (msg, priority)) }
     {
-        match self.send_until(rt, pass, (msg, priority), &Endless) {
+        match self.wait(rt, pass, (msg, priority), &Endless) {
             Ok(sent) => sent,
             Err((_unsent, never)) => match never {},
         }
@@ -67,7 +66,10 @@ impl<T, P: Ord, J: Recording, A: Allocator + Copy> Witnessed<T, P, Waiter<A>, J,
         ensures unsent { IfErr result (λ error. unsent_in_time error ≡ (msg, priority)) }
     {
         let deadline = Deadline::after(rt, timeout);
-        in_time(self.send_until(rt, pass, (msg, priority), &deadline))
+        match self.wait(rt, pass, (msg, priority), &deadline) {
+            Ok(sent) => Ok(sent?),
+            Err((unsent, _overdue)) => Err(SendTimeoutError::Timeout(unsent)),
+        }
     }
 
     /// As `send_timeout`, but waits no longer than until then.
@@ -84,87 +86,9 @@ impl<T, P: Ord, J: Recording, A: Allocator + Copy> Witnessed<T, P, Waiter<A>, J,
         ensures unsent { IfErr result (λ error. unsent_in_time error ≡ (msg, priority)) }
     {
         let deadline = Deadline::at(rt, deadline);
-        in_time(self.send_until(rt, pass, (msg, priority), &deadline))
-    }
-
-    // Sends at once, or waits, where the time is not over.
-    fn send_until<R: Wait, U: Until>(
-        &self,
-        rt: &R,
-        pass: &mut Pass<T, P, Waiter<A>, J>,
-        pair: (T, P),
-        until: &U,
-    ) -> Sent<(T, P), U::Over>
-        ensures told { IsAnswered P.cmp ⟦<Waiter<A> as Clone>⟧.is_clone J.capacity J.is_reserved
-            pass.old (AnswersSend pair.0 pair.1 (sent_or_over result)) pass.new }
-        ensures unsent { IfErr (sent_or_over result) (λ error. unsent_in_time error ≡ pair) }
-    {
-        match self.send_now(rt, pass, pair) {
-            Ok(()) => Ok(Ok(())),
-            Err(TrySendError::Closed(pair)) => Ok(Err(SendFault::Closed(SendError(pair)))),
-            Err(TrySendError::Memory(pair)) => Ok(Err(SendFault::Memory(pair))),
-            Err(TrySendError::Full(pair)) => {
-                if let Err(over) = until.left() {
-                    return Err((pair, over));
-                }
-                match Waiter::new(self.alloc) {
-                    Ok(waiter) => self.send_parked(rt, pass, pair, until, &waiter),
-                    Err(_) => Ok(Err(SendFault::Memory(pair))),
-                }
-            }
-        }
-    }
-
-    // Is listed for room, and sleeps until there is some or the time is over.
-    fn send_parked<R: Wait, U: Until>(
-        &self,
-        rt: &R,
-        pass: &mut Pass<T, P, Waiter<A>, J>,
-        pair: (T, P),
-        until: &U,
-        waiter: &Waiter<A>,
-    ) -> Sent<(T, P), U::Over>
-        ensures told { IsAnswered P.cmp ⟦<Waiter<A> as Clone>⟧.is_clone J.capacity J.is_reserved
-            pass.old (AnswersSend pair.0 pair.1 (sent_or_over result)) pass.new }
-        ensures unsent { IfErr (sent_or_over result) (λ error. unsent_in_time error ≡ pair) }
-    {
-        let mut rest = pair;
-        let mut ticket = None;
-        for _ in rt.forever() {
-            match self.send_or_list(rt, pass, rest, ticket, waiter) {
-                CorePoll::Ready(sent) => return Ok(sent),
-                CorePoll::Pending(kept, given) => match until.left() {
-                    Ok(left) => {
-                        waiter.park(rt, left);
-                        ticket = Some(given);
-                        rest = kept;
-                    }
-                    Err(over) => return self.send_last(rt, pass, kept, given, over),
-                },
-            }
-        }
-        unreachable!()
-    }
-
-    // Waits no more, and sends where there is room by then.
-    fn send_last<R: Wait, O: Drop>(
-        &self,
-        rt: &R,
-        pass: &mut Pass<T, P, Waiter<A>, J>,
-        pair: (T, P),
-        ticket: u64,
-        over: O,
-    ) -> Sent<(T, P), O>
-        ensures told { IsAnswered P.cmp ⟦<Waiter<A> as Clone>⟧.is_clone J.capacity J.is_reserved
-            pass.old (AnswersSend pair.0 pair.1 (sent_or_over result)) pass.new }
-        ensures unsent { IfErr (sent_or_over result) (λ error. unsent_in_time error ≡ pair) }
-    {
-        self.give_up(rt, pass, ticket);
-        match self.send_now(rt, pass, pair) {
-            Ok(()) => Ok(Ok(())),
-            Err(TrySendError::Closed(pair)) => Ok(Err(SendFault::Closed(SendError(pair)))),
-            Err(TrySendError::Memory(pair)) => Ok(Err(SendFault::Memory(pair))),
-            Err(TrySendError::Full(pair)) => Err((pair, over)),
+        match self.wait(rt, pass, (msg, priority), &deadline) {
+            Ok(sent) => Ok(sent?),
+            Err((unsent, _overdue)) => Err(SendTimeoutError::Timeout(unsent)),
         }
     }
 
