@@ -139,9 +139,8 @@ fn a_dropped_future_gives_up_and_leaves(rt: HostRuntime) {
 fn send_many<J: Recording, R: Host>(
     rt: &R,
     channel: &Channel<J>,
-    pass: Caller<J>,
+    mut pass: Caller<J>,
 ) -> (u64, Caller<J>) {
-    let mut pass = pass;
     let mut sent = 0u64;
     for number in 0..300u64 {
         let sending = channel.send(rt, pass, number, number % 7);
@@ -163,9 +162,8 @@ fn send_many<J: Recording, R: Host>(
 fn receive_many<J: Recording, R: Host>(
     rt: &R,
     channel: &Channel<J>,
-    pass: Caller<J>,
+    mut pass: Caller<J>,
 ) -> (u64, Caller<J>) {
-    let mut pass = pass;
     let mut received = 0u64;
     for _ in rt.forever() {
         let (answer, back) = block_on(rt, channel.recv(rt, pass)).expect(rt, "an executor");
