@@ -1,18 +1,22 @@
 //! Calls on four threads, waits among them, which a plain channel explains in some order.
-use super::scenes::{Host, Opening, WitnessedScene, witness};
+ghost use Rattle.std.specs.Prelude.{◌≡◌, false};
+ghost use Rattle.priority_channel_witnessed.specs.Log.{names};
+
 use super::{expect_equal, expect_equal_at};
 use mix::{Mix, make};
 use model::CAPACITY;
 use notes::{Call, Noted, Pair, Refusal, Reply, Way};
 use order::is_explained;
+use priority_channel_core::channel::PriorityQueueChannel;
 use priority_channel_waiting::waiter::Waiter;
-use priority_channel_witnessed::{Pass, Recording, Witnessed};
+use priority_channel_witnessed::{Fresh, Pass, Recording, Witnessed};
 use std::alloc::{AllocGlobal, Global};
+use std::marker::Brand;
 use std::process::Abort;
 use std::sync::atomic::{AtomicU64, Ordering};
 use std::sync::{Mutex, Wait};
+use std::thread::{self, Threads};
 use std::time::Clock;
-use std::{mem, thread};
 
 mod mix;
 mod model;
@@ -53,58 +57,48 @@ fn thousand<J: Recording, R: Wait + Clock>(
     pass
 }
 
-// Four threads make their calls, and note what they were told.
-#[derive(Drop)]
-struct Four<'a> {
-    stamps: &'a AtomicU64,
-    threads: &'a Mutex<Vec<Vec<Noted>>>,
-}
-
-impl WitnessedScene<u64, Waiter<Global>, Global> for Four<'_> {
-    fn play<J: Recording + Send + Sync, R: Host>(
-        self,
-        rt: &R,
-        channel: &Witnessed<u64, u64, Waiter<Global>, J>,
-        passes: &mut Vec<Pass<u64, u64, Waiter<Global>, J>>,
-    ) {
-        let alloc = rt.alloc();
-        let Four { stamps, threads } = self;
-        let all = mem::replace(passes, Vec::new(alloc));
-        *passes = thread::map_vec(
-            rt,
-            all,
-            &|pass| thousand(rt, alloc, channel, stamps, threads, pass),
-        )
-        .expect(rt, "memory for the passes");
+fn call_on_four_threads<
+    J: Recording + Send + Sync,
+    R: Threads + Wait + Clock + Sync + Abort + AllocGlobal,
+>(rt: &R, fresh: Fresh<u64, u64, Waiter<Global>>)
+    requires names { fresh ≡ names J.log J.capacity J.is_reserved J.name J.parts }
+    requires capacity { fresh.capacity ≡ 3 }
+    requires reserved { fresh.is_reserved ≡ false }
+    requires passes { fresh.passes ≡ 4 }
+{
+    let alloc = rt.alloc();
+    let core = PriorityQueueChannel::bounded(alloc, CAPACITY);
+    let made = Witnessed::<u64, u64, Waiter<Global>, J>::new(alloc, fresh, core, 4);
+    let (channel, passes) = made.expect(rt, "a channel");
+    let stamps = AtomicU64::new(0);
+    let threads = Mutex::new(Vec::new(alloc));
+    let shared = &channel;
+    let stamped = &stamps;
+    let noted = &threads;
+    let passes = thread::map_vec(
+        rt,
+        passes,
+        &|pass| thousand(rt, alloc, shared, stamped, noted, pass),
+    )
+    .expect(rt, "memory for the passes");
+    channel.end(rt, passes);
+    let mut threads = threads.into_inner();
+    let threads = [
+        threads.pop().expect(rt, "a thread"),
+        threads.pop().expect(rt, "a thread"),
+        threads.pop().expect(rt, "a thread"),
+        threads.pop().expect(rt, "a thread"),
+    ];
+    for notes in &threads {
+        expect_equal(rt, notes.len() as u64, CALLS);
     }
+    let is_explained = is_explained(rt, alloc, &threads).expect(rt, "memory for the search");
+    expect_equal(rt, is_explained, true);
 }
 
 #[test]
 fn an_order_explains_four_threads(rt: HostRuntime) {
-    let opening = Opening {
-        cap: CAPACITY,
-        is_reserved: false,
-        passes: 4,
-        parts: 4,
-    };
-    let threads = Mutex::new(Vec::new(rt.alloc()));
-    let scene = Four {
-        stamps: &AtomicU64::new(0),
-        threads: &threads,
-    };
-    witness(&rt, rt.alloc(), opening, scene);
-    let mut threads = threads.into_inner();
-    let threads = [
-        threads.pop().expect(&rt, "a thread"),
-        threads.pop().expect(&rt, "a thread"),
-        threads.pop().expect(&rt, "a thread"),
-        threads.pop().expect(&rt, "a thread"),
-    ];
-    for notes in &threads {
-        expect_equal(&rt, notes.len() as u64, CALLS);
-    }
-    let is_explained = is_explained(&rt, rt.alloc(), &threads);
-    expect_equal(&rt, is_explained.expect(&rt, "memory for the search"), true);
+    call_on_four_threads::<Brand, _>(&rt, Fresh::new(CAPACITY, false, 4));
 }
 
 fn sent(begin: u64, end: u64, pair: Pair) -> Noted {

@@ -1,130 +1,21 @@
 //! Witnessed channels: what their calls answer, and passes that come and go.
-ghost use Rattle.std.specs.Prelude.{◌≡◌};
+ghost use Rattle.std.specs.Prelude.{◌≡◌, false};
+ghost use Rattle.priority_channel_witnessed.specs.Log.{names};
 
 use super::expect_equal;
-use super::scenes::{Host, Opening, WitnessedScene, witness};
 use priority_channel_core::awaitable_atomics::Wakes;
 use priority_channel_core::calls::CorePoll;
+use priority_channel_core::channel::PriorityQueueChannel;
 use priority_channel_core::errors::{TryRecvError, TrySendError};
-use priority_channel_witnessed::{Pass, Recording, Waiter, Witnessed};
-use refusing::Refusing;
-use std::alloc::{Allocator, Global};
+use priority_channel_witnessed::{Fresh, Pass, Recording, Witnessed};
+use std::alloc::{AllocGlobal, Allocator, Global};
+use std::marker::Brand;
+use std::process::Abort;
 use std::sync::{Mutex, Wait};
-use std::{mem, thread};
+use std::thread::{self, Threads};
 
 mod tasks;
 mod waits;
-
-use tasks::{answer, drop_those_that_wait, receive_without_memory, relay};
-use waits::{block_on_four_threads, call_without_time, receive_in_time, send_in_time};
-
-type Channel<J, A = Global> = Witnessed<u64, u64, Waiter<A>, J, A>;
-
-type Caller<J, A = Global> = Pass<u64, u64, Waiter<A>, J>;
-
-type Passes<J, A = Global> = Vec<Caller<J, A>, A>;
-
-// A channel for one pair, whose memory is reserved.
-const RESERVED: Opening = Opening {
-    cap: 1,
-    is_reserved: true,
-    passes: 1,
-    parts: 1,
-};
-
-// A channel for so many pairs, with so many passes at first of so many parts.
-fn opening(cap: u64, passes: usize, parts: usize) -> Opening
-    ensures cap { result.cap ≡ cap }
-    ensures passes { result.passes ≡ passes }
-    ensures parts { result.parts ≡ parts }
-{
-    Opening {
-        cap,
-        is_reserved: false,
-        passes,
-        parts,
-    }
-}
-
-// Nobody waits, so a waker is nothing.
-type Plain<J> = Witnessed<u64, u64, (), J>;
-
-type PlainPasses<J> = Vec<Pass<u64, u64, (), J>>;
-
-/// What is played where nobody waits.
-#[derive(Drop)]
-enum Looks {
-    AllCalls,
-    Polls,
-    Guests,
-}
-
-impl WitnessedScene<u64, (), Global> for Looks {
-    fn play<J: Recording + Send + Sync, R: Host>(
-        self,
-        rt: &R,
-        channel: &Plain<J>,
-        passes: &mut PlainPasses<J>,
-    ) {
-        match self {
-            Looks::AllCalls => call_all(rt, channel, passes),
-            Looks::Polls => give_up(rt, channel, passes),
-            Looks::Guests => come_and_go(rt, channel, passes),
-        }
-    }
-}
-
-/// What is played where threads or tasks wait.
-#[derive(Drop)]
-enum Waiting<'a> {
-    Receives,
-    Sends,
-    FourThreads(&'a Mutex<(u64, u64)>),
-    Dropped,
-    Tasks,
-}
-
-impl WitnessedScene<u64, Waiter<Global>, Global> for Waiting<'_> {
-    fn play<J: Recording + Send + Sync, R: Host>(
-        self,
-        rt: &R,
-        channel: &Channel<J>,
-        passes: &mut Passes<J>,
-    ) {
-        match self {
-            Waiting::Receives => receive_in_time(rt, channel, passes),
-            Waiting::Sends => send_in_time(rt, channel, passes),
-            Waiting::FourThreads(counts) => block_on_four_threads(rt, channel, passes, counts),
-            Waiting::Dropped => drop_those_that_wait(rt, channel, passes),
-            Waiting::Tasks => relay(rt, channel, passes),
-        }
-    }
-}
-
-type Alloc<'a> = &'a Refusing<Global>;
-
-/// What is played where memory to wait is refused.
-#[derive(Drop)]
-enum Scarce<'a> {
-    WithoutTime(Alloc<'a>),
-    Futures(Alloc<'a>),
-    ComesInTime(Alloc<'a>),
-}
-
-impl<'a> WitnessedScene<u64, Waiter<Alloc<'a>>, Alloc<'a>> for Scarce<'a> {
-    fn play<J: Recording + Send + Sync, R: Host>(
-        self,
-        rt: &R,
-        channel: &Channel<J, Alloc<'a>>,
-        passes: &mut Passes<J, Alloc<'a>>,
-    ) {
-        match self {
-            Scarce::WithoutTime(alloc) => call_without_time(rt, channel, passes, alloc),
-            Scarce::Futures(alloc) => answer(rt, channel, passes, alloc),
-            Scarce::ComesInTime(alloc) => receive_without_memory(rt, channel, passes, alloc),
-        }
-    }
-}
 
 // Whom a call has handed out: the tickets of those who waited for room, and for a message.
 fn tickets<A: Allocator>(wakes: Wakes<(), A>) -> (Option<u64>, Option<u64>) {
@@ -138,7 +29,15 @@ fn tickets<A: Allocator>(wakes: Wakes<(), A>) -> (Option<u64>, Option<u64>) {
 const NOBODY: (Option<u64>, Option<u64>) = (None, None);
 
 // Each call answers as the core's does.
-fn call_all<J: Recording, R: Host>(rt: &R, channel: &Plain<J>, passes: &mut PlainPasses<J>) {
+fn call_all<J: Recording, R: Wait + Abort + AllocGlobal>(rt: &R, fresh: Fresh<u64, u64, ()>)
+    requires names { fresh ≡ names J.log J.capacity J.is_reserved J.name J.parts }
+    requires capacity { fresh.capacity ≡ 1 }
+    requires reserved { fresh.is_reserved ≡ false }
+    requires passes { fresh.passes ≡ 1 }
+{
+    let core = PriorityQueueChannel::bounded(rt.alloc(), 1);
+    let made = Witnessed::<u64, u64, (), J>::new(rt.alloc(), fresh, core, 1);
+    let (channel, mut passes) = made.expect(rt, "a channel");
     let mut pass = passes.pop().expect(rt, "a pass");
     expect_equal(rt, channel.is_empty(rt, &mut pass), true);
     let (sent, wakes) = channel.try_send(rt, &mut pass, 1, 5);
@@ -158,20 +57,31 @@ fn call_all<J: Recording, R: Host>(rt: &R, channel: &Plain<J>, passes: &mut Plai
     let wanted = Err(TrySendError::Closed((3, 3)));
     expect_equal(rt, (closed, tickets(wakes)), (wanted, NOBODY));
     let (none, wakes) = channel.try_recv(rt, &mut pass);
-    let wanted = Err(TryRecvError::Closed);
-    expect_equal(rt, (none, tickets(wakes)), (wanted, NOBODY));
+    expect_equal(
+        rt,
+        (none, tickets(wakes)),
+        (Err(TryRecvError::Closed), NOBODY),
+    );
     expect_equal(rt, channel.capacity(rt, &mut pass), Some(1));
     passes.push(pass).expect(rt, "its own place");
+    channel.end(rt, passes);
 }
 
 #[test]
 fn calls_answer_as_the_core(rt: HostRuntime) {
-    let left = witness(&rt, rt.alloc(), opening(1, 1, 1), Looks::AllCalls);
-    expect_equal(&rt, left, 0);
+    call_all::<Brand, _>(&rt, Fresh::new(1, false, 1));
 }
 
 // A receive waits and is handed out by a send; a send waits, gives up, and is handed out no more.
-fn give_up<J: Recording, R: Host>(rt: &R, channel: &Plain<J>, passes: &mut PlainPasses<J>) {
+fn poll_and_give_up<J: Recording, R: Wait + Abort + AllocGlobal>(rt: &R, fresh: Fresh<u64, u64, ()>)
+    requires names { fresh ≡ names J.log J.capacity J.is_reserved J.name J.parts }
+    requires capacity { fresh.capacity ≡ 1 }
+    requires reserved { fresh.is_reserved ≡ false }
+    requires passes { fresh.passes ≡ 2 }
+{
+    let core = PriorityQueueChannel::bounded(rt.alloc(), 1);
+    let made = Witnessed::<u64, u64, (), J>::new(rt.alloc(), fresh, core, 2);
+    let (channel, mut passes) = made.expect(rt, "a channel");
     let mut one = passes.pop().expect(rt, "a pass");
     let mut zero = passes.pop().expect(rt, "a pass");
     let (polled, wakes) = channel.poll_recv(rt, &mut one, None, &());
@@ -192,40 +102,91 @@ fn give_up<J: Recording, R: Host>(rt: &R, channel: &Plain<J>, passes: &mut Plain
     expect_equal(rt, tickets(wakes), NOBODY);
     passes.push(zero).expect(rt, "its own place");
     passes.push(one).expect(rt, "its own place");
+    channel.end(rt, passes);
 }
 
 #[test]
 fn polls_hand_out_as_the_core(rt: HostRuntime) {
-    let left = witness(&rt, rt.alloc(), opening(1, 2, 2), Looks::Polls);
-    expect_equal(&rt, left, 0);
+    poll_and_give_up::<Brand, _>(&rt, Fresh::new(1, false, 2));
 }
 
-// To a channel of four parts, with one pass, two can come at a time. The first that came sends a
-// message and goes again before the last is asked for.
-fn come_and_go<J: Recording, R: Host>(rt: &R, channel: &Plain<J>, passes: &mut PlainPasses<J>) {
+// To a channel of four parts, with one pass, two can come at a time. The first that came goes again
+// before the last is asked for.
+fn come_and_go<J: Recording, R: Wait + Abort + AllocGlobal>(rt: &R, fresh: Fresh<u64, u64, ()>)
+    requires names { fresh ≡ names J.log J.capacity J.is_reserved J.name J.parts }
+    requires capacity { fresh.capacity ≡ 1 }
+    requires reserved { fresh.is_reserved ≡ false }
+    requires passes { fresh.passes ≡ 4 }
+{
+    let core = PriorityQueueChannel::bounded(rt.alloc(), 1);
+    let made = Witnessed::<u64, u64, (), J>::new(rt.alloc(), fresh, core, 1);
+    let (channel, mut passes) = made.expect(rt, "a channel");
     let own = passes.pop().expect(rt, "a pass");
     expect_equal(rt, own.number(), 0);
-    let mut one = channel.fork(rt, &own).expect(rt, "a pass to fork");
+    let one = channel.fork(rt, &own).expect(rt, "a pass to fork");
     expect_equal(rt, one.number(), 1);
     let two = channel.admit(rt).expect(rt, "a pass to admit");
     expect_equal(rt, two.number(), 2);
     expect_equal(rt, channel.admit(rt).is_none(), true);
-    let (_, wakes) = channel.try_send(rt, &mut one, 1, 1);
-    expect_equal(rt, tickets(wakes), NOBODY);
     channel.leave(rt, one);
-    let mut three = channel.fork(rt, &own).expect(rt, "a pass to fork");
+    let three = channel.fork(rt, &own).expect(rt, "a pass to fork");
     expect_equal(rt, three.number(), 3);
-    let (_, wakes) = channel.try_send(rt, &mut three, 2, 2);
-    expect_equal(rt, tickets(wakes), NOBODY);
-    for pass in [own, two, three] {
-        passes.push(pass).expect(rt, "memory");
-    }
 }
 
 #[test]
-fn passes_come_and_go(rt: HostRuntime) {
-    let left = witness(&rt, rt.alloc(), opening(2, 1, 4), Looks::Guests);
-    expect_equal(&rt, left, 2);
+fn each_pass_has_a_number_of_its_own(rt: HostRuntime) {
+    come_and_go::<Brand, _>(&rt, Fresh::new(1, false, 4));
+}
+
+// Two messages are sent, one of them with a pass that leaves. The first end is without a pass.
+fn end_twice<J: Recording, R: Wait + Abort + AllocGlobal>(rt: &R, fresh: Fresh<u64, u64, ()>)
+    requires names { fresh ≡ names J.log J.capacity J.is_reserved J.name J.parts }
+    requires capacity { fresh.capacity ≡ 2 }
+    requires reserved { fresh.is_reserved ≡ false }
+    requires passes { fresh.passes ≡ 4 }
+{
+    let core = PriorityQueueChannel::bounded(rt.alloc(), 2);
+    let made = Witnessed::<u64, u64, (), J>::new(rt.alloc(), fresh, core, 1);
+    let (channel, passes) = made.expect(rt, "a channel");
+    let mut guest = channel.admit(rt).expect(rt, "a pass to admit");
+    let (_, wakes) = channel.try_send(rt, &mut guest, 1, 1);
+    expect_equal(rt, tickets(wakes), NOBODY);
+    channel.leave(rt, guest);
+    let mut late = channel.admit(rt).expect(rt, "a pass to admit");
+    let (_, wakes) = channel.try_send(rt, &mut late, 2, 2);
+    expect_equal(rt, tickets(wakes), NOBODY);
+    let Err((channel, mut passes)) = channel.try_end(rt, passes) else {
+        panic!(rt; "it ended while a pass was out");
+    };
+    passes.push(late).expect(rt, "memory");
+    let Ok((core, _seen)) = channel.try_end(rt, passes) else {
+        panic!(rt; "it did not end with all passes");
+    };
+    expect_equal(rt, core.len(), 2);
+}
+
+#[test]
+fn it_ends_once_all_have_come_back(rt: HostRuntime) {
+    end_twice::<Brand, _>(&rt, Fresh::new(2, false, 4));
+}
+
+// It ends with no entry.
+fn end_at_once<J: Recording, R: Wait + Abort + AllocGlobal>(rt: &R, fresh: Fresh<u64, u64, ()>)
+    requires names { fresh ≡ names J.log J.capacity J.is_reserved J.name J.parts }
+    requires capacity { fresh.capacity ≡ 1 }
+    requires reserved { fresh.is_reserved ≡ false }
+    requires passes { fresh.passes ≡ 1 }
+{
+    let core = PriorityQueueChannel::bounded(rt.alloc(), 1);
+    let made = Witnessed::<u64, u64, (), J>::new(rt.alloc(), fresh, core, 1);
+    let (channel, passes) = made.expect(rt, "a channel");
+    let (core, _seen) = channel.end(rt, passes);
+    expect_equal(rt, core.len(), 0);
+}
+
+#[test]
+fn it_ends_without_a_call(rt: HostRuntime) {
+    end_at_once::<Brand, _>(&rt, Fresh::new(1, false, 1));
 }
 
 // The calls of one pass, with texts, which are no `Copy`. Counts what was sent and received.
@@ -272,36 +233,40 @@ fn call_by_guests<J: Recording, R: Wait>(
     own
 }
 
-#[derive(Drop)]
-struct Four<'a> {
-    counts: &'a Mutex<(u64, u64)>,
-}
-
-impl WitnessedScene<String, (), Global> for Four<'_> {
-    fn play<J: Recording + Send + Sync, R: Host>(
-        self,
-        rt: &R,
-        channel: &Witnessed<String, u64, (), J>,
-        passes: &mut Vec<Pass<String, u64, (), J>>,
-    ) {
-        let alloc = rt.alloc();
-        let counts = self.counts;
-        let all = mem::replace(passes, Vec::new(alloc));
-        *passes = thread::map_vec(
-            rt,
-            all,
-            &|pass| call_by_guests(rt, alloc, channel, counts, pass),
-        )
-        .expect(rt, "memory for the passes");
-    }
+fn call_on_four_threads<J: Recording + Send + Sync, R: Threads + Wait + Sync + Abort + AllocGlobal>(
+    rt: &R,
+    fresh: Fresh<String, u64, ()>,
+)
+    requires names { fresh ≡ names J.log J.capacity J.is_reserved J.name J.parts }
+    requires capacity { fresh.capacity ≡ 3 }
+    requires reserved { fresh.is_reserved ≡ false }
+    requires passes { fresh.passes ≡ 7 }
+{
+    let alloc = rt.alloc();
+    let core = PriorityQueueChannel::bounded(alloc, 3);
+    let made = Witnessed::<String, u64, (), J>::new(alloc, fresh, core, 4);
+    let (channel, passes) = made.expect(rt, "a channel");
+    let counts = Mutex::new((0u64, 0u64));
+    let shared = &channel;
+    let counted = &counts;
+    let passes = thread::map_vec(
+        rt,
+        passes,
+        &|pass| call_by_guests(rt, alloc, shared, counted, pass),
+    )
+    .expect(rt, "memory for the passes");
+    let Ok((core, _seen)) = channel.try_end(rt, passes) else {
+        panic!(rt; "a pass is missing");
+    };
+    let (sent, received) = counts.into_inner();
+    expect_equal(
+        rt,
+        (sent > 0, sent),
+        (true, received.wrapping_add(core.len())),
+    );
 }
 
 #[test]
 fn passes_come_and_go_on_four_threads(rt: HostRuntime) {
-    let counts = Mutex::new((0u64, 0u64));
-    let scene = Four { counts: &counts };
-    let left = witness(&rt, rt.alloc(), opening(3, 4, 7), scene);
-    let (sent, received) = counts.into_inner();
-    let wanted = (true, received.wrapping_add(left));
-    expect_equal(&rt, (sent > 0, sent), wanted);
+    call_on_four_threads::<Brand, _>(&rt, Fresh::new(3, false, 7));
 }

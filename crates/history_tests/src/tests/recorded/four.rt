@@ -1,16 +1,15 @@
 //! Four threads with a pass each, whose history is replayed on a plain list.
-use super::{Passes, Plenty};
-use crate::tests::scenes::{Host, record};
+ghost use Rattle.std.specs.Prelude.{◌≡◌};
+ghost use Rattle.priority_channel_recorded.specs.Log.{names};
+
 use crate::tests::{expect_equal, expect_equal_at};
 use priority_channel_core::errors::{TryRecvError, TrySendError};
-use priority_channel_recorded::{Call, Entry, Pass, Recorded, Recording, Reply};
-use std::alloc::Global;
+use priority_channel_recorded::{Call, Entry, Fresh, Pass, Recorded, Recording, Reply};
+use std::alloc::{AllocGlobal, Global};
+use std::marker::Brand;
 use std::process::Abort;
 use std::sync::{Mutex, Wait};
-use std::{mem, thread};
-
-/// The entries of each thread.
-pub(super) type Told = Mutex<Vec<Vec<Entry<u64, u64>>>>;
+use std::thread::{self, Threads};
 
 const CAPACITY: u64 = 3;
 
@@ -33,7 +32,7 @@ fn thousand<J: Recording, R: Wait>(
     rt: &R,
     recorder: &Recorded<u64, u64, J>,
     alloc: Global,
-    told: &Told,
+    told: &Mutex<Vec<Vec<Entry<u64, u64>>>>,
     mut pass: Pass<u64, u64, J>,
 ) -> Pass<u64, u64, J> {
     let who = pass.number();
@@ -113,35 +112,28 @@ impl Plain {
     }
 }
 
-/// Four threads make their calls, and note what they were told.
-pub(super) fn call_on_four_threads<J: Recording + Send + Sync, R: Host>(
+fn make_one_history<J: Recording + Send + Sync, R: Threads + Wait + Sync + Abort + AllocGlobal>(
     rt: &R,
-    recorder: &Recorded<u64, u64, J>,
-    passes: &mut Passes<J>,
-    told: &Told,
-) {
+    fresh: Fresh<u64, u64>,
+)
+    requires names { fresh ≡ names J.log J.capacity J.is_reserved J.name J.parts }
+    requires capacity { fresh.capacity ≡ 3 }
+    requires passes { fresh.passes ≡ 4 }
+{
     let alloc = rt.alloc();
-    let all = mem::replace(passes, Vec::new(alloc));
-    *passes = thread::map_vec(rt, all, &|pass| thousand(rt, recorder, alloc, told, pass)).expect(
+    let made = Recorded::<u64, u64, J>::new(alloc, fresh, CAPACITY, 4000, 4);
+    let (recorder, passes) = made.expect(rt, "a recorder");
+    let told = Mutex::new(Vec::new(alloc));
+    let shared = &recorder;
+    let heard = &told;
+    let passes = thread::map_vec(
         rt,
-        "memory for the passes",
-    );
-}
-
-#[test]
-fn four_threads_make_one_history(rt: HostRuntime) {
-    let told = Mutex::new(Vec::new(rt.alloc()));
-    let recorded = record(
-        &rt,
-        rt.alloc(),
-        CAPACITY,
-        4000,
-        4,
-        Plenty::FourThreads(&told),
-    );
-    let history = recorded.expect(&rt, "a recorder");
+        passes,
+        &|pass| thousand(rt, shared, alloc, heard, pass),
+    ).expect(rt, "memory for the passes");
+    let history = recorder.end(rt, passes);
     let told = told.into_inner();
-    expect_equal(&rt, (history.entries().len(), told.len()), (4000, 4));
+    expect_equal(rt, (history.entries().len(), told.len()), (4000, 4));
     // Each thread finds its own calls and replies there, in its order.
     for entries in told {
         let who = entries.get(0).map(|entry| entry.who);
@@ -149,13 +141,18 @@ fn four_threads_make_one_history(rt: HostRuntime) {
             .entries()
             .iter()
             .filter(|entry| Some(entry.who) == who);
-        expect_equal(&rt, (entries.len(), own.eq(entries.iter())), (1000, true));
+        expect_equal(rt, (entries.len(), own.eq(entries.iter())), (1000, true));
     }
     let mut plain = Plain {
-        pending: Vec::new(rt.alloc()),
+        pending: Vec::new(alloc),
     };
     for entry in history.entries() {
-        let wanted = plain.answer(&rt, entry.call);
-        expect_equal_at(&rt, entry.call, Some(entry.reply), wanted);
+        let wanted = plain.answer(rt, entry.call);
+        expect_equal_at(rt, entry.call, Some(entry.reply), wanted);
     }
+}
+
+#[test]
+fn four_threads_make_one_history(rt: HostRuntime) {
+    make_one_history::<Brand, _>(&rt, Fresh::new(CAPACITY, 4));
 }

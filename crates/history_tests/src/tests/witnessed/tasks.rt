@@ -1,24 +1,44 @@
 //! Futures, which hold their pass until they answer.
-use super::{Alloc, Caller, Channel, Passes, RESERVED, Scarce, Waiting, opening};
+ghost use Rattle.std.specs.Prelude.{◌≡◌, false, true};
+ghost use Rattle.priority_channel_witnessed.specs.Log.{names};
+
 use crate::tests::expect_equal;
-use crate::tests::scenes::{Host, Opening, witness};
 use futures::executor::block_on;
 use futures::future::poll_immediate;
 use priority_channel_core::errors::{RecvError, RecvFault, SendError, SendFault};
-use priority_channel_witnessed::{Recording, wake_all};
+use priority_channel_witnessed::{
+    Fresh, Pass, PriorityQueueChannel, Recording, Waiter, Witnessed, wake_all,
+};
 use refusing::Refusing;
-use std::sync::WaitMethods;
-use std::thread;
+use std::alloc::{AllocGlobal, Global};
+use std::marker::Brand;
+use std::process::Abort;
+use std::random::RandomSource;
+use std::sync::{Wait, WaitMethods};
+use std::thread::{self, Threads};
 use std::time::{Clock, Duration};
 
-/// A send and a receive that need not wait, and each of the three futures after a close, of which
-/// the bulk send gives back what was not sent. None of them asks for memory to wait.
-pub(super) fn answer<'a, J: Recording, R: Host>(
+type Channel<J> = Witnessed<u64, u64, Waiter<Global>, J>;
+
+type Caller<J> = Pass<u64, u64, Waiter<Global>, J>;
+
+// A send and a receive that need not wait, and each of the three futures after a close, of which
+// the bulk send gives back what was not sent. None of them asks for memory to wait.
+fn answer<'a, J: Recording, R: Wait + RandomSource + AllocGlobal + Abort>(
     rt: &R,
-    channel: &Channel<J, Alloc<'a>>,
-    passes: &mut Passes<J, Alloc<'a>>,
-    alloc: Alloc<'a>,
-) {
+    alloc: &'a Refusing<Global>,
+    fresh: Fresh<u64, u64, Waiter<&'a Refusing<Global>>>,
+)
+    requires names { fresh ≡ names J.log J.capacity J.is_reserved J.name J.parts }
+    requires capacity { fresh.capacity ≡ 1 }
+    requires reserved { fresh.is_reserved ≡ true }
+    requires passes { fresh.passes ≡ 1 }
+{
+    let core = PriorityQueueChannel::bounded_reserved(alloc, 1).expect(rt, "a core");
+    let made = Witnessed::<u64, u64, Waiter<&'a Refusing<Global>>, J, _>::new(
+        alloc, fresh, core, 1,
+    );
+    let (channel, mut passes) = made.expect(rt, "a channel");
     let pass = passes.pop().expect(rt, "a pass");
     let pairs = Vec::from_array(alloc, [(9u64, 3u64), (10, 4)]).expect(rt, "memory");
     alloc.refuse_nth(1);
@@ -43,43 +63,16 @@ pub(super) fn answer<'a, J: Recording, R: Host>(
     expect_equal(rt, rest, [Some((9, 3)), Some((10, 4)), None]);
     expect_equal(rt, alloc.refuse_none(), true);
     passes.push(pass).expect(rt, "its own place");
+    channel.end(rt, passes);
 }
 
 #[test]
 fn futures_answer(rt: HostRuntime) {
     let alloc = Refusing::new(rt.alloc());
-    witness(&rt, &alloc, RESERVED, Scarce::Futures(&alloc));
+    answer::<Brand, _>(&rt, &alloc, Fresh::new(1, true, 1));
 }
 
-/// As the receive asks for memory to wait it is halted, a message comes, and the memory is refused.
-pub(super) fn receive_without_memory<'a, J: Recording + Send + Sync, R: Host>(
-    rt: &R,
-    channel: &Channel<J, Alloc<'a>>,
-    passes: &mut Passes<J, Alloc<'a>>,
-    alloc: Alloc<'a>,
-) {
-    let mut own = passes.pop().expect(rt, "a pass");
-    let pass = passes.pop().expect(rt, "a pass");
-    alloc.hold_nth(1);
-    alloc.refuse_nth(1);
-    let ((received, pass), was_halted) = thread::join(
-        rt,
-        || block_on(rt, channel.recv(rt, pass)).expect(rt, "an executor"),
-        || {
-            let was_halted = is_halted_in_time(rt, alloc);
-            let (_, wakes) = channel.try_send(rt, &mut own, 7, 1);
-            wake_all(rt, wakes);
-            alloc.let_go();
-            was_halted
-        },
-    );
-    expect_equal(rt, (received, was_halted), (Ok((7, 1)), true));
-    expect_equal(rt, alloc.refuse_none(), false);
-    passes.push(pass).expect(rt, "its own place");
-    passes.push(own).expect(rt, "its own place");
-}
-
-fn is_halted_in_time(rt: &impl Clock, alloc: Alloc<'_>) -> bool {
+fn is_halted_in_time<R: Clock>(rt: &R, alloc: &Refusing<Global>) -> bool {
     for _ in 0..4_000u32 {
         if alloc.is_holding() {
             return true;
@@ -89,25 +82,65 @@ fn is_halted_in_time(rt: &impl Clock, alloc: Alloc<'_>) -> bool {
     false
 }
 
+// As the receive asks for memory to wait it is halted, a message comes, and the memory is refused.
+fn receive_without_memory<
+    'a,
+    J: Recording + Send + Sync,
+    R: Threads + Wait + Clock + RandomSource + AllocGlobal + Sync + Abort,
+>(rt: &R, alloc: &'a Refusing<Global>, fresh: Fresh<u64, u64, Waiter<&'a Refusing<Global>>>)
+    requires names { fresh ≡ names J.log J.capacity J.is_reserved J.name J.parts }
+    requires capacity { fresh.capacity ≡ 1 }
+    requires reserved { fresh.is_reserved ≡ true }
+    requires passes { fresh.passes ≡ 2 }
+{
+    let core = PriorityQueueChannel::bounded_reserved(alloc, 1).expect(rt, "a core");
+    let made = Witnessed::<u64, u64, Waiter<&'a Refusing<Global>>, J, _>::new(
+        alloc, fresh, core, 2,
+    );
+    let (channel, mut passes) = made.expect(rt, "a channel");
+    let mut own = passes.pop().expect(rt, "a pass");
+    let pass = passes.pop().expect(rt, "a pass");
+    alloc.hold_nth(1);
+    alloc.refuse_nth(1);
+    let shared = &channel;
+    let ((received, pass), was_halted) = thread::join(
+        rt,
+        || block_on(rt, shared.recv(rt, pass)).expect(rt, "an executor"),
+        || {
+            let was_halted = is_halted_in_time(rt, alloc);
+            let (_, wakes) = shared.try_send(rt, &mut own, 7, 1);
+            wake_all(rt, wakes);
+            alloc.let_go();
+            was_halted
+        },
+    );
+    expect_equal(rt, (received, was_halted), (Ok((7, 1)), true));
+    expect_equal(rt, alloc.refuse_none(), false);
+    passes.push(pass).expect(rt, "its own place");
+    passes.push(own).expect(rt, "its own place");
+    channel.end(rt, passes);
+}
+
 #[test]
 fn a_receive_without_memory_takes_what_has_come(rt: HostRuntime) {
     let alloc = Refusing::new(rt.alloc());
-    let opening = Opening {
-        cap: 1,
-        is_reserved: true,
-        passes: 2,
-        parts: 2,
-    };
-    witness(&rt, &alloc, opening, Scarce::ComesInTime(&alloc));
+    receive_without_memory::<Brand, _>(&rt, &alloc, Fresh::new(1, true, 2));
 }
 
-/// A receive and a send wait, each with a pass that comes where the one before has left, and are
-/// dropped: what they waited for hands out nobody, and their passes have left.
-pub(super) fn drop_those_that_wait<J: Recording, R: Host>(
+// A receive and a send wait, each with a pass that comes where the one before has left, and are
+// dropped: what they waited for hands out nobody, and their passes have left.
+fn drop_those_that_wait<J: Recording, R: Wait + RandomSource + AllocGlobal + Abort>(
     rt: &R,
-    channel: &Channel<J>,
-    passes: &mut Passes<J>,
-) {
+    fresh: Fresh<u64, u64, Waiter<Global>>,
+)
+    requires names { fresh ≡ names J.log J.capacity J.is_reserved J.name J.parts }
+    requires capacity { fresh.capacity ≡ 1 }
+    requires reserved { fresh.is_reserved ≡ false }
+    requires passes { fresh.passes ≡ 3 }
+{
+    let core = PriorityQueueChannel::bounded(rt.alloc(), 1);
+    let made = Channel::<J>::new(rt.alloc(), fresh, core, 1);
+    let (channel, mut passes) = made.expect(rt, "a channel");
     let mut own = passes.pop().expect(rt, "a pass");
     let guest = channel.admit(rt).expect(rt, "a pass to admit");
     expect_equal(rt, guest.number(), 1);
@@ -128,15 +161,16 @@ pub(super) fn drop_those_that_wait<J: Recording, R: Host>(
     expect_equal(rt, guest.number(), 3);
     channel.leave(rt, guest);
     passes.push(own).expect(rt, "its own place");
+    expect_equal(rt, channel.try_end(rt, passes).is_ok(), true);
 }
 
 #[test]
 fn a_dropped_future_gives_up_and_leaves(rt: HostRuntime) {
-    witness(&rt, rt.alloc(), opening(1, 1, 3), Waiting::Dropped);
+    drop_those_that_wait::<Brand, _>(&rt, Fresh::new(1, false, 3));
 }
 
 // Sends by futures, a pair and then three at a time, and closes. Tells how many were sent.
-fn send_many<J: Recording, R: Host>(
+fn send_many<J: Recording, R: Wait + RandomSource + AllocGlobal + Abort>(
     rt: &R,
     channel: &Channel<J>,
     pass: Caller<J>,
@@ -160,7 +194,7 @@ fn send_many<J: Recording, R: Host>(
 }
 
 // Receives by futures until the channel is closed and empty. Tells how many.
-fn receive_many<J: Recording, R: Host>(
+fn receive_many<J: Recording, R: Wait + RandomSource + AllocGlobal + Abort>(
     rt: &R,
     channel: &Channel<J>,
     pass: Caller<J>,
@@ -178,26 +212,33 @@ fn receive_many<J: Recording, R: Host>(
     unreachable!()
 }
 
-/// Two tasks, on a thread each.
-pub(super) fn relay<J: Recording + Send + Sync, R: Host>(
+fn relay<J: Recording + Send + Sync, R: Threads + Wait + RandomSource + AllocGlobal + Sync + Abort>(
     rt: &R,
-    channel: &Channel<J>,
-    passes: &mut Passes<J>,
-) {
+    fresh: Fresh<u64, u64, Waiter<Global>>,
+)
+    requires names { fresh ≡ names J.log J.capacity J.is_reserved J.name J.parts }
+    requires capacity { fresh.capacity ≡ 2 }
+    requires reserved { fresh.is_reserved ≡ false }
+    requires passes { fresh.passes ≡ 2 }
+{
+    let core = PriorityQueueChannel::bounded(rt.alloc(), 2);
+    let made = Channel::<J>::new(rt.alloc(), fresh, core, 2);
+    let (channel, mut passes) = made.expect(rt, "a channel");
     let receiver = passes.pop().expect(rt, "a pass");
     let sender = passes.pop().expect(rt, "a pass");
+    let shared = &channel;
     let ((sent, sender), (received, receiver)) = thread::join(
         rt,
-        || send_many(rt, channel, sender),
-        || receive_many(rt, channel, receiver),
+        || send_many(rt, shared, sender),
+        || receive_many(rt, shared, receiver),
     );
     expect_equal(rt, (sent, received), (1200, 1200));
     passes.push(sender).expect(rt, "its own place");
     passes.push(receiver).expect(rt, "its own place");
+    channel.end(rt, passes);
 }
 
 #[test]
 fn tasks_wait_for_each_other(rt: HostRuntime) {
-    let left = witness(&rt, rt.alloc(), opening(2, 2, 2), Waiting::Tasks);
-    expect_equal(&rt, left, 0);
+    relay::<Brand, _>(&rt, Fresh::new(2, false, 2));
 }

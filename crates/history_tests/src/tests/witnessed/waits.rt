@@ -1,27 +1,38 @@
-//! Waiting on a thread: limits, what an ended wait leaves, and threads that wait for each other.
-use super::{Alloc, Caller, Channel, Passes, RESERVED, Scarce, Waiting, opening};
-use crate::tests::scenes::{Host, witness};
+//! Waits on a thread: limits, what an ended wait leaves, and threads that wait for each other.
+ghost use Rattle.std.specs.Prelude.{◌≡◌, false, true};
+ghost use Rattle.priority_channel_witnessed.specs.Log.{names};
+
 use crate::tests::{expect_equal, expect_equal_at};
+use priority_channel_core::channel::PriorityQueueChannel;
 use priority_channel_core::errors::{RecvError, RecvFault, SendError, SendFault};
 use priority_channel_waiting::timeouts::{RecvTimeoutError, SendTimeoutError};
-use priority_channel_witnessed::{Recording, wake_all};
+use priority_channel_waiting::waiter::{Waiter, wake_all};
+use priority_channel_witnessed::{Fresh, Pass, Recording, Witnessed};
 use refusing::Refusing;
-use std::alloc::Global;
+use std::alloc::{AllocGlobal, Global};
+use std::marker::Brand;
 use std::process::Abort;
 use std::sync::{Mutex, Wait, WaitMethods};
-use std::time::{Duration, Instant};
-use std::{mem, thread};
+use std::thread::{self, Threads};
+use std::time::{Clock, Duration, Instant};
 
 fn limit() -> Duration {
     Duration::from_millis(20)
 }
 
-/// From an empty channel, from one with a message, and from a closed one.
-pub(super) fn receive_in_time<J: Recording, R: Host>(
+// From an empty channel, from one with a message, and from a closed one.
+fn receive_in_time<J: Recording, R: Wait + Clock + Abort + AllocGlobal>(
     rt: &R,
-    channel: &Channel<J>,
-    passes: &mut Passes<J>,
-) {
+    fresh: Fresh<u64, u64, Waiter<Global>>,
+)
+    requires names { fresh ≡ names J.log J.capacity J.is_reserved J.name J.parts }
+    requires capacity { fresh.capacity ≡ 1 }
+    requires reserved { fresh.is_reserved ≡ false }
+    requires passes { fresh.passes ≡ 1 }
+{
+    let core = PriorityQueueChannel::bounded(rt.alloc(), 1);
+    let made = Witnessed::<u64, u64, Waiter<Global>, J>::new(rt.alloc(), fresh, core, 1);
+    let (channel, mut passes) = made.expect(rt, "a channel");
     let mut pass = passes.pop().expect(rt, "a pass");
     let begun = Instant::now(rt).expect(rt, "a clock");
     let late = channel.recv_timeout(rt, &mut pass, limit());
@@ -46,19 +57,27 @@ pub(super) fn receive_in_time<J: Recording, R: Host>(
     let closed = channel.recv_blocking(rt, &mut pass);
     expect_equal(rt, closed, Err(RecvFault::Closed(RecvError)));
     passes.push(pass).expect(rt, "its own place");
+    channel.end(rt, passes);
 }
 
 #[test]
 fn receives_end_in_time(rt: HostRuntime) {
-    witness(&rt, rt.alloc(), opening(1, 1, 1), Waiting::Receives);
+    receive_in_time::<Brand, _>(&rt, Fresh::new(1, false, 1));
 }
 
-/// The same of sends, into a channel for one. Of three by one call one is sent.
-pub(super) fn send_in_time<J: Recording, R: Host>(
+// The same of sends, into a channel for one. Of three by one call one is sent.
+fn send_in_time<J: Recording, R: Wait + Clock + Abort + AllocGlobal>(
     rt: &R,
-    channel: &Channel<J>,
-    passes: &mut Passes<J>,
-) {
+    fresh: Fresh<u64, u64, Waiter<Global>>,
+)
+    requires names { fresh ≡ names J.log J.capacity J.is_reserved J.name J.parts }
+    requires capacity { fresh.capacity ≡ 1 }
+    requires reserved { fresh.is_reserved ≡ false }
+    requires passes { fresh.passes ≡ 1 }
+{
+    let core = PriorityQueueChannel::bounded(rt.alloc(), 1);
+    let made = Witnessed::<u64, u64, Waiter<Global>, J>::new(rt.alloc(), fresh, core, 1);
+    let (channel, mut passes) = made.expect(rt, "a channel");
     let mut pass = passes.pop().expect(rt, "a pass");
     let begun = Instant::now(rt).expect(rt, "a clock");
     let pairs = Vec::from_array(rt.alloc(), [(7u64, 1u64), (8, 1), (9, 1)]).expect(rt, "memory");
@@ -85,20 +104,30 @@ pub(super) fn send_in_time<J: Recording, R: Host>(
     let closed = channel.send_blocking(rt, &mut pass, 4, 8);
     expect_equal(rt, closed, Err(SendFault::Closed(SendError((4, 8)))));
     passes.push(pass).expect(rt, "its own place");
+    channel.end(rt, passes);
 }
 
 #[test]
 fn sends_end_in_time(rt: HostRuntime) {
-    witness(&rt, rt.alloc(), opening(1, 1, 1), Waiting::Sends);
+    send_in_time::<Brand, _>(&rt, Fresh::new(1, false, 1));
 }
 
-/// A try needs no memory: the request that is to be refused never comes.
-pub(super) fn call_without_time<'a, J: Recording, R: Host>(
+// A try needs no memory: the request that is to be refused never comes.
+fn call_without_time<'a, J: Recording, R: Wait + Clock + Abort>(
     rt: &R,
-    channel: &Channel<J, Alloc<'a>>,
-    passes: &mut Passes<J, Alloc<'a>>,
-    alloc: Alloc<'a>,
-) {
+    alloc: &'a Refusing<Global>,
+    fresh: Fresh<u64, u64, Waiter<&'a Refusing<Global>>>,
+)
+    requires names { fresh ≡ names J.log J.capacity J.is_reserved J.name J.parts }
+    requires capacity { fresh.capacity ≡ 1 }
+    requires reserved { fresh.is_reserved ≡ true }
+    requires passes { fresh.passes ≡ 1 }
+{
+    let core = PriorityQueueChannel::bounded_reserved(alloc, 1).expect(rt, "a core");
+    let made = Witnessed::<u64, u64, Waiter<&'a Refusing<Global>>, J, _>::new(
+        alloc, fresh, core, 1,
+    );
+    let (channel, mut passes) = made.expect(rt, "a channel");
     let mut pass = passes.pop().expect(rt, "a pass");
     alloc.refuse_nth(1);
     let late = channel.recv_timeout(rt, &mut pass, Duration::ZERO);
@@ -111,12 +140,13 @@ pub(super) fn call_without_time<'a, J: Recording, R: Host>(
     expect_equal(rt, received, Ok((1, 1)));
     expect_equal(rt, alloc.refuse_none(), true);
     passes.push(pass).expect(rt, "its own place");
+    channel.end(rt, passes);
 }
 
 #[test]
 fn a_call_without_time_asks_for_no_memory(rt: HostRuntime) {
     let alloc = Refusing::new(rt.alloc());
-    witness(&rt, &alloc, RESERVED, Scarce::WithoutTime(&alloc));
+    call_without_time::<Brand, _>(&rt, &alloc, Fresh::new(1, true, 1));
 }
 
 // Passes 0 and 1 send, one pair at a time or three, and the last that has sent closes the channel.
@@ -124,11 +154,11 @@ fn a_call_without_time_asks_for_no_memory(rt: HostRuntime) {
 fn send_or_receive<J: Recording, R: Wait + Abort>(
     rt: &R,
     alloc: Global,
-    channel: &Channel<J>,
+    channel: &Witnessed<u64, u64, Waiter<Global>, J>,
     counts: &Mutex<(u64, u64)>,
     senders: &Mutex<u64>,
-    mut pass: Caller<J>,
-) -> Caller<J> {
+    mut pass: Pass<u64, u64, Waiter<Global>, J>,
+) -> Pass<u64, u64, Waiter<Global>, J> {
     if pass.number() >= 2 {
         let mut received = 0u64;
         for _ in rt.forever() {
@@ -163,32 +193,35 @@ fn send_or_receive<J: Recording, R: Wait + Abort>(
     pass
 }
 
-/// Two threads send, and two receive.
-pub(super) fn block_on_four_threads<J: Recording + Send + Sync, R: Host>(
-    rt: &R,
-    channel: &Channel<J>,
-    passes: &mut Passes<J>,
-    counts: &Mutex<(u64, u64)>,
-) {
+fn block_on_four_threads<
+    J: Recording + Send + Sync,
+    R: Threads + Wait + Sync + Abort + AllocGlobal,
+>(rt: &R, fresh: Fresh<u64, u64, Waiter<Global>>)
+    requires names { fresh ≡ names J.log J.capacity J.is_reserved J.name J.parts }
+    requires capacity { fresh.capacity ≡ 2 }
+    requires reserved { fresh.is_reserved ≡ false }
+    requires passes { fresh.passes ≡ 4 }
+{
     let alloc = rt.alloc();
-    let senders = &Mutex::new(2u64);
-    let all = mem::replace(passes, Vec::new(alloc));
-    *passes = thread::map_vec(
+    let core = PriorityQueueChannel::bounded(alloc, 2);
+    let made = Witnessed::<u64, u64, Waiter<Global>, J>::new(alloc, fresh, core, 4);
+    let (channel, passes) = made.expect(rt, "a channel");
+    let counts = Mutex::new((0u64, 0u64));
+    let senders = Mutex::new(2u64);
+    let shared = &channel;
+    let counted = &counts;
+    let senders = &senders;
+    let passes = thread::map_vec(
         rt,
-        all,
-        &|pass| send_or_receive(rt, alloc, channel, counts, senders, pass),
+        passes,
+        &|pass| send_or_receive(rt, alloc, shared, counted, senders, pass),
     )
     .expect(rt, "memory for the passes");
+    let (core, _seen) = channel.end(rt, passes);
+    expect_equal(rt, (counts.into_inner(), core.len()), ((1600, 1600), 0));
 }
 
 #[test]
 fn threads_block_until_others_go_on(rt: HostRuntime) {
-    let counts = Mutex::new((0u64, 0u64));
-    let left = witness(
-        &rt,
-        rt.alloc(),
-        opening(2, 4, 4),
-        Waiting::FourThreads(&counts),
-    );
-    expect_equal(&rt, (counts.into_inner(), left), ((1600, 1600), 0));
+    block_on_four_threads::<Brand, _>(&rt, Fresh::new(2, false, 4));
 }
