@@ -1,3 +1,4 @@
 pub mod Waits
 pub mod Tails
 pub mod Holding
+pub mod Ends

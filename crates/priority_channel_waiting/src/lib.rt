@@ -7,6 +7,7 @@
 
 pub mod attempts;
 pub mod line;
+mod reading;
 pub mod spins;
 pub mod states;
 pub mod timeouts;

@@ -1,7 +1,8 @@
 //! How long a call waits, and the evidence that it has waited long enough.
-ghost use Rattle.std.specs.Prelude.{◌≤◌};
+ghost use Rattle.std.specs.Prelude.{◌≤◌, ◌≡◌, ⊤, IfErr};
 ghost use Rattle.std.specs.Time.{instant_nanos};
 
+use crate::reading::{Reading, Unreadable};
 use std::convert::Infallible;
 use std::time::{Clock, Duration, Instant};
 
@@ -10,8 +11,12 @@ pub trait Until {
     /// Evidence that the time is over.
     type Over: Drop;
 
+    // Holds for an end and for evidence that it has come.
+    ghost has_come: { Self → Self.Over → Type 0 };
+
     /// The time that is left. None means that there is no limit.
-    fn left(&self) -> Result<Option<Duration>, Self::Over>;
+    fn left(&self) -> Result<Option<Duration>, Self::Over>
+        ensures { IfErr result (has_come self.now) };
 }
 
 /// A wait without an end. Nothing is evidence that its time is over.
@@ -20,6 +25,8 @@ pub struct Endless;
 
 impl Until for Endless {
     type Over = Infallible;
+
+    ghost has_come = { λ _ _. ⊤ };
 
     fn left(&self) -> Result<Option<Duration>, Infallible> {
         Ok(None)
@@ -30,13 +37,9 @@ impl Until for Endless {
 #[derive(Drop)]
 struct Late {
     deadline: Instant,
-    now: Instant,
-    ghost is_late: { instant_nanos deadline ≤ instant_nanos now },
+    now: Reading,
+    ghost is_late: { instant_nanos deadline ≤ instant_nanos now.at },
 }
-
-/// The clock could not be read.
-#[derive(Clone, Copy)]
-struct Unreadable;
 
 /// Evidence that a deadline has passed, or that the clock could not be read. Only the deadline's
 /// own reading of the clock makes it.
@@ -71,12 +74,12 @@ impl<'a, C: Clock> Deadline<'a, C> {
 
     /// A wait until `timeout` from now.
     pub fn after(clock: &'a C, timeout: Duration) -> Self {
-        let end = match Instant::now(clock) {
-            Ok(now) => match now.checked_add(timeout) {
+        let end = match Reading::of(clock) {
+            Ok(now) => match now.at().checked_add(timeout) {
                 Some(deadline) => End::At(deadline),
                 None => End::Never,
             },
-            Err(_) => End::Unknown(Unreadable),
+            Err(unreadable) => End::Unknown(unreadable),
         };
         Deadline { clock, end }
     }
@@ -85,14 +88,20 @@ impl<'a, C: Clock> Deadline<'a, C> {
 impl<'a, C: Clock> Until for Deadline<'a, C> {
     type Over = Overdue;
 
+    ghost use Rattle.priority_channel_waiting.specs.Ends.{HasCome};
+
+    ghost has_come = { λ deadline over. HasCome deadline.end over.reading };
+
     fn left(&self) -> Result<Option<Duration>, Overdue> {
         let reading = match self.end {
             End::Never => return Ok(None),
             End::Unknown(unreadable) => Err(unreadable),
-            End::At(deadline) => match Instant::now(self.clock) {
-                Ok(now) if now < deadline => return Ok(Some(deadline.duration_since(now))),
+            End::At(deadline) => match Reading::of(self.clock) {
+                Ok(now) if now.at() < deadline => {
+                    return Ok(Some(deadline.duration_since(now.at())));
+                }
                 Ok(now) => Ok(Late { deadline, now }),
-                Err(_) => Err(Unreadable),
+                Err(unreadable) => Err(unreadable),
             },
         };
         Err(Overdue { reading })
