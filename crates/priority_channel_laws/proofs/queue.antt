@@ -1,3 +1,4 @@
+-- That no queue of waiting threads is left asleep.
 pub mod Acts
 pub mod Kept
 pub mod Order
