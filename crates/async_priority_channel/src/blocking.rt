@@ -40,7 +40,8 @@ impl<T, P: Ord, R: Wait + Clone, A: Allocator + Copy> Receiver<T, P, R, A> {
     /// There is no limit if the timeout ends past the range of the clock. A message that comes at
     /// the last moment is received.
     ///
-    /// `Timeout` is returned only if the clock was read at or past the deadline, or cannot be read.
+    /// `Timeout` is returned only if the clock was read at or past the deadline, or cannot be read. It is
+    /// returned, and not `Memory`, if memory for the message is refused at the last try.
     ///
     /// ```
     /// let (tx, rx) = bounded(&rt, rt.alloc(), 1)?;
@@ -84,7 +85,8 @@ impl<T, P: Ord, R: Wait + Clone, A: Allocator + Copy> Sender<T, P, R, A> {
     /// meanwhile. The error is `Closed`, or `Memory` if memory is refused for the message or for
     /// waiting. It gives the message back.
     ///
-    /// It blocks an executor, so a task uses `send`.
+    /// Other sends may pass it while it waits, as with `send`. It blocks an executor, so a task uses
+    /// `send`.
     ///
     /// ```
     /// let (tx, rx) = bounded(&rt, rt.alloc(), 1)?;

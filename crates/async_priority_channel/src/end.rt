@@ -31,11 +31,11 @@ pub trait Role: Copy {
 /// tries were recently of use. `capacity`, `same_channel`, `downgrade`, and the calls that make a
 /// future, a stream, an iterator or a guard take no lock.
 ///
-/// The channel calls some of the user's code under its lock: the order of priorities, the iterator
-/// of a bulk send and its drop, the functions that `peek_with`, `take_where` and `retain` are
-/// given, and the clone of a priority that `peek_priority` makes. If this code makes a call on the
-/// channel, or drops a handle of it, it waits for ever. It should be short, since all other calls
-/// wait for it.
+/// The channel calls some of the user's code under its lock: the order of priorities, the
+/// allocator, the iterator of a bulk send and its drop, the functions that `peek_with`,
+/// `take_where` and `retain` are given, and the clone of a priority that `peek_priority` makes. If
+/// this code makes a call on the channel, or drops a handle of it, it waits for ever. It should be
+/// short, since all other calls wait for it.
 ///
 /// ```
 /// fn is_idle<S: Role, R: Wait + Clone>(end: &End<S, u64, u64, R>) -> bool {
@@ -151,7 +151,8 @@ impl<S: Role, T, P: Ord, R: Wait + Clone, A: Allocator + Copy> End<S, T, P, R, A
     /// Whether the other is a handle of the same channel, and as this one a sender or a receiver.
     ///
     /// A channel draws 128 random bits when it is compared for the first time, and is identified by
-    /// them. So the permission must also be a `RandomSource`.
+    /// them. So the permission must also be a `RandomSource`. While that is refused the bits, the
+    /// call tries again, and does not return.
     ///
     /// ```
     /// let (tx, _rx) = unbounded::<&str, u64, _, _>(&rt, rt.alloc())?;

@@ -55,8 +55,8 @@ impl<T, P: Ord, R: Wait + Clone, A: Allocator + Copy> Receiver<T, P, R, A> {
     }
 
     /// As `try_recv_many`, but waits for the first message on this thread, which sleeps meanwhile.
-    /// With a `limit` of 0 it does not wait. The errors are those of `recv_blocking`, and `Memory`
-    /// for `batch`.
+    /// With a `limit` of 0 it does not wait: it returns 0, or `Closed` if the channel is closed and
+    /// empty. The errors are those of `recv_blocking`, and `Memory` for `batch`.
     ///
     /// If it has to wait, it receives the first message when it comes, and right after it the
     /// messages that are pending by then.

@@ -50,7 +50,7 @@ impl<T: Drop, P: Ord + Drop, R: Wait + Clone, A: Allocator + Copy> Sender<T, P, 
     /// Sends as many messages as there is room for, in one step. The error gives back the rest:
     /// `Closed` if the channel is closed, `Full` if there was no more room, and `Memory` if the
     /// channel could not get memory for more. What was sent stays sent, and the rest can be sent
-    /// again.
+    /// again. No messages at all are refused as `Full` by a full channel.
     ///
     /// The iterator is called under the channel's lock (see `End`), and is dropped there if all was
     /// sent.
@@ -83,6 +83,9 @@ impl<T: Drop, P: Ord + Drop, R: Wait + Clone, A: Allocator + Copy> Sender<T, P, 
     /// polled. If it is dropped before it has answered, it sends nothing. The error is `Closed`, or
     /// `Memory` if memory was refused. That includes the memory that keeps its waker, which the
     /// first poll that waits asks for. Either error gives the message back.
+    ///
+    /// Room that becomes free goes to the send that takes it first, whatever its priority: other
+    /// sends may pass one that waits.
     ///
     /// The first `?` below is for `block_on`, the second for the error of the send.
     ///

@@ -46,8 +46,8 @@ impl<T, P: Ord, R: Wait + Clone, A: Allocator + Copy> Receiver<T, P, R, A> {
     /// The test is called once on each pending message, in no specified order, and under the
     /// channel's lock.
     ///
-    /// It first reserves memory for as many messages as are pending. If that is refused, nothing
-    /// has changed, and the test was not called. If a message is taken out, the waiting senders are
+    /// It first reserves memory for as many messages as are pending, also under the lock. If that is
+    /// refused, nothing has changed, and the test was not called. If a message is taken out, the waiting senders are
     /// woken. Beside the tests, the cost for each kept message is at most as many comparisons of
     /// priorities as the number of kept messages has binary digits.
     ///

@@ -16,6 +16,8 @@ const SEND_CLOSED: &str = "sending into a closed channel";
 
 const SEND_MEMORY: &str = "no memory for sending";
 
+const RECV_MEMORY: &str = "no memory for receiving";
+
 const RECV_CLOSED: &str = "receiving from an empty and closed channel";
 
 const RECV_EMPTY: &str = "receiving from an empty channel";
@@ -38,16 +40,15 @@ fn errors_print_why_and_not_what(rt: HostRuntime) {
     expect_texts(&rt, closed, SEND_CLOSED, "Closed(..)");
     expect_texts(&rt, SendFault::Memory(Opaque), SEND_MEMORY, "Memory(..)");
 
-    let (batch, wait) = ("no memory for receiving", "no memory for waiting");
     let closed = RecvFault::Closed(RecvError);
     expect_texts(&rt, RecvError, RECV_CLOSED, "RecvError");
     expect_texts(&rt, TryRecvError::Empty, RECV_EMPTY, "Empty");
     expect_texts(&rt, TryRecvError::Closed, RECV_CLOSED, "Closed");
     expect_texts(&rt, TryRecvManyError::Empty, RECV_EMPTY, "Empty");
     expect_texts(&rt, TryRecvManyError::Closed, RECV_CLOSED, "Closed");
-    expect_texts(&rt, TryRecvManyError::Memory, batch, "Memory");
+    expect_texts(&rt, TryRecvManyError::Memory, RECV_MEMORY, "Memory");
     expect_texts(&rt, closed, RECV_CLOSED, "Closed(RecvError)");
-    expect_texts(&rt, RecvFault::Memory, wait, "Memory");
+    expect_texts(&rt, RecvFault::Memory, RECV_MEMORY, "Memory");
 }
 
 // Of errors that all differ, each equals itself and its clone alone.

@@ -44,7 +44,7 @@ fn errors_of_sends_print_why_and_not_what(rt: HostRuntime) {
 fn errors_of_receives_print_why(rt: HostRuntime) {
     let empty = "receiving from an empty channel / Empty";
     let closed = "receiving from an empty and closed channel / Closed";
-    let memory = "no memory for waiting / Memory";
+    let memory = "no memory for receiving / Memory";
     let error = RecvError;
     expect_texts(
         &rt,
