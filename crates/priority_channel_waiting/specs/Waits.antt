@@ -1,7 +1,5 @@
 -- What a call that waits on its thread does, and what it returns without success.
-use Rattle.std.specs.Prelude.{◌≡◌, ℕ, List, Option, Some, None, ⊤, Result, Ok, Err, codes}
-use Rattle.priority_channel_core.specs.declared.calls.CorePoll.{CorePoll}
-use Rattle.priority_channel_core.specs.declared.calls.CorePoll.TheVariants.{Ready, Pending}
+use Rattle.std.specs.Prelude.{◌≡◌, ℕ, List, Option, Some, None, Result, Ok, Err, codes}
 use Rattle.priority_channel_core.specs.declared.errors.TrySendError.{TrySendError}
 use Rattle.priority_channel_core.specs.declared.errors.TrySendError.TheVariants as try_send
 use Rattle.priority_channel_core.specs.declared.errors.TryRecvError.{TryRecvError}
@@ -28,11 +26,7 @@ module _ {D C : Type 0} where
   left_over (Closed rest) = Some rest
   left_over (Memory rest) = Some rest
 
-  abbrev pub OnBlocked : Outcome D C → Type 0 → Type 0
-  OnBlocked (Blocked rest) fact = fact
-  OnBlocked outcome fact = ⊤
-
--- the outcome of a try or a poll
+-- the outcome of a try
 abbrev pub outcome_of_try : {C : Type 0} → Result (Unit {0}) (TrySendError C) → Outcome (Unit {0}) C
 outcome_of_try (Ok done) = Done done
 outcome_of_try (Err (try_send.Full rest)) = Blocked rest
@@ -43,13 +37,6 @@ abbrev pub recv_tried : {X : Type 0} → Receive → Result X TryRecvError → O
 recv_tried call (Ok pair) = Done pair
 recv_tried call (Err try_recv.Empty) = Blocked call
 recv_tried call (Err try_recv.Closed) = Closed call
-
-abbrev pub recv_polled : {X : Type 0} → Receive → CorePoll (Result X RecvFault) (Unit {0})
-    → Outcome X Receive
-recv_polled call (Ready (Ok pair)) = Done pair
-recv_polled call (Ready (Err (recv_fault.Closed error))) = Closed call
-recv_polled call (Ready (Err recv_fault.Memory)) = Memory call
-recv_polled call (Pending kept ticket) = Blocked call
 
 module _ {C O : Type 0} where
   abbrev pub given_back : Ended C O → C

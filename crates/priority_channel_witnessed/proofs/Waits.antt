@@ -10,6 +10,7 @@ use Rattle.priority_channel_core.specs.declared.errors.SendFault.{SendFault}
 use Rattle.priority_channel_core.specs.declared.errors.SendFault.TheVariants as fault
 use Rattle.priority_channel_core.specs.Errors.{rest_of}
 use Rattle.priority_channel_waiting.specs.declared.timeouts.SendTimeoutError.{SendTimeoutError}
+use Rattle.priority_channel_waiting.specs.declared.timeouts.SendTimeoutError.TheVariants as late
 use Rattle.priority_channel_core.specs.declared.calls.Call.TheVariants as call
 use Rattle.priority_channel_core.specs.declared.calls.Answer.TheVariants as answer
 use Rattle.priority_channel_core.specs.declared.calls.CorePoll.{CorePoll}
@@ -68,6 +69,19 @@ module _ {T P W : Type 0} (cmp : P → P → Ordering) (is_clone : W → W → T
   sent_on_called (before told leaves more) =
       let later = sent_on_called more in
       record { number = later.number ∙ told.number; counted = omega (arith, told.counted, later.counted); told = before told leaves more }
+
+-- what a call with a limit returns is what its wait came to
+module _ {T P Z W O : Type 0} (cmp : P → P → Ordering) (is_clone : W → W → Type 0) (capacity : ℕ) (is_reserved : Bool) (old new : Carried T P W) (pairs : List (T × P)) where
+  pub sent_in_time : (waited : Result (Result (Unit {0}) (SendFault (Ahead (IntoIter (T × P) Z) (T × P)))) (Ahead (IntoIter (T × P) Z) (T × P) × O))
+      (result : Result (Unit {0}) (SendTimeoutError (Ahead (IntoIter (T × P) Z) (T × P))))
+      → IfOk waited (λ reply. HasCalled old new (IsSentOn cmp is_clone capacity is_reserved old pairs (listed_in_time (send_in_time reply)) new))
+      → IfErr waited (λ rest. HasCalled old new (IsSentOn cmp is_clone capacity is_reserved old pairs (Err (late.Timeout (list_in rest.0))) new))
+      → IfOk waited (λ reply. send_in_time reply ≡ result) → IfErr waited (λ rest. result ≡ Err (late.Timeout rest.0))
+      → HasCalled old new (IsSentOn cmp is_clone capacity is_reserved old pairs (listed_in_time result) new)
+  sent_in_time (Ok reply) result answered over is gone =
+      subst (λ r. HasCalled old new (IsSentOn cmp is_clone capacity is_reserved old pairs (listed_in_time r) new)) is answered
+  sent_in_time (Err rest) result answered over gone is =
+      subst (λ r. HasCalled old new (IsSentOn cmp is_clone capacity is_reserved old pairs (listed_in_time r) new)) (sym is) over
 
 module _ {T P Z W : Type 0} where
   ready_answers : (pairs : List (T × P)) (ticket : Option ℕ) (waker : W) (sent : Result (Unit {0}) (SendFault (Ahead (IntoIter (T × P) Z) (T × P))))

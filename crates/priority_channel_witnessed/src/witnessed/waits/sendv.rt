@@ -1,4 +1,6 @@
 //! Sending many pairs on a thread that waits for room.
+ghost use Rattle.std.specs.Prelude.{◌≡◌, Err, IfOk, IfErr};
+ghost use Rattle.priority_channel_waiting.specs.declared.timeouts.SendTimeoutError.TheVariants.{Timeout};
 ghost use Rattle.priority_channel_witnessed.specs.Items.{list_in};
 ghost use Rattle.priority_channel_witnessed.specs.Waits.{HasCalled, IsSentOn, send_in_time, listed_in_time};
 
@@ -6,13 +8,28 @@ use crate::chronicle::Pass;
 use crate::entry::Pairs;
 use crate::witnessed::Witnessed;
 use priority_channel_chronicle::Recording;
-use priority_channel_core::errors::SendFault;
+use priority_channel_core::errors::{SendError, SendFault};
 use priority_channel_waiting::timeouts::SendTimeoutError;
 use priority_channel_waiting::until::{Deadline, Endless};
 use priority_channel_waiting::waiter::Waiter;
 use std::alloc::Allocator;
 use std::sync::Wait;
 use std::time::{Clock, Duration, Instant};
+
+// What a call with a limit returns.
+fn in_time<C, O: Drop>(
+    waited: Result<Result<(), SendFault<C>>, (C, O)>,
+) -> Result<(), SendTimeoutError<C>>
+    ensures sent { IfOk waited (λ sent. send_in_time sent ≡ result) }
+    ensures over { IfErr waited (λ rest. result ≡ Err (Timeout rest.0)) }
+{
+    match waited {
+        Ok(Ok(())) => Ok(()),
+        Ok(Err(SendFault::Closed(SendError(rest)))) => Err(SendTimeoutError::Closed(rest)),
+        Ok(Err(SendFault::Memory(rest))) => Err(SendTimeoutError::Memory(rest)),
+        Err((rest, _over)) => Err(SendTimeoutError::Timeout(rest)),
+    }
+}
 
 impl<T: Drop, P: Ord + Drop, J: Recording, A: Allocator + Copy> Witnessed<T, P, Waiter<A>, J, A> {
     /// Sends all pairs of a vector, in order, and waits for room on this thread, which sleeps
@@ -60,10 +77,7 @@ impl<T: Drop, P: Ord + Drop, J: Recording, A: Allocator + Copy> Witnessed<T, P, 
             (listed_in_time result) pass.new) }
     {
         let deadline = Deadline::after(rt, timeout);
-        match self.wait(rt, pass, msgs, &deadline) {
-            Ok(sent) => Ok(sent?),
-            Err((rest, _overdue)) => Err(SendTimeoutError::Timeout(rest)),
-        }
+        in_time(self.wait(rt, pass, msgs, &deadline))
     }
 
     /// As `sendv_timeout`, but waits no longer than until then.
@@ -79,9 +93,6 @@ impl<T: Drop, P: Ord + Drop, J: Recording, A: Allocator + Copy> Witnessed<T, P, 
             (listed_in_time result) pass.new) }
     {
         let deadline = Deadline::at(rt, deadline);
-        match self.wait(rt, pass, msgs, &deadline) {
-            Ok(sent) => Ok(sent?),
-            Err((rest, _overdue)) => Err(SendTimeoutError::Timeout(rest)),
-        }
+        in_time(self.wait(rt, pass, msgs, &deadline))
     }
 }
