@@ -16,7 +16,6 @@ use std::process::Abort;
 use std::random::RandomSource;
 use std::sync::{Wait, WaitMethods};
 use std::thread::{self, Threads};
-use std::time::{Clock, Duration};
 
 type Channel<J> = Witnessed<u64, u64, Waiter<Global>, J>;
 
@@ -70,61 +69,6 @@ fn answer<'a, J: Recording, R: Wait + RandomSource + AllocGlobal + Abort>(
 fn futures_answer(rt: HostRuntime) {
     let alloc = Refusing::new(rt.alloc());
     answer::<Brand, _>(&rt, &alloc, Fresh::new(1, true, 1));
-}
-
-fn is_halted_in_time<R: Clock>(rt: &R, alloc: &Refusing<Global>) -> bool {
-    for _ in 0..4_000u32 {
-        if alloc.is_holding() {
-            return true;
-        }
-        thread::sleep(rt, Duration::from_millis(1));
-    }
-    false
-}
-
-// As the receive asks for memory to wait it is halted, a message comes, and the memory is refused.
-fn receive_without_memory<
-    'a,
-    J: Recording + Send + Sync,
-    R: Threads + Wait + Clock + RandomSource + AllocGlobal + Sync + Abort,
->(rt: &R, alloc: &'a Refusing<Global>, fresh: Fresh<u64, u64, Waiter<&'a Refusing<Global>>>)
-    requires names { fresh ≡ names J.log J.capacity J.is_reserved J.name J.parts }
-    requires capacity { fresh.capacity ≡ 1 }
-    requires reserved { fresh.is_reserved ≡ true }
-    requires passes { fresh.passes ≡ 2 }
-{
-    let core = PriorityQueueChannel::bounded_reserved(alloc, 1).expect(rt, "a core");
-    let made = Witnessed::<u64, u64, Waiter<&'a Refusing<Global>>, J, _>::new(
-        alloc, fresh, core, 2,
-    );
-    let (channel, mut passes) = made.expect(rt, "a channel");
-    let mut own = passes.pop().expect(rt, "a pass");
-    let pass = passes.pop().expect(rt, "a pass");
-    alloc.hold_nth(1);
-    alloc.refuse_nth(1);
-    let shared = &channel;
-    let ((received, pass), was_halted) = thread::join(
-        rt,
-        || block_on(rt, shared.recv(rt, pass)).expect(rt, "an executor"),
-        || {
-            let was_halted = is_halted_in_time(rt, alloc);
-            let (_, wakes) = shared.try_send(rt, &mut own, 7, 1);
-            wake_all(rt, wakes);
-            alloc.let_go();
-            was_halted
-        },
-    );
-    expect_equal(rt, (received, was_halted), (Ok((7, 1)), true));
-    expect_equal(rt, alloc.refuse_none(), false);
-    passes.push(pass).expect(rt, "its own place");
-    passes.push(own).expect(rt, "its own place");
-    channel.end(rt, passes);
-}
-
-#[test]
-fn a_receive_without_memory_takes_what_has_come(rt: HostRuntime) {
-    let alloc = Refusing::new(rt.alloc());
-    receive_without_memory::<Brand, _>(&rt, &alloc, Fresh::new(1, true, 2));
 }
 
 // A receive and a send wait, each with a pass that comes where the one before has left, and are
