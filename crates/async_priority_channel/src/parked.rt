@@ -36,8 +36,7 @@
 //! | promote | makes the next the head (`hand_on`)    | both      | return                       |
 //!
 //! If spinning was recently of no use, unlist, spin and relist are skipped.
-ghost use Rattle.std.specs.Prelude.{◌≡◌, IfErr, IfSome};
-ghost use Rattle.priority_channel_waiting.specs.Ends.{OnOver};
+ghost use Rattle.std.specs.Prelude.{IfErr, IfSome};
 ghost use Rattle.priority_channel_waiting.specs.Waits.{left_over, given_back};
 
 use crate::handle::Handle;
@@ -68,9 +67,8 @@ impl<T, P: Ord, R: Wait + Clone, A: Allocator + Copy> Handle<T, P, R, A> {
         waiter: &mut Option<Waiter<A>>,
     ) -> Result<C::Done, Ended<C, U::Over>>
         requires { C.can_attempt call }
-        ensures rest { IfErr result (λ ended. C.can_attempt (given_back ended)
+        ensures { IfErr result (λ ended. C.can_attempt (given_back ended)
             × C.leaves call (given_back ended)) }
-        ensures in_time { IfErr result (λ ended. OnOver ended (U.has_come until.now)) }
     {
         match self.attempt(call).answer() {
             Ok(answer) => answer,
@@ -95,9 +93,8 @@ impl<T, P: Ord, R: Wait + Clone, A: Allocator + Copy> Handle<T, P, R, A> {
         waiter: &mut Option<Waiter<A>>,
     ) -> Result<C::Done, Ended<C, U::Over>>
         requires { C.can_attempt call }
-        ensures rest { IfErr result (λ ended. C.can_attempt (given_back ended)
+        ensures { IfErr result (λ ended. C.can_attempt (given_back ended)
             × C.leaves call (given_back ended)) }
-        ensures in_time { IfErr result (λ ended. OnOver ended (U.has_come until.now)) }
     {
         if let Err(over) = until.left() {
             return self.end_wait(call, over);
@@ -194,9 +191,7 @@ impl<T, P: Ord, R: Wait + Clone, A: Allocator + Copy> Handle<T, P, R, A> {
         party: Queued,
         until: &U,
         waiter: &Waiter<A>,
-    ) -> Result<Lead, U::Over>
-        ensures { IfErr result (U.has_come until.now) }
-    {
+    ) -> Result<Lead, U::Over> {
         let mut party = party;
         for _ in self.rt().forever() {
             let led = self.line(side).lead(party);
@@ -226,9 +221,8 @@ impl<T, P: Ord, R: Wait + Clone, A: Allocator + Copy> Handle<T, P, R, A> {
         waiter: &Waiter<A>,
     ) -> Result<C::Done, Ended<C, U::Over>>
         requires { C.can_attempt call }
-        ensures rest { IfErr result (λ ended. C.can_attempt (given_back ended)
+        ensures { IfErr result (λ ended. C.can_attempt (given_back ended)
             × C.leaves call (given_back ended)) }
-        ensures in_time { IfErr result (λ ended. OnOver ended (U.has_come until.now)) }
     {
         let side = C::side();
         let mut rest = call;
@@ -279,9 +273,8 @@ impl<T, P: Ord, R: Wait + Clone, A: Allocator + Copy> Handle<T, P, R, A> {
         over: O,
     ) -> Result<C::Done, Ended<C, O>>
         requires { C.can_attempt call }
-        ensures rest { IfErr result (λ ended. C.can_attempt (given_back ended)
+        ensures { IfErr result (λ ended. C.can_attempt (given_back ended)
             × C.leaves call (given_back ended)) }
-        ensures in_time { IfErr result (λ ended. OnOver ended (λ evidence. evidence ≡ over)) }
     {
         match self.attempt(call) {
             Outcome::Done(done) => Ok(done),

@@ -78,9 +78,9 @@ module _ {T P Z W O : Type 0} (cmp : P → P → Ordering) (is_clone : W → W �
       → IfErr waited (λ rest. HasCalled old new (IsSentOn cmp is_clone capacity is_reserved old pairs (Err (late.Timeout (list_in rest.0))) new))
       → IfOk waited (λ reply. send_in_time reply ≡ result) → IfErr waited (λ rest. result ≡ Err (late.Timeout rest.0))
       → HasCalled old new (IsSentOn cmp is_clone capacity is_reserved old pairs (listed_in_time result) new)
-  sent_in_time (Ok reply) result answered over is gone =
-      subst (λ r. HasCalled old new (IsSentOn cmp is_clone capacity is_reserved old pairs (listed_in_time r) new)) is answered
-  sent_in_time (Err rest) result answered over gone is =
+  sent_in_time (Ok reply) result sent over is gone =
+      subst (λ r. HasCalled old new (IsSentOn cmp is_clone capacity is_reserved old pairs (listed_in_time r) new)) is sent
+  sent_in_time (Err rest) result gone over none is =
       subst (λ r. HasCalled old new (IsSentOn cmp is_clone capacity is_reserved old pairs (listed_in_time r) new)) (sym is) over
 
 module _ {T P Z W : Type 0} where
