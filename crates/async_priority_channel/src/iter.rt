@@ -3,14 +3,13 @@ ghost use Rattle.std.specs.Prelude.{◌≡◌, ◌<◌, IfSome, IfNone, None};
 ghost use Rattle.std.specs.Iterator.{at_most};
 
 use crate::handle::Handle;
-use crate::receiver::{Holds, Receiver};
+use crate::receiver::Receiver;
 use priority_channel_waiting::attempts::Receive;
 use priority_channel_waiting::timeouts::Ended;
 use priority_channel_waiting::until::Endless;
 use priority_channel_waiting::waiter::Waiter;
 use std::alloc::{Allocator, Global};
 use std::iter::FusedIterator;
-use std::marker::PhantomData;
 use std::sync::Wait;
 use std::thread::Parker;
 use std::time::Duration;
@@ -84,7 +83,33 @@ fn pause<R: Wait>(rt: &R) {
 /// }
 /// assert_eq!(rt; sending.join(&rt), Ok(()));
 /// ```
-pub type Iter<'a, T, P, R, A = Global> = Loop<&'a Receiver<T, P, R, A>, T, P, R, A>;
+#[must_use = "it receives nothing until it is asked for the next message"]
+pub struct Iter<'a, T, P: Ord, R: Wait + Clone, A: Allocator + Copy = Global> {
+    receiver: &'a Receiver<T, P, R, A>,
+    waits: Waits<A>,
+}
+
+impl<'a, T, P: Ord, R: Wait + Clone, A: Allocator + Copy> Drop for Iter<'a, T, P, R, A> {
+    fn drop(self) {
+        let Iter {
+            receiver: _,
+            waits: _,
+        } = self;
+    }
+}
+
+impl<'a, T, P: Ord, R: Wait + Clone, A: Allocator + Copy> Iterator for Iter<'a, T, P, R, A> {
+    type Item = (T, P);
+
+    ghost remaining = { λ s. at_most s.waits.left };
+
+    fn next(&mut self) -> Option<(T, P)> {
+        let receiver = self.receiver;
+        self.waits.next_on(&receiver.handle)
+    }
+}
+
+impl<'a, T, P: Ord, R: Wait + Clone, A: Allocator + Copy> FusedIterator for Iter<'a, T, P, R, A> {}
 
 /// As `Iter`, with its own receiver, which is dropped with it. `for pair in rx` makes it.
 ///
@@ -98,40 +123,26 @@ pub type Iter<'a, T, P, R, A = Global> = Loop<&'a Receiver<T, P, R, A>, T, P, R,
 /// }
 /// assert_eq!(rt; tx.receiver_count(), 0);
 /// ```
-pub type IntoIter<T, P, R, A = Global> = Loop<Receiver<T, P, R, A>, T, P, R, A>;
-
-/// An `Iter` or an `IntoIter`. `H` is what holds the receiver.
 #[derive(Drop)]
 #[must_use = "it receives nothing until it is asked for the next message"]
-pub struct Loop<H: Holds<T, P, R, A>, T, P: Ord, R: Wait + Clone, A: Allocator + Copy> {
-    receiver: H,
+pub struct IntoIter<T, P: Ord, R: Wait + Clone, A: Allocator + Copy = Global> {
+    receiver: Receiver<T, P, R, A>,
     waits: Waits<A>,
-    pairs: PhantomData<(T, P, R)>,
 }
 
-impl<H: Holds<T, P, R, A>, T, P: Ord, R: Wait + Clone, A: Allocator + Copy> Loop<H, T, P, R, A> {
-    fn new(receiver: H) -> Self {
-        Loop {
-            receiver,
-            waits: Waits::new(),
-            pairs: PhantomData,
-        }
-    }
-}
-
-impl<H: Holds<T, P, R, A> + Drop, T, P: Ord, R: Wait + Clone, A: Allocator + Copy> Iterator
-    for Loop<H, T, P, R, A> {
+impl<T: Drop, P: Ord + Drop, R: Wait + Clone, A: Allocator + Copy> Iterator
+    for IntoIter<T, P, R, A> {
     type Item = (T, P);
 
     ghost remaining = { λ s. at_most s.waits.left };
 
     fn next(&mut self) -> Option<(T, P)> {
-        self.waits.next_on(self.receiver.handle())
+        self.waits.next_on(&self.receiver.handle)
     }
 }
 
-impl<H: Holds<T, P, R, A> + Drop, T, P: Ord, R: Wait + Clone, A: Allocator + Copy> FusedIterator
-    for Loop<H, T, P, R, A> {}
+impl<T: Drop, P: Ord + Drop, R: Wait + Clone, A: Allocator + Copy> FusedIterator
+    for IntoIter<T, P, R, A> {}
 
 /// The messages that are pending, until there is none. `Receiver::try_iter` makes it. Once it has
 /// found none, it stays ended.
@@ -199,7 +210,10 @@ impl<T: Drop, P: Ord + Drop, R: Wait + Clone, A: Allocator + Copy> IntoIterator
     type IntoIter = IntoIter<T, P, R, A>;
 
     fn into_iter(self) -> IntoIter<T, P, R, A> {
-        Loop::new(self)
+        IntoIter {
+            receiver: self,
+            waits: Waits::new(),
+        }
     }
 }
 
@@ -218,7 +232,10 @@ impl<T, P: Ord, R: Wait + Clone, A: Allocator + Copy> Receiver<T, P, R, A> {
     /// assert_eq!(rt; jobs.next(), None);
     /// ```
     pub fn iter(&self) -> Iter<'_, T, P, R, A> {
-        Loop::new(self)
+        Iter {
+            receiver: self,
+            waits: Waits::new(),
+        }
     }
 
     /// The messages that are pending, until there is none. It never waits.

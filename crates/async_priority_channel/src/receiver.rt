@@ -3,7 +3,6 @@ ghost use Rattle.std.specs.Prelude.{◌≡◌};
 ghost use Rattle.priority_channel_waiting.specs.Holding.{unpolled};
 
 use crate::end::{End, Role};
-use crate::handle::Handle;
 use crate::waiting::{Recv, RecvState, Task, Waiting};
 use priority_channel_core::errors::TryRecvError;
 use priority_channel_core::side::Side;
@@ -47,32 +46,6 @@ impl Role for Receiving {
 /// assert_eq!(rt; rx.try_recv(), Ok(("second", 5)));
 /// ```
 pub type Receiver<T, P, R, A = Global> = End<Receiving, T, P, R, A>;
-
-/// A receiver, or a reference to one: what a loop or a stream over the messages holds.
-pub trait Holds<T, P: Ord, R: Wait + Clone, A: Allocator + Copy> {
-    ghost use Rattle.async_priority_channel.specs.Handles.{Channel};
-
-    ghost channel: { Self → Channel };
-
-    fn handle(&self) -> &Handle<T, P, R, A>
-        ensures { result.now ≡ channel self.now };
-}
-
-impl<T, P: Ord, R: Wait + Clone, A: Allocator + Copy> Holds<T, P, R, A> for Receiver<T, P, R, A> {
-    ghost channel = { λ receiver. receiver };
-
-    fn handle(&self) -> &Handle<T, P, R, A> {
-        &self.handle
-    }
-}
-
-impl<T, P: Ord, R: Wait + Clone, A: Allocator + Copy> Holds<T, P, R, A> for &Receiver<T, P, R, A> {
-    ghost channel = { λ receiver. receiver.now };
-
-    fn handle(&self) -> &Handle<T, P, R, A> {
-        &self.handle
-    }
-}
 
 impl<T: Drop, P: Ord + Drop, R: Wait + Clone, A: Allocator + Copy> Receiver<T, P, R, A> {
     /// Receives a message as soon as there is one. This is a future, which does nothing until it is

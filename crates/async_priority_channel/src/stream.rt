@@ -5,15 +5,74 @@ ghost use Rattle.futures.specs.Poll.{IfReady, OnPending};
 ghost use Rattle.futures.specs.Runs.{After, Within};
 ghost use Rattle.async_priority_channel.specs.Handles.{MayYield};
 
-use crate::receiver::{Holds, Receiver};
+use crate::handle::Handle;
+use crate::receiver::Receiver;
 use crate::waiting::{RecvState, Task};
 use futures::Stream;
 use futures::task::{Context, Poll};
 use priority_channel_core::errors::RecvFault;
 use priority_channel_waiting::states::One;
 use std::alloc::{Allocator, Global};
-use std::marker::{Model, PhantomData};
+use std::marker::Model;
 use std::sync::Wait;
+
+// The receives of a task, one after another.
+#[derive(Drop)]
+struct Receives<A: Allocator> {
+    task: Task<(), One, A>,
+    has_ended: bool,
+}
+
+impl<A: Allocator + Copy> Receives<A> {
+    fn new() -> Self
+        ensures { result.has_ended ≡ false }
+    {
+        Receives {
+            task: Task::new(RecvState::new()),
+            has_ended: false,
+        }
+    }
+
+    fn poll_next_on<T, P: Ord, R: Wait + Clone>(
+        &mut self,
+        handle: &Handle<T, P, R, A>,
+        cx: &mut Context<'_>,
+    ) -> Poll<Option<(T, P)>>
+        ensures registered { OnPending result (Covers cx.new (λ source.
+            source ≡ handle.now.message)) }
+        ensures kept { Keeps cx.old cx.new }
+        ensures ended { IfReady result (λ next. next ≡ None → self.new.has_ended ≡ true) }
+        ensures goes_on { IfReady result (λ next. OnSome next
+            (self.new.has_ended ≡ self.old.has_ended)) }
+        ensures waits { OnPending result (self.new.has_ended ≡ self.old.has_ended) }
+        ensures stays_ended { self.old.has_ended ≡ true → result ≡ Poll.Ready None }
+    {
+        if self.has_ended {
+            return Poll::Ready(None);
+        }
+        match self.task.receive(handle, cx) {
+            Poll::Pending => Poll::Pending,
+            Poll::Ready(Ok(pair)) => {
+                self.task.begin_again();
+                Poll::Ready(Some(pair))
+            }
+            Poll::Ready(Err(RecvFault::Closed(_))) => {
+                self.has_ended = true;
+                Poll::Ready(None)
+            }
+            // There may be memory at the next poll, so the task asks to be polled at once.
+            Poll::Ready(Err(RecvFault::Memory)) => {
+                self.task.begin_again();
+                cx.yield_now()
+            }
+        }
+    }
+
+    fn end<T, P: Ord, R: Wait + Clone>(self, handle: &Handle<T, P, R, A>) {
+        let Receives { task, has_ended: _ } = self;
+        task.end(handle);
+    }
+}
 
 /// The messages of a channel as a stream, which ends for good when the channel is closed and empty.
 /// `Receiver::stream` makes it.
@@ -30,57 +89,21 @@ use std::sync::Wait;
 /// assert_eq!(rt; block_on(&rt, stream.next())?, Some(("Foo", 0)));
 /// assert_eq!(rt; block_on(&rt, stream.next())?, None);
 /// ```
-pub type RecvStream<'a, T, P, R, A = Global> = Messages<&'a Receiver<T, P, R, A>, T, P, R, A>;
-
-/// As `RecvStream`, with its own receiver, which is dropped with it: a task can own it.
-/// `Receiver::into_stream` makes it.
-///
-/// ```
-/// let (tx, rx) = unbounded(&rt, rt.alloc())?;
-/// tx.try_send("Foo", 0)?;
-/// let mut stream = rx.into_stream();
-/// assert_eq!(rt; block_on(&rt, stream.next())?, Some(("Foo", 0)));
-/// drop(stream);
-/// assert!(rt; tx.is_closed());
-/// ```
-pub type IntoStream<T, P, R, A = Global> = Messages<Receiver<T, P, R, A>, T, P, R, A>;
-
-/// A `RecvStream` or an `IntoStream`. `H` is what holds the receiver.
 #[must_use = "a stream does nothing until it is polled: `block_on`, or `for pair in &rx`"]
-pub struct Messages<H: Holds<T, P, R, A>, T, P: Ord, R: Wait + Clone, A: Allocator + Copy> {
-    receiver: H,
-    task: Task<(), One, A>,
-    has_ended: bool,
-    pairs: PhantomData<(T, P, R)>,
+pub struct RecvStream<'a, T, P: Ord, R: Wait + Clone, A: Allocator + Copy = Global> {
+    receiver: &'a Receiver<T, P, R, A>,
+    receives: Receives<A>,
 }
 
-impl<H: Holds<T, P, R, A>, T, P: Ord, R: Wait + Clone, A: Allocator + Copy> Model
-    for Messages<H, T, P, R, A> {
+impl<'a, T, P: Ord, R: Wait + Clone, A: Allocator + Copy> Model for RecvStream<'a, T, P, R, A> {
     ghost use Rattle.async_priority_channel.specs.Handles.{Streaming};
 
     ghost Value = { Streaming };
 
-    ghost view = { λ s. record {
-      channel = H.channel s.receiver;
-      has_ended = s.has_ended;
-    } };
+    ghost view = { λ s. record { channel = s.receiver.now; has_ended = s.receives.has_ended } };
 }
 
-fn messages_of<H: Holds<T, P, R, A>, T, P: Ord, R: Wait + Clone, A: Allocator + Copy>(
-    receiver: H,
-) -> Messages<H, T, P, R, A>
-    ensures { result ≡ record { channel = H.channel receiver; has_ended = false } }
-{
-    Messages {
-        receiver,
-        task: Task::new(RecvState::new()),
-        has_ended: false,
-        pairs: PhantomData,
-    }
-}
-
-impl<H: Holds<T, P, R, A> + Drop, T, P: Ord, R: Wait + Clone, A: Allocator + Copy> Stream
-    for Messages<H, T, P, R, A> {
+impl<T, P: Ord, R: Wait + Clone, A: Allocator + Copy> Stream for RecvStream<'_, T, P, R, A> {
     type Item = (T, P);
 
     ghost needs = { λ s source. source ≡ s.channel.message };
@@ -104,38 +127,76 @@ impl<H: Holds<T, P, R, A> + Drop, T, P: Ord, R: Wait + Clone, A: Allocator + Cop
         ensures waits { OnPending result (self.new ≡ self.old) }
         ensures stays_ended { self.old.has_ended ≡ true → result ≡ Poll.Ready None }
     {
-        if self.has_ended {
-            return Poll::Ready(None);
-        }
-        match self.task.receive(self.receiver.handle(), cx) {
-            Poll::Pending => Poll::Pending,
-            Poll::Ready(Ok(pair)) => {
-                self.task.begin_again();
-                Poll::Ready(Some(pair))
-            }
-            Poll::Ready(Err(RecvFault::Closed(_))) => {
-                self.has_ended = true;
-                Poll::Ready(None)
-            }
-            // There may be memory at the next poll, so the task asks to be polled at once.
-            Poll::Ready(Err(RecvFault::Memory)) => {
-                self.task.begin_again();
-                cx.yield_now()
-            }
-        }
+        let receiver = self.receiver;
+        self.receives.poll_next_on(&receiver.handle, cx)
     }
 }
 
-impl<H: Holds<T, P, R, A> + Drop, T, P: Ord, R: Wait + Clone, A: Allocator + Copy> Drop
-    for Messages<H, T, P, R, A> {
+impl<T, P: Ord, R: Wait + Clone, A: Allocator + Copy> Drop for RecvStream<'_, T, P, R, A> {
     fn drop(self) {
-        let Messages {
-            receiver,
-            task,
-            has_ended: _,
-            pairs: _,
-        } = self;
-        task.end(receiver.handle());
+        let RecvStream { receiver, receives } = self;
+        receives.end(&receiver.handle);
+    }
+}
+
+/// As `RecvStream`, with its own receiver, which is dropped with it: a task can own it.
+/// `Receiver::into_stream` makes it.
+///
+/// ```
+/// let (tx, rx) = unbounded(&rt, rt.alloc())?;
+/// tx.try_send("Foo", 0)?;
+/// let mut stream = rx.into_stream();
+/// assert_eq!(rt; block_on(&rt, stream.next())?, Some(("Foo", 0)));
+/// drop(stream);
+/// assert!(rt; tx.is_closed());
+/// ```
+#[must_use = "a stream does nothing until it is polled: `block_on`, or `for pair in rx`"]
+pub struct IntoStream<T, P: Ord, R: Wait + Clone, A: Allocator + Copy = Global> {
+    receiver: Receiver<T, P, R, A>,
+    receives: Receives<A>,
+}
+
+impl<T, P: Ord, R: Wait + Clone, A: Allocator + Copy> Model for IntoStream<T, P, R, A> {
+    ghost use Rattle.async_priority_channel.specs.Handles.{Streaming};
+
+    ghost Value = { Streaming };
+
+    ghost view = { λ s. record { channel = s.receiver; has_ended = s.receives.has_ended } };
+}
+
+impl<T: Drop, P: Ord + Drop, R: Wait + Clone, A: Allocator + Copy> Stream
+    for IntoStream<T, P, R, A> {
+    type Item = (T, P);
+
+    ghost needs = { λ s source. source ≡ s.channel.message };
+
+    ghost yields = { MayYield };
+
+    fn poll_next(&mut self, cx: &mut Context<'_>) -> Poll<Option<(T, P)>>
+        ensures value { IfReady result (MayYield self.old []) }
+        ensures rest { IfReady result (λ next. IfSome next
+            (λ pair. After (MayYield self.old) pair (MayYield self.new))) }
+        ensures goes { IfReady result (λ next. OnSome next ⊤) }
+        ensures again { OnPending result ⊤ }
+        ensures same { OnPending result (Within (MayYield {X = T × P} self.old)
+            (MayYield self.new)) }
+        ensures registered { OnPending result (Covers cx.new (λ source.
+            source ≡ self.new.channel.message)) }
+        ensures kept { Keeps cx.old cx.new }
+        ensures channel { self.new.channel ≡ self.old.channel }
+        ensures ended { IfReady result (λ next. next ≡ None → self.new.has_ended ≡ true) }
+        ensures goes_on { IfReady result (λ next. OnSome next (self.new ≡ self.old)) }
+        ensures waits { OnPending result (self.new ≡ self.old) }
+        ensures stays_ended { self.old.has_ended ≡ true → result ≡ Poll.Ready None }
+    {
+        self.receives.poll_next_on(&self.receiver.handle, cx)
+    }
+}
+
+impl<T: Drop, P: Ord + Drop, R: Wait + Clone, A: Allocator + Copy> Drop for IntoStream<T, P, R, A> {
+    fn drop(self) {
+        let IntoStream { receiver, receives } = self;
+        receives.end(&receiver.handle);
         drop(receiver);
     }
 }
@@ -155,7 +216,10 @@ impl<T, P: Ord, R: Wait + Clone, A: Allocator + Copy> Receiver<T, P, R, A> {
     pub fn stream(&self) -> RecvStream<'_, T, P, R, A>
         ensures { result ≡ record { channel = self.now; has_ended = false } }
     {
-        messages_of(self)
+        RecvStream {
+            receiver: self,
+            receives: Receives::new(),
+        }
     }
 
     /// As `stream`, for a task that outlives this receiver.
@@ -172,6 +236,9 @@ impl<T, P: Ord, R: Wait + Clone, A: Allocator + Copy> Receiver<T, P, R, A> {
     pub fn into_stream(self) -> IntoStream<T, P, R, A>
         ensures { result ≡ record { channel = self; has_ended = false } }
     {
-        messages_of(self)
+        IntoStream {
+            receiver: self,
+            receives: Receives::new(),
+        }
     }
 }
