@@ -21,10 +21,14 @@ impl<R: Host, A: Allocator + Copy> Handles<R, A> {
     /// The allocator of the channel serves its batches too.
     pub fn new(rt: &R, alloc: A, ends: Ends<u64, u64, R, A>) -> Self {
         let (tx, rx) = ends;
+        let mut senders = Vec::new(rt.alloc());
+        senders.push(tx).expect(rt, "memory for a handle");
+        let mut receivers = Vec::new(rt.alloc());
+        receivers.push(rx).expect(rt, "memory for a handle");
         Handles {
             alloc,
-            senders: Vec::from_array(rt.alloc(), [tx]).expect(rt, "memory for handles"),
-            receivers: Vec::from_array(rt.alloc(), [rx]).expect(rt, "memory for handles"),
+            senders,
+            receivers,
         }
     }
 
