@@ -36,10 +36,11 @@ pub record Streaming : Type 0 where
 abbrev pub MayYield : {X : Type 0} → Streaming → List X → Option X → Type 0
 MayYield stream pairs next = stream.has_ended ≡ true → (pairs ≡ []) × (next ≡ None)
 
--- a future that receives up to `limit` messages, and whether it has answered
-pub record Batching : Type 0 where
+-- a future that receives up to `limit` messages into a batch, and whether it has answered
+pub record Batching (X : Type 0) : Type 0 where
   pub channel : Channel
   pub limit : ℕ
+  pub batch : List X
   pub is_done : Bool
 
 -- the error of a send gives back what the future kept

@@ -40,8 +40,8 @@ impl<T, P: Ord, R: Wait + Clone, A: Allocator + Copy> Receiver<T, P, R, A> {
     /// There is no limit if the timeout ends past the range of the clock. A message that comes at
     /// the last moment is received.
     ///
-    /// `Timeout` is returned only if the clock was read at or past the deadline, or cannot be read. It is
-    /// returned, and not `Memory`, if memory for the message is refused at the last try.
+    /// `Timeout` is returned only if the clock was read at or past the deadline, or cannot be read.
+    /// It is returned, and not `Memory`, if memory for the message is refused at the last try.
     ///
     /// ```
     /// let (tx, rx) = bounded(&rt, rt.alloc(), 1)?;

@@ -90,7 +90,7 @@ impl<S: Role, T, P: Ord, R: Wait + Clone, A: Allocator + Copy> End<S, T, P, R, A
     /// assert!(rt; rx.is_closed() && !rx.is_empty());
     /// ```
     pub fn is_closed(&self) -> bool {
-        self.handle.lock().is_closed()
+        self.handle.look().core().is_closed()
     }
 
     /// Whether no message is pending.
@@ -103,7 +103,7 @@ impl<S: Role, T, P: Ord, R: Wait + Clone, A: Allocator + Copy> End<S, T, P, R, A
     /// assert!(rt; tx.is_empty());
     /// ```
     pub fn is_empty(&self) -> bool {
-        self.handle.lock().is_empty()
+        self.handle.look().core().is_empty()
     }
 
     /// Whether there is no room.
@@ -116,7 +116,7 @@ impl<S: Role, T, P: Ord, R: Wait + Clone, A: Allocator + Copy> End<S, T, P, R, A
     /// assert!(rt; !tx.is_full());
     /// ```
     pub fn is_full(&self) -> bool {
-        self.handle.lock().is_full()
+        self.handle.look().core().is_full()
     }
 
     /// The number of pending messages.
@@ -130,7 +130,7 @@ impl<S: Role, T, P: Ord, R: Wait + Clone, A: Allocator + Copy> End<S, T, P, R, A
     /// assert_eq!(rt; rx.len(), 2);
     /// ```
     pub fn len(&self) -> u64 {
-        self.handle.lock().len()
+        self.handle.look().core().len()
     }
 
     /// The greatest number of messages that may be pending at a time. None if the capacity is
@@ -177,7 +177,7 @@ impl<S: Role, T, P: Ord, R: Wait + Clone, A: Allocator + Copy> End<S, T, P, R, A
     /// assert_eq!(rt; tx.sender_count(), 1);
     /// ```
     pub fn sender_count(&self) -> usize {
-        self.handle.lock().sender_count()
+        self.handle.look().core().sender_count()
     }
 
     /// The number of the channel's receivers.
@@ -189,7 +189,7 @@ impl<S: Role, T, P: Ord, R: Wait + Clone, A: Allocator + Copy> End<S, T, P, R, A
     /// assert_eq!(rt; tx.receiver_count(), 0);
     /// ```
     pub fn receiver_count(&self) -> usize {
-        self.handle.lock().receiver_count()
+        self.handle.look().core().receiver_count()
     }
 }
 
@@ -214,7 +214,10 @@ impl<S: Role, T: Drop, P: Ord + Drop, R: Wait + Clone, A: Allocator + Copy> Clon
     fn clone(&self) -> Result<Self, AllocError> {
         let handle = self.handle.share()?;
         // This comes last, so that a refusal above leaves the count unchanged.
-        if !join(S::SIDE, &mut self.handle.lock()) {
+        let mut held = self.handle.hold();
+        let has_joined = join(S::SIDE, held.core());
+        held.unlock();
+        if !has_joined {
             return Err(AllocError);
         }
         Ok(End::new(handle, self.role))
@@ -225,11 +228,11 @@ impl<S: Role, T: Drop, P: Ord + Drop, R: Wait + Clone, A: Allocator + Copy> Drop
     for End<S, T, P, R, A> {
     fn drop(self) {
         let End { handle, role: _ } = self;
-        let mut core = handle.lock();
-        let receivers = core.receiver_count();
-        let wakes = leave(S::SIDE, &mut core);
-        let was_last = receivers > 0 && core.receiver_count() == 0;
-        handle.release(core, wakes);
+        let mut held = handle.hold();
+        let receivers = held.core().receiver_count();
+        let wakes = leave(S::SIDE, held.core());
+        let was_last = receivers > 0 && held.core().receiver_count() == 0;
+        handle.release(held, wakes);
         if was_last && handle.lets_go() {
             let_go(&handle);
         }
@@ -262,11 +265,11 @@ fn leave<T, P: Ord, A: Allocator + Copy>(
 fn let_go<T: Drop, P: Ord + Drop, R: Wait + Clone, A: Allocator + Copy>(
     handle: &Handle<T, P, R, A>,
 ) {
-    let pending = handle.lock().len();
+    let pending = handle.look().core().len();
     for _ in 0..pending {
-        let mut core = handle.lock();
-        let (received, wakes) = core.try_recv();
-        handle.release(core, wakes);
+        let mut held = handle.hold();
+        let (received, wakes) = held.core().try_recv();
+        handle.release(held, wakes);
         drop(received);
     }
 }

@@ -86,6 +86,40 @@ impl<T, P: Ord, R, A: Allocator + Copy> Model for Handle<T, P, R, A> {
     ghost view = { λ h. arc_value h.shared };
 }
 
+/// The core under its lock. Code cannot forget it, since it is not `Drop`: a hold ends by `unlock`,
+/// or by `Handle::release`, which also wakes the waiters that a call took off the lists. These
+/// (`Wakes`) are not `Drop` either. So a call that takes waiters off the lists is followed by
+/// `release`, and no waiter is woken under the lock.
+pub struct Held<'h, T, P: Ord, A: Allocator + Copy> {
+    core: MutexGuard<'h, Core<T, P, A>>,
+}
+
+impl<T, P: Ord, A: Allocator + Copy> Held<'_, T, P, A> {
+    #[inline(always)]
+    pub fn core(&mut self) -> &mut Core<T, P, A> {
+        &mut self.core
+    }
+
+    /// Releases the lock after calls that took no waiter off the lists.
+    pub fn unlock(self) {
+        let Held { core } = self;
+        drop(core);
+    }
+}
+
+/// The core under its lock, for queries.
+#[derive(Drop)]
+pub struct Look<'h, T, P: Ord, A: Allocator + Copy> {
+    core: MutexGuard<'h, Core<T, P, A>>,
+}
+
+impl<T, P: Ord, A: Allocator + Copy> Look<'_, T, P, A> {
+    #[inline(always)]
+    pub fn core(&self) -> &Core<T, P, A> {
+        &self.core
+    }
+}
+
 impl<T: Drop, P: Ord + Drop, R: Wait + Clone, A: Allocator + Copy> Handle<T, P, R, A> {
     /// The handles of the first sender and the first receiver of a new channel over this core.
     pub fn pair(
@@ -128,17 +162,29 @@ impl<T, P: Ord, R: Wait + Clone, A: Allocator + Copy> Handle<T, P, R, A> {
         Ok(Handle { rt, shared })
     }
 
+    /// Locks the core for a call that may change it.
     #[inline(always)]
-    pub fn lock(&self) -> MutexGuard<'_, Core<T, P, A>> {
-        self.shared.core.lock(&self.rt)
+    pub fn hold(&self) -> Held<'_, T, P, A> {
+        Held {
+            core: self.shared.core.lock(&self.rt),
+        }
     }
 
     /// Releases the lock, and then wakes the waiters that the call under this lock took off the
-    /// waiting lists. They are woken nowhere else, so no waiter is woken under the lock.
+    /// waiting lists.
     #[inline(always)]
-    pub fn release(&self, core: MutexGuard<'_, Core<T, P, A>>, wakes: Wakes<Waiter<A>, A>) {
+    pub fn release(&self, held: Held<'_, T, P, A>, wakes: Wakes<Waiter<A>, A>) {
+        let Held { core } = held;
         drop(core);
         wake_all(&self.rt, wakes);
+    }
+
+    /// Locks the core for queries.
+    #[inline(always)]
+    pub fn look(&self) -> Look<'_, T, P, A> {
+        Look {
+            core: self.shared.core.lock(&self.rt),
+        }
     }
 
     fn waits(&self, side: Side) -> &Waits<A>
@@ -180,7 +226,7 @@ impl<T, P: Ord, R: Wait + Clone, A: Allocator + Copy> Handle<T, P, R, A> {
         ensures kept { Keeps cx.old cx.new }
     {
         let source = &self.waits(side).source;
-        Waiter::register_party(&self.rt, self.shared.alloc, cx, source, waiter)
+        Waiter::register(&self.rt, self.shared.alloc, cx, source, waiter)
     }
 
     /// When the last receiver is dropped, pending messages are dropped too.
@@ -201,9 +247,9 @@ impl<T, P: Ord, R: Wait + Clone, A: Allocator + Copy> Handle<T, P, R, A> {
     }
 
     pub fn close(&self) -> bool {
-        let mut core = self.lock();
-        let (was_open, wakes) = core.close();
-        self.release(core, wakes);
+        let mut held = self.hold();
+        let (was_open, wakes) = held.core().close();
+        self.release(held, wakes);
         was_open
     }
 

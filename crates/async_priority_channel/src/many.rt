@@ -10,10 +10,14 @@ use crate::waiting::{RecvState, Task};
 use futures::Future;
 use futures::task::{Context, Poll};
 use priority_channel_core::errors::{RecvError, RecvFault, TryRecvManyError};
+use priority_channel_waiting::attempts::Receive;
 use priority_channel_waiting::states::One;
+use priority_channel_waiting::timeouts::{Ended, RecvTimeoutError};
+use priority_channel_waiting::until::{Deadline, Endless, Until};
 use std::alloc::{Allocator, Global};
 use std::marker::Model;
 use std::sync::Wait;
+use std::time::{Clock, Duration, Instant};
 
 impl<T, P: Ord, R: Wait + Clone, A: Allocator + Copy> Receiver<T, P, R, A> {
     /// Receives up to `limit` messages at once, appends them to `batch`, the greatest priority
@@ -44,9 +48,9 @@ impl<T, P: Ord, R: Wait + Clone, A: Allocator + Copy> Receiver<T, P, R, A> {
     {
         reserve(batch, limit, self.len());
         let most = limit.min(batch.capacity() - batch.len());
-        let mut core = self.handle.lock();
-        let (received, wakes) = core.try_recv_many(batch, most);
-        self.handle.release(core, wakes);
+        let mut held = self.handle.hold();
+        let (received, wakes) = held.core().try_recv_many(batch, most);
+        self.handle.release(held, wakes);
         match received {
             Ok(0) if limit > 0 => Err(TryRecvManyError::Memory),
             Ok(count) => Ok(count),
@@ -80,11 +84,86 @@ impl<T, P: Ord, R: Wait + Clone, A: Allocator + Copy> Receiver<T, P, R, A> {
         ensures limited { IfOk result (IsWithin limit) }
         ensures unchanged { OnErr result (batch.new.items ≡ batch.old.items) }
     {
-        if let Some(answer) = self.answer_at_once(batch, limit) {
-            return answer;
+        Ok(self.recv_many_until(batch, limit, &Endless)?)
+    }
+
+    /// As `recv_many_blocking`, but waits for a first message no longer than `timeout`, as
+    /// `recv_timeout` does. It does not wait for further messages. `Timeout` is returned if none
+    /// came.
+    ///
+    /// ```
+    /// let (tx, rx) = bounded(&rt, rt.alloc(), 10)?;
+    /// let limit = Duration::from_millis(5);
+    /// let mut batch = Vec::new(rt.alloc());
+    /// let late = rx.recv_many_timeout(&mut batch, 8, limit);
+    /// assert_eq!(rt; late, Err(RecvTimeoutError::Timeout));
+    /// tx.try_send("Foo", 0)?;
+    /// tx.try_send("Bar", 2)?;
+    /// assert_eq!(rt; rx.recv_many_timeout(&mut batch, 8, limit), Ok(2));
+    /// assert_eq!(rt; batch.as_slice(), [("Bar", 2), ("Foo", 0)].as_slice());
+    /// ```
+    pub fn recv_many_timeout<B: Allocator>(
+        &self,
+        batch: &mut Vec<(T, P), B>,
+        limit: usize,
+        timeout: Duration,
+    ) -> Result<usize, RecvTimeoutError>
+    where
+        R: Clock,
+        ensures appended { IfOk result (Appends batch.old.items batch.new.items) }
+        ensures limited { IfOk result (IsWithin limit) }
+        ensures unchanged { OnErr result (batch.new.items ≡ batch.old.items) }
+    {
+        let deadline = Deadline::after(self.handle.rt(), timeout);
+        Ok(self.recv_many_until(batch, limit, &deadline)?)
+    }
+
+    /// As `recv_many_timeout`, but waits no longer than until `deadline`.
+    ///
+    /// ```
+    /// let (tx, rx) = bounded(&rt, rt.alloc(), 10)?;
+    /// tx.try_send("Foo", 0)?;
+    /// let now = Instant::now(&rt)?;
+    /// let mut batch = Vec::new(rt.alloc());
+    /// assert_eq!(rt; rx.recv_many_deadline(&mut batch, 8, now), Ok(1));
+    /// let late = rx.recv_many_deadline(&mut batch, 8, now);
+    /// assert_eq!(rt; late, Err(RecvTimeoutError::Timeout));
+    /// ```
+    pub fn recv_many_deadline<B: Allocator>(
+        &self,
+        batch: &mut Vec<(T, P), B>,
+        limit: usize,
+        deadline: Instant,
+    ) -> Result<usize, RecvTimeoutError>
+    where
+        R: Clock,
+        ensures appended { IfOk result (Appends batch.old.items batch.new.items) }
+        ensures limited { IfOk result (IsWithin limit) }
+        ensures unchanged { OnErr result (batch.new.items ≡ batch.old.items) }
+    {
+        let deadline = Deadline::at(self.handle.rt(), deadline);
+        Ok(self.recv_many_until(batch, limit, &deadline)?)
+    }
+
+    fn recv_many_until<B: Allocator, U: Until>(
+        &self,
+        batch: &mut Vec<(T, P), B>,
+        limit: usize,
+        until: &U,
+    ) -> Result<usize, Ended<Receive, U::Over>>
+        ensures appended { IfOk result (Appends batch.old.items batch.new.items) }
+        ensures limited { IfOk result (IsWithin limit) }
+        ensures unchanged { OnErr result (batch.new.items ≡ batch.old.items) }
+    {
+        match self.answer_at_once(batch, limit) {
+            Some(Ok(count)) => Ok(count),
+            Some(Err(RecvFault::Closed(_))) => Err(Ended::Closed(Receive)),
+            Some(Err(RecvFault::Memory)) => Err(Ended::Memory(Receive)),
+            None => {
+                let first = self.handle.wait(Receive, until, &mut None)?;
+                Ok(self.receive_with(first, batch, limit))
+            }
         }
-        let first = self.recv_blocking()?;
-        Ok(self.receive_with(first, batch, limit))
     }
 
     // None if the caller has to wait for a first message, for which there is then capacity.
@@ -154,7 +233,12 @@ impl<T, P: Ord, R: Wait + Clone, A: Allocator + Copy> Receiver<T, P, R, A> {
         batch: &'a mut Vec<(T, P), B>,
         limit: usize,
     ) -> RecvMany<'a, T, P, B, R, A>
-        ensures { result ≡ record { channel = self.now; limit = limit; is_done = false } }
+        ensures { result ≡ record {
+          channel = self.now;
+          limit = limit;
+          batch = batch.entry.now.items;
+          is_done = false;
+        } }
     {
         RecvMany {
             receiver: self,
@@ -201,11 +285,12 @@ impl<'a, T, P: Ord, B: Allocator, R: Wait + Clone, A: Allocator + Copy> Model
     for RecvMany<'a, T, P, B, R, A> {
     ghost use Rattle.async_priority_channel.specs.Handles.{Batching};
 
-    ghost Value = { Batching };
+    ghost Value = { Batching (T × P) };
 
     ghost view = { λ f. record {
       channel = f.receiver.now;
       limit = f.limit;
+      batch = f.batch.now.items;
       is_done = f.is_done;
     } };
 }
@@ -220,6 +305,10 @@ impl<T, P: Ord, B: Allocator, R: Wait + Clone, A: Allocator + Copy> Future
 
     fn poll(&mut self, cx: &mut Context<'_>) -> Poll<Result<usize, RecvFault>>
         ensures value { IfReady result (λ answer. IfOk answer (IsWithin self.old.limit)) }
+        ensures appended { IfReady result (λ answer. IfOk answer
+            (Appends self.old.batch self.new.batch)) }
+        ensures refused { IfReady result (λ answer. OnErr answer
+            (self.new.batch ≡ self.old.batch)) }
         ensures again { OnPending result ⊤ }
         ensures same { OnPending result ((x : Result ℕ RecvFault) → IfOk x (IsWithin self.new.limit)
             → IfOk x (IsWithin self.old.limit)) }
@@ -252,6 +341,7 @@ fn poll_batch<T, P: Ord, B: Allocator, R: Wait + Clone, A: Allocator + Copy>(
     ensures appended { IfReady result (λ answer. IfOk answer
         (Appends batch.old.items batch.new.items)) }
     ensures limited { IfReady result (λ answer. IfOk answer (IsWithin limit)) }
+    ensures refused { IfReady result (λ answer. OnErr answer (batch.new.items ≡ batch.old.items)) }
     ensures unchanged { OnPending result (batch.new.items ≡ batch.old.items) }
     ensures registered { OnPending result (Covers cx.new
         (λ source. source ≡ receiver.now.message)) }
@@ -265,7 +355,7 @@ fn poll_batch<T, P: Ord, B: Allocator, R: Wait + Clone, A: Allocator + Copy>(
             Poll::Ready(Err(fault)) => Err(fault),
         },
     };
-    task.state.give_up_on(&mut receiver.handle.lock());
+    task.give_up(&receiver.handle);
     Poll::Ready(answer)
 }
 

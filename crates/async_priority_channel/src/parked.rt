@@ -37,13 +37,14 @@
 //!
 //! If spinning was recently of no use, unlist, spin and relist are skipped.
 ghost use Rattle.std.specs.Prelude.{IfErr, IfSome};
+ghost use Rattle.priority_channel_waiting.specs.Ends.{OnOver};
 ghost use Rattle.priority_channel_waiting.specs.Waits.{left_over, given_back};
 
 use crate::handle::Handle;
 use crossbeam_utils::Backoff;
 use priority_channel_core::side::Side;
 use priority_channel_waiting::attempts::{Attempt, Outcome};
-use priority_channel_waiting::line::{Lead, Line, Listing, Queued};
+use priority_channel_waiting::line::{Duty, Lead, Line, Listing, Queued};
 use priority_channel_waiting::timeouts::Ended;
 use priority_channel_waiting::until::Until;
 use priority_channel_waiting::waiter::Waiter;
@@ -60,6 +61,8 @@ impl<T, P: Ord, R: Wait + Clone, A: Allocator + Copy> Handle<T, P, R, A> {
     /// Tries a call at once, in one step under the lock and without memory for waiting. If the call
     /// is blocked, waits until it is done or the time is over. The waiter is made when the thread
     /// has to wait, and is left for the next wait.
+    #[tactic(auto, using(priority_channel_waiting::proofs::Ends::not_over))]
+    #[inline(always)]
     pub fn wait<C: Attempt<T, P, A>, U: Until>(
         &self,
         call: C,
@@ -68,7 +71,7 @@ impl<T, P: Ord, R: Wait + Clone, A: Allocator + Copy> Handle<T, P, R, A> {
     ) -> Result<C::Done, Ended<C, U::Over>>
         requires { C.can_attempt call }
         ensures { IfErr result (λ ended. C.can_attempt (given_back ended)
-            × C.leaves call (given_back ended)) }
+            × C.leaves call (given_back ended) × OnOver ended (U.has_come until.now)) }
     {
         match self.attempt(call).answer() {
             Ok(answer) => answer,
@@ -76,16 +79,19 @@ impl<T, P: Ord, R: Wait + Clone, A: Allocator + Copy> Handle<T, P, R, A> {
         }
     }
 
+    #[inline(always)]
     fn attempt<C: Attempt<T, P, A>>(&self, call: C) -> Outcome<C::Done, C>
         requires { C.can_attempt call }
         ensures { IfSome (left_over result) (λ rest. C.can_attempt rest × C.leaves call rest) }
     {
-        let mut core = self.lock();
-        let (outcome, wakes) = call.try_on(&mut core);
-        self.release(core, wakes);
+        let mut held = self.hold();
+        let (outcome, wakes) = call.try_on(held.core());
+        self.release(held, wakes);
         outcome
     }
 
+    #[tactic(auto, using(priority_channel_waiting::proofs::Ends::not_over))]
+    #[inline(never)]
     fn wait_blocked<C: Attempt<T, P, A>, U: Until>(
         &self,
         call: C,
@@ -94,30 +100,30 @@ impl<T, P: Ord, R: Wait + Clone, A: Allocator + Copy> Handle<T, P, R, A> {
     ) -> Result<C::Done, Ended<C, U::Over>>
         requires { C.can_attempt call }
         ensures { IfErr result (λ ended. C.can_attempt (given_back ended)
-            × C.leaves call (given_back ended)) }
+            × C.leaves call (given_back ended) × OnOver ended (U.has_come until.now)) }
     {
         if let Err(over) = until.left() {
-            return self.end_wait(call, over);
+            return self.end_wait(call, over, until);
         }
         let blocked = match self.spin(call).answer() {
             Ok(answer) => return answer,
             Err(blocked) => blocked,
         };
-        let Some(waiter) = Waiter::of_party(self.alloc(), waiter) else {
+        let Some(waiter) = Waiter::get_or_make(self.alloc(), waiter) else {
             return Err(Ended::Memory(blocked));
         };
         let side = C::side();
         let joined = self.line(side).join(waiter);
-        let Ok(party) = joined else {
+        let Ok(queued) = joined else {
             return Err(Ended::Memory(blocked));
         };
-        match self.sleep_in_line(side, party, until, waiter) {
+        match self.sleep_in_line(side, queued, until, waiter) {
             Ok(lead) => {
                 let answer = self.wait_as_first(blocked, until, waiter);
                 self.hand_on(side, lead);
                 answer
             }
-            Err(over) => self.end_wait(blocked, over),
+            Err(over) => self.end_wait(blocked, over, until),
         }
     }
 
@@ -137,8 +143,8 @@ impl<T, P: Ord, R: Wait + Clone, A: Allocator + Copy> Handle<T, P, R, A> {
         drop(line);
         let outcome = self.look_for_a_while(call);
         let mut line = self.line(side);
-        line.end_spin(spinner);
-        self.rouse(side, &mut line);
+        let duty = line.end_spin(spinner);
+        self.rouse(side, &mut line, duty);
         outcome
     }
 
@@ -166,21 +172,24 @@ impl<T, P: Ord, R: Wait + Clone, A: Allocator + Copy> Handle<T, P, R, A> {
     // Takes the head of the queue off the channel's list.
     fn unlist(&self, line: &mut Line<A>) {
         if let Some(ticket) = line.take_ticket() {
-            self.lock().give_up(ticket);
+            let mut held = self.hold();
+            ticket.give_up(held.core());
+            held.unlock();
         }
     }
 
     // If the head of the queue is not listed and no thread spins, nothing would wake the head. Then
     // the channel lists it, and it sleeps on. If it need not wait, or its listing was refused, it
     // is woken.
-    fn rouse(&self, side: Side, line: &mut Line<A>) {
-        if !line.is_unattended() {
+    fn rouse(&self, side: Side, line: &mut Line<A>, duty: Duty) {
+        let Some(duty) = line.check(duty) else {
             return;
-        }
-        let listing = line.list_first(side, &mut self.lock());
-        match listing {
-            Listing::Listed => {}
-            Listing::Free | Listing::Refused => line.wake_first(),
+        };
+        let mut held = self.hold();
+        let unlisted = line.list_for(duty, side, held.core());
+        held.unlock();
+        if let Some(unlisted) = unlisted {
+            line.wake_first(unlisted);
         }
     }
 
@@ -188,25 +197,27 @@ impl<T, P: Ord, R: Wait + Clone, A: Allocator + Copy> Handle<T, P, R, A> {
     fn sleep_in_line<U: Until>(
         &self,
         side: Side,
-        party: Queued,
+        queued: Queued,
         until: &U,
         waiter: &Waiter<A>,
-    ) -> Result<Lead, U::Over> {
-        let mut party = party;
+    ) -> Result<Lead, U::Over>
+        ensures { IfErr result (U.has_come until.now) }
+    {
+        let mut queued = queued;
         for _ in self.rt().forever() {
-            let led = self.line(side).lead(party);
+            let led = self.line(side).lead(queued);
             match led {
                 Ok(lead) => return Ok(lead),
-                Err(waiting) => party = waiting,
+                Err(waiting) => queued = waiting,
             }
             match until.left() {
                 Ok(left) => waiter.park(self.rt(), left),
                 Err(over) => {
-                    let left = self.line(side).leave(party);
+                    let left = self.line(side).leave(queued);
                     match left {
                         Ok(()) => return Err(over),
                         // This thread has become the head in the meantime.
-                        Err(waiting) => party = waiting,
+                        Err(waiting) => queued = waiting,
                     }
                 }
             }
@@ -214,6 +225,7 @@ impl<T, P: Ord, R: Wait + Clone, A: Allocator + Copy> Handle<T, P, R, A> {
         unreachable!()
     }
 
+    #[tactic(auto, using(priority_channel_waiting::proofs::Ends::not_over))]
     fn wait_as_first<C: Attempt<T, P, A>, U: Until>(
         &self,
         call: C,
@@ -222,17 +234,16 @@ impl<T, P: Ord, R: Wait + Clone, A: Allocator + Copy> Handle<T, P, R, A> {
     ) -> Result<C::Done, Ended<C, U::Over>>
         requires { C.can_attempt call }
         ensures { IfErr result (λ ended. C.can_attempt (given_back ended)
-            × C.leaves call (given_back ended)) }
+            × C.leaves call (given_back ended) × OnOver ended (U.has_come until.now)) }
     {
         let side = C::side();
         let mut rest = call;
         for _ in self.rt().forever() {
             let left = match until.left() {
                 Ok(left) => left,
-                Err(over) => return self.end_wait(rest, over),
+                Err(over) => return self.end_wait(rest, over, until),
             };
-            let listing = self.line(side).list_first(side, &mut self.lock());
-            match listing {
+            match self.list_first(side) {
                 // The thread may wake early. Or another thread may have taken by now what it was
                 // woken for.
                 Listing::Listed => waiter.park(self.rt(), left),
@@ -245,6 +256,15 @@ impl<T, P: Ord, R: Wait + Clone, A: Allocator + Copy> Handle<T, P, R, A> {
             }
         }
         unreachable!()
+    }
+
+    // Has the channel list the head of the queue, which is this thread.
+    fn list_first(&self, side: Side) -> Listing {
+        let mut line = self.line(side);
+        let mut held = self.hold();
+        let listing = line.list_first(side, held.core());
+        held.unlock();
+        listing
     }
 
     // A success right after a wake-up does not count as a success of spinning.
@@ -262,19 +282,21 @@ impl<T, P: Ord, R: Wait + Clone, A: Allocator + Copy> Handle<T, P, R, A> {
     fn hand_on(&self, side: Side, lead: Lead) {
         let mut line = self.line(side);
         self.unlist(&mut line);
-        line.move_up(lead);
-        self.rouse(side, &mut line);
+        let duty = line.move_up(lead);
+        self.rouse(side, &mut line, duty);
     }
 
     // A last attempt, without memory for waiting.
-    fn end_wait<C: Attempt<T, P, A>, O: Drop>(
+    fn end_wait<C: Attempt<T, P, A>, U: Until>(
         &self,
         call: C,
-        over: O,
-    ) -> Result<C::Done, Ended<C, O>>
-        requires { C.can_attempt call }
+        over: U::Over,
+        until: &U,
+    ) -> Result<C::Done, Ended<C, U::Over>>
+        requires call { C.can_attempt call }
+        requires over { U.has_come until.now over }
         ensures { IfErr result (λ ended. C.can_attempt (given_back ended)
-            × C.leaves call (given_back ended)) }
+            × C.leaves call (given_back ended) × OnOver ended (U.has_come until.now)) }
     {
         match self.attempt(call) {
             Outcome::Done(done) => Ok(done),

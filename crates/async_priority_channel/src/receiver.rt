@@ -88,9 +88,9 @@ impl<T, P: Ord, R: Wait + Clone, A: Allocator + Copy> Receiver<T, P, R, A> {
     /// assert_eq!(rt; rx.try_recv(), Err(TryRecvError::Closed));
     /// ```
     pub fn try_recv(&self) -> Result<(T, P), TryRecvError> {
-        let mut core = self.handle.lock();
-        let (received, wakes) = core.try_recv();
-        self.handle.release(core, wakes);
+        let mut held = self.handle.hold();
+        let (received, wakes) = held.core().try_recv();
+        self.handle.release(held, wakes);
         received
     }
 }

@@ -73,9 +73,9 @@ impl<T: Drop, P: Ord + Drop, R: Wait + Clone, A: Allocator + Copy> Sender<T, P, 
             (rest_of error)) }
         ensures callable { IfErr result (λ error. peekable_can I.can_next (rest_of error)) }
     {
-        let mut core = self.handle.lock();
-        let (sent, wakes) = core.try_sendv(msgs);
-        self.handle.release(core, wakes);
+        let mut held = self.handle.hold();
+        let (sent, wakes) = held.core().try_sendv(msgs);
+        self.handle.release(held, wakes);
         sent
     }
 
@@ -153,9 +153,9 @@ impl<T, P: Ord, R: Wait + Clone, A: Allocator + Copy> Sender<T, P, R, A> {
     pub fn try_send(&self, msg: T, priority: P) -> Result<(), TrySendError<(T, P)>>
         ensures { IfErr result (λ error. rest_of error ≡ (msg, priority)) }
     {
-        let mut core = self.handle.lock();
-        let (sent, wakes) = core.try_send(msg, priority);
-        self.handle.release(core, wakes);
+        let mut held = self.handle.hold();
+        let (sent, wakes) = held.core().try_send(msg, priority);
+        self.handle.release(held, wakes);
         sent
     }
 
@@ -191,9 +191,9 @@ impl<T, P: Ord, R: Wait + Clone, A: Allocator + Copy> Sender<T, P, R, A> {
         ensures less_urgent { IfOk result (λ displaced. IfSome displaced (λ out.
             P.cmp out.1 priority ≡ Less)) }
     {
-        let mut core = self.handle.lock();
-        let (sent, wakes) = core.try_send_evicting(msg, priority);
-        self.handle.release(core, wakes);
+        let mut held = self.handle.hold();
+        let (sent, wakes) = held.core().try_send_evicting(msg, priority);
+        self.handle.release(held, wakes);
         sent
     }
 }

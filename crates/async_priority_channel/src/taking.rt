@@ -2,15 +2,17 @@
 ghost use Rattle.std.specs.Prelude.{true, false, All, IfOk, IfSome};
 ghost use Rattle.priority_channel_bag.specs.Least.{Tells};
 
-use crate::receiver::Receiver;
+use crate::end::{End, Role};
+use priority_channel_core::awaitable_atomics::Wakes;
+use priority_channel_waiting::waiter::{Core, Waiter};
 use std::alloc::{AllocError, Allocator};
 use std::sync::Wait;
 
-impl<T, P: Ord, R: Wait + Clone, A: Allocator + Copy> Receiver<T, P, R, A> {
-    /// Takes out a pending message for which the test returns true, also from a closed channel.
-    /// None if there is none. If there are several, it is not specified which one is taken. A
-    /// message that is taken is not received: others receive their messages in the order as if it
-    /// had never been sent.
+impl<S: Role, T, P: Ord, R: Wait + Clone, A: Allocator + Copy> End<S, T, P, R, A> {
+    /// Takes out a pending message for which the test returns true, also from a closed channel, as
+    /// when its sender or a receiver cancels it. None if there is none. If there are several, it is
+    /// not specified which one is taken. A message that is taken is not received: others receive
+    /// their messages in the order as if it had never been sent.
     ///
     /// The test is called on pending messages in no specified order, and on none after it has
     /// returned true. It is called under the channel's lock (see `End`), and dropped once the lock
@@ -33,9 +35,9 @@ impl<T, P: Ord, R: Wait + Clone, A: Allocator + Copy> Receiver<T, P, R, A> {
         requires { F.IsAlwaysCallable test }
         ensures { IfSome result (λ pair. Tells F.Fn test pair true) }
     {
-        let mut core = self.handle.lock();
-        let (taken, wakes) = core.take_where(&test);
-        self.handle.release(core, wakes);
+        let mut held = self.handle.hold();
+        let (taken, wakes) = held.core().take_where(&test);
+        self.handle.release(held, wakes);
         taken
     }
 
@@ -46,10 +48,10 @@ impl<T, P: Ord, R: Wait + Clone, A: Allocator + Copy> Receiver<T, P, R, A> {
     /// The test is called once on each pending message, in no specified order, and under the
     /// channel's lock.
     ///
-    /// It first reserves memory for as many messages as are pending, also under the lock. If that is
-    /// refused, nothing has changed, and the test was not called. If a message is taken out, the waiting senders are
-    /// woken. Beside the tests, the cost for each kept message is at most as many comparisons of
-    /// priorities as the number of kept messages has binary digits.
+    /// It first reserves memory for as many messages as are pending, also under the lock. If that
+    /// is refused, nothing has changed, and the test was not called. If a message is taken out, the
+    /// waiting senders are woken. Beside the tests, the cost for each kept message is at most as
+    /// many comparisons of priorities as the number of kept messages has binary digits.
     ///
     /// ```
     /// let (tx, rx) = unbounded(&rt, rt.alloc())?;
@@ -66,10 +68,27 @@ impl<T, P: Ord, R: Wait + Clone, A: Allocator + Copy> Receiver<T, P, R, A> {
         requires { F.IsAlwaysCallable test }
         ensures { IfOk result (λ taken. All (λ pair. Tells F.Fn test pair false) taken.items) }
     {
-        let mut core = self.handle.lock();
-        let mut taken = Vec::with_capacity(self.handle.alloc(), core.len() as usize)?;
-        let wakes = core.retain(&test, &mut taken);
-        self.handle.release(core, wakes);
-        Ok(taken)
+        let alloc = self.handle.alloc();
+        let mut held = self.handle.hold();
+        let (retained, wakes) = retain_on(held.core(), &test, alloc);
+        self.handle.release(held, wakes);
+        retained
+    }
+}
+
+fn retain_on<T, P: Ord, F: Fn(&T, &P) -> bool, A: Allocator + Copy>(
+    core: &mut Core<T, P, A>,
+    test: &F,
+    alloc: A,
+) -> (Result<Vec<(T, P), A>, AllocError>, Wakes<Waiter<A>, A>)
+    requires { F.IsAlwaysCallable test.now }
+    ensures { IfOk result.0 (λ taken. All (λ pair. Tells F.Fn test.now pair false) taken.items) }
+{
+    match Vec::with_capacity(alloc, core.len() as usize) {
+        Err(refused) => (Err(refused), core.nobody()),
+        Ok(mut taken) => {
+            let wakes = core.retain(test, &mut taken);
+            (Ok(taken), wakes)
+        }
     }
 }

@@ -66,15 +66,13 @@ impl<S: Role, T: Drop, P: Ord + Drop, R: Wait + Clone, A: Allocator + Copy> Weak
         ensures { IfSome result (λ end. SameChannel self.now end) }
     {
         let handle = self.handle.share().ok()?;
-        let mut core = self.handle.lock();
-        if core.is_closed() {
-            return None;
-        }
         // This comes last, so that a refusal above leaves the count unchanged.
-        if !join(S::SIDE, &mut core) {
+        let mut held = self.handle.hold();
+        let has_joined = !held.core().is_closed() && join(S::SIDE, held.core());
+        held.unlock();
+        if !has_joined {
             return None;
         }
-        drop(core);
         Some(End::new(handle, self.role))
     }
 }
@@ -90,7 +88,7 @@ impl<S: Role, T, P: Ord, R: Wait + Clone, A: Allocator + Copy> Weak<S, T, P, R, 
     /// assert!(rt; weak.is_closed());
     /// ```
     pub fn is_closed(&self) -> bool {
-        self.handle.lock().is_closed()
+        self.handle.look().core().is_closed()
     }
 }
 

@@ -1,3 +1,4 @@
 pub mod LeftOver
 pub mod Holdings
 pub mod Tries
+pub mod Ends

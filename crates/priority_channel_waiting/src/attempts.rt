@@ -7,6 +7,7 @@ ghost use Rattle.priority_channel_core.specs.code.Lists.{HasList};
 ghost use Rattle.priority_channel_core.specs.machine.Step.{Step};
 ghost use Rattle.priority_channel_core.specs.code.Calls.{Performs};
 ghost use Rattle.priority_channel_waiting.specs.Holding.{HoldsTail};
+ghost use Rattle.priority_channel_waiting.specs.Ends.{OnOver};
 ghost use Rattle.priority_channel_waiting.specs.Waits.{left_over, given_back, outcome_of_try, recv_tried};
 ghost use Rattle.priority_channel_waiting.specs.Tails.{tail_of_itself, tail_of_tail};
 
@@ -30,9 +31,11 @@ pub enum Outcome<D, C> {
 
 impl<D, C> Outcome<D, C> {
     /// The answer, if there is one; otherwise the blocked call.
+    #[inline(always)]
     pub fn answer<O>(self) -> Result<Result<D, Ended<C, O>>, C>
         ensures answered { IfOk result (λ answer. IfErr answer (λ ended.
             left_over self ≡ Some (given_back ended))) }
+        ensures not_over { IfOk result (λ answer. IfErr answer (λ ended. OnOver ended (λ _. ⊥))) }
         ensures blocked { IfErr result (λ call. left_over self ≡ Some call) }
     {
         match self {
@@ -88,6 +91,7 @@ impl<T, P: Ord, A: Allocator + Copy> Attempt<T, P, A> for Receive {
         Side::Message
     }
 
+    #[inline(always)]
     fn try_on(self, core: &mut Core<T, P, A>) -> (Outcome<(T, P), Self>, Wakes<Waiter<A>, A>)
         ensures step { (reply : _) × (result.0 ≡ recv_tried self reply)
             × Step P.cmp ⟦<Waiter<A> as Clone>⟧.is_clone core.old.state
@@ -103,6 +107,7 @@ impl<T, P: Ord, A: Allocator + Copy> Attempt<T, P, A> for Receive {
     }
 }
 
+#[inline(always)]
 fn send_tried<C>(sent: Result<(), TrySendError<C>>) -> Outcome<(), C>
     ensures { result ≡ outcome_of_try sent }
 {
@@ -130,6 +135,7 @@ impl<T, P: Ord, A: Allocator + Copy> Attempt<T, P, A> for (T, P) {
         Side::Room
     }
 
+    #[inline(always)]
     fn try_on(self, core: &mut Core<T, P, A>) -> (Outcome<(), Self>, Wakes<Waiter<A>, A>)
         ensures whole { IfSome (left_over result.0) (λ rest. rest ≡ self) }
         ensures step { (reply : _) × (result.0 ≡ outcome_of_try reply)

@@ -2,17 +2,22 @@
 //! came. Only the head of the queue is in the channel's own waiting list. So a message or free room
 //! wakes one thread, however many wait. While a thread of that side spins, it wakes none.
 //!
-//! `Queued`, `Lead`, `Spinner` and `Listing` are not `Drop`, so code cannot forget them. A thread
-//! that joins a queue must leave it or become its head (`Lead`). A head must promote the next
-//! thread. A thread that spins must report when it stops.
+//! The values by which a thread takes part are not `Drop`, so code cannot forget them. A thread that
+//! joins the queue (`Queued`) must leave it or become its head (`Lead`). A head must promote the
+//! next thread. A thread that spins (`Spinner`) must report when it stops. Either then has to see to
+//! it that something wakes the head (`Duty`, `Unlisted`). Whoever takes the head's ticket must take
+//! it off the channel's list (`Ticket`).
 ghost use Rattle.std.specs.Prelude.{◌≡◌, ◌≢◌, ◌↔◌, ℕ, ◌+◌, ◌-◌, ◌<◌, ◌≤◌, ◌∷◌, ◌++◌, [], option_to_list, IfOk, IfErr, IfNone, IfSome, IsSome, IsTrue, OnOk, OnErr, Some, None};
 ghost use Rattle.priority_channel_core.specs.Waiting.{without};
 ghost use Rattle.priority_channel_core.specs.Waiters.{unlist};
 ghost use Rattle.priority_channel_core.specs.code.Channel.{IsBlocked};
+ghost use Rattle.priority_channel_core.specs.machine.State.{nobody};
+ghost use Rattle.priority_channel_core.specs.machine.Step.{Step};
 ghost use Rattle.priority_channel_core.specs.machine.Good.{IsGood};
 ghost use Rattle.priority_channel_core.specs.Lines.{IsFirst, Lists};
 
 use crate::waiter::{Core, Waiter};
+use priority_channel_core::calls::{Answer, Call};
 use priority_channel_core::comparisons::Comparisons;
 use priority_channel_core::side::Side;
 use priority_channel_core::waiting_list::WaitingList;
@@ -68,6 +73,32 @@ pub struct Spinner {
     seal: (),
 }
 
+/// The ticket under which the channel may have listed the head.
+pub struct Ticket {
+    number: u64,
+}
+
+impl Ticket {
+    /// Takes it off the channel's list.
+    pub fn give_up<T, P: Ord, A: Allocator + Copy>(self, core: &mut Core<T, P, A>)
+        ensures { Step P.cmp ⟦<Waiter<A> as Clone>⟧.is_clone core.old.state
+            (Call.GiveUp self.number) Answer.GiveUp nobody core.new.state }
+    {
+        let Ticket { number } = self;
+        core.give_up(number);
+    }
+}
+
+/// The duty to see to it that something will wake the head.
+pub struct Duty {
+    seal: (),
+}
+
+/// The head was not listed, and has to be woken.
+pub struct Unlisted {
+    seal: (),
+}
+
 /// The result of having the head registered with the channel.
 pub enum Listing {
     /// The channel listed it, and will wake it when it can go on.
@@ -100,7 +131,7 @@ impl<A: Allocator> Line<A> {
     /// Adds a thread at the end of the queue. The error is that memory was refused, or that the
     /// numbers ran out.
     pub fn join(&mut self, waiter: &Waiter<A>) -> Result<Queued, AllocError>
-        ensures number { IfOk result (λ party. party.number ≡ self.old.next_number) }
+        ensures number { IfOk result (λ queued. queued.number ≡ self.old.next_number) }
         ensures first { OnOk result (IfNone self.old.first (self.new ≡ record self.old {
           first = Some (self.old.next_number, waiter.now);
           ticket = None;
@@ -127,48 +158,48 @@ impl<A: Allocator> Line<A> {
         Ok(Queued { number })
     }
 
-    fn is_first(&self, party: &Queued) -> bool
-        ensures { IsTrue result ↔ IsFirst self.now party.now.number }
+    fn is_first(&self, queued: &Queued) -> bool
+        ensures { IsTrue result ↔ IsFirst self.now queued.now.number }
     {
         match &self.first {
-            Some((number, _)) => *number == party.number,
+            Some((number, _)) => *number == queued.number,
             None => false,
         }
     }
 
     /// The head (`Lead`), if the thread is the head of the queue. Otherwise the thread comes back,
     /// and waits on.
-    pub fn lead(&self, party: Queued) -> Result<Lead, Queued>
-        ensures led { IfOk result (λ lead. IsFirst self.now party.number
-            × (lead.number ≡ party.number)) }
-        ensures waits { IfErr result (λ waiting. (IsFirst self.now party.number → ⊥)
-            × (waiting ≡ party)) }
+    pub fn lead(&self, queued: Queued) -> Result<Lead, Queued>
+        ensures led { IfOk result (λ lead. IsFirst self.now queued.number
+            × (lead.number ≡ queued.number)) }
+        ensures waits { IfErr result (λ waiting. (IsFirst self.now queued.number → ⊥)
+            × (waiting ≡ queued)) }
     {
-        if !self.is_first(&party) {
-            return Err(party);
+        if !self.is_first(&queued) {
+            return Err(queued);
         }
-        let Queued { number } = party;
+        let Queued { number } = queued;
         Ok(Lead { number })
     }
 
     /// Takes the thread out of the queue, unless it has become the head.
-    pub fn leave(&mut self, party: Queued) -> Result<(), Queued>
-        ensures left { OnOk result ((IsFirst self.old party.number → ⊥)
-            × (self.new ≡ record self.old { others = without party.number self.old.others })) }
-        ensures leads { IfErr result (λ waiting. IsFirst self.old party.number × (waiting ≡ party)
+    pub fn leave(&mut self, queued: Queued) -> Result<(), Queued>
+        ensures left { OnOk result ((IsFirst self.old queued.number → ⊥)
+            × (self.new ≡ record self.old { others = without queued.number self.old.others })) }
+        ensures leads { IfErr result (λ waiting. IsFirst self.old queued.number × (waiting ≡ queued)
             × (self.new ≡ self.old)) }
     {
-        if self.is_first(&party) {
-            return Err(party);
+        if self.is_first(&queued) {
+            return Err(queued);
         }
-        let Queued { number } = party;
+        let Queued { number } = queued;
         let mut comparisons = Comparisons::new();
         self.others.remove(number, &mut comparisons);
         Ok(())
     }
 
     /// The head leaves the queue, and the next thread becomes the head.
-    pub fn move_up(&mut self, lead: Lead)
+    pub fn move_up(&mut self, lead: Lead) -> Duty
         ensures next { self.old.others ≡ option_to_list self.new.first ++ self.new.others }
         ensures line { self.new ≡ record self.old {
           first = self.new.first;
@@ -179,15 +210,20 @@ impl<A: Allocator> Line<A> {
         let Lead { number: _ } = lead;
         self.ticket = None;
         self.first = self.others.take_first();
+        Duty { seal: () }
     }
 
     /// Takes the ticket under which the head may be listed, for a caller that takes it off the
     /// channel's list.
-    pub fn take_ticket(&mut self) -> Option<u64>
-        ensures ticket { result ≡ self.old.ticket }
+    pub fn take_ticket(&mut self) -> Option<Ticket>
+        ensures some { IfSome result (λ ticket. self.old.ticket ≡ Some ticket.number) }
+        ensures none { IfNone result (self.old.ticket ≡ None) }
         ensures line { self.new ≡ record self.old { ticket = None } }
     {
-        self.ticket.take()
+        match self.ticket.take() {
+            Some(number) => Some(Ticket { number }),
+            None => None,
+        }
     }
 
     /// Counts a thread that starts to spin.
@@ -201,16 +237,28 @@ impl<A: Allocator> Line<A> {
     }
 
     /// The thread has stopped spinning.
-    pub fn end_spin(&mut self, spinner: Spinner)
+    pub fn end_spin(&mut self, spinner: Spinner) -> Duty
         ensures { self.new ≡ record self.old { spinning = self.old.spinning - 1 } }
     {
         let Spinner { seal: () } = spinner;
         self.spinning = self.spinning.saturating_sub(1);
+        Duty { seal: () }
     }
 
-    /// Whether nothing would wake the head: there is a head, the channel has not listed it, and no
-    /// thread spins.
-    pub fn is_unattended(&self) -> bool
+    /// The duty comes back if nothing would wake the head: there is a head, the channel has not
+    /// listed it, and no thread spins.
+    pub fn check(&self, duty: Duty) -> Option<Duty>
+        ensures { IsSome result ↔ (IsSome self.now.first × (self.now.ticket ≡ None)
+            × (self.now.spinning ≡ 0)) }
+    {
+        if self.is_unattended() {
+            return Some(duty);
+        }
+        let Duty { seal: () } = duty;
+        None
+    }
+
+    fn is_unattended(&self) -> bool
         ensures { IsTrue result ↔ (IsSome self.now.first × (self.now.ticket ≡ None)
             × (self.now.spinning ≡ 0)) }
     {
@@ -218,7 +266,8 @@ impl<A: Allocator> Line<A> {
     }
 
     /// Wakes the head.
-    pub fn wake_first(&self) {
+    pub fn wake_first(&self, unlisted: Unlisted) {
+        let Unlisted { seal: () } = unlisted;
         if let Some((_, waiter)) = &self.first {
             waiter.unpark();
         }
@@ -254,6 +303,28 @@ impl<A: Allocator + Copy> Line<A> {
         match self.ticket {
             Some(_) => Listing::Listed,
             None => Listing::Refused,
+        }
+    }
+}
+
+impl<A: Allocator + Copy> Line<A> {
+    /// Has the channel list the head, as `list_first`. Where it was not listed, it has to be woken.
+    pub fn list_for<T, P: Ord>(
+        &mut self,
+        duty: Duty,
+        side: Side,
+        core: &mut Core<T, P, A>,
+    ) -> Option<Unlisted>
+        ensures listed { IfNone result (IfSome self.old.first (λ first.
+            IsBlocked side core.old.state
+            × Lists side self.old.ticket first.1 self.new.ticket core.old.state core.new.state)) }
+        ensures sleeps { IfNone result (IsSome self.old.first × IsSome self.new.ticket) }
+        ensures line { self.new ≡ record self.old { ticket = self.new.ticket } }
+    {
+        let Duty { seal: () } = duty;
+        match self.list_first(side, core) {
+            Listing::Listed => None,
+            Listing::Free | Listing::Refused => Some(Unlisted { seal: () }),
         }
     }
 }

@@ -63,31 +63,31 @@ impl<A: Allocator + Copy> Waiter<A> {
         Ok(Waiter { inner })
     }
 
-    /// The waiter of a task or a thread (`party`). It is made on its first wait. None if memory was
+    /// The waiter that a task or a thread keeps. It is made on its first wait. None if memory was
     /// refused.
-    pub fn of_party(alloc: A, party: &mut Option<Self>) -> Option<&Self>
-        ensures own { IfSome party.old (λ own. IsSomeAnd result (λ waiter. waiter.now ≡ own)) }
+    pub fn get_or_make(alloc: A, kept: &mut Option<Self>) -> Option<&Self>
+        ensures own { IfSome kept.old (λ own. IsSomeAnd result (λ waiter. waiter.now ≡ own)) }
     {
-        if party.is_none() {
-            *party = Some(Waiter::new(alloc).ok()?);
+        if kept.is_none() {
+            *kept = Some(Waiter::new(alloc).ok()?);
         }
-        party.as_ref()
+        kept.as_ref()
     }
 
-    /// Stores the task's waker in its waiter (`party`). None if the waiter or the waker was
+    /// Stores the task's waker in its waiter (`kept`). None if the waiter or the waker was
     /// refused.
-    pub fn register_party<'w, R: Wait>(
+    pub fn register<'w, R: Wait>(
         rt: &R,
         alloc: A,
         cx: &mut Context<'_>,
         source: &Source,
-        party: &'w mut Option<Self>,
+        kept: &'w mut Option<Self>,
     ) -> Option<&'w Self>
-        ensures own { IfSome party.old (λ own. IfSome result (λ waiter. waiter.now ≡ own)) }
+        ensures own { IfSome kept.old (λ own. IfSome result (λ waiter. waiter.now ≡ own)) }
         ensures heard { IsSome result → IsArmed cx.new × Hears cx.new source.now.id }
         ensures kept { Keeps cx.old cx.new }
     {
-        let waiter = Waiter::of_party(alloc, party)?;
+        let waiter = Waiter::get_or_make(alloc, kept)?;
         let mut slot = waiter.inner.waker.lock(rt);
         let _pending: Poll<()> = cx.register(source, &mut slot);
         if slot.is_none() {

@@ -198,8 +198,7 @@ impl<
         let channel = self.channel;
         let rt = self.rt;
         let party = &mut self.waiter;
-        let Some(waiter) = Waiter::register_party(rt, channel.alloc, cx, C::source(channel), party)
-        else {
+        let Some(waiter) = Waiter::register(rt, channel.alloc, cx, C::source(channel), party) else {
             return match channel.last(rt, pass, call, self.ticket) {
                 Ok(reply) => Ok(reply),
                 Err(rest) => Ok(rest.refuse()),

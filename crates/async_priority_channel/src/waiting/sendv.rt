@@ -57,9 +57,9 @@ impl<
     {
         let end = self.end;
         let handle = &end.handle;
-        let mut core = handle.lock();
-        let (tried, wakes) = self.task.state.try_on(&mut core);
-        handle.release(core, wakes);
+        let mut held = handle.hold();
+        let (tried, wakes) = self.task.state.try_on(held.core());
+        handle.release(held, wakes);
         tried
     }
 
@@ -84,13 +84,13 @@ impl<
         let end = self.end;
         let handle = &end.handle;
         let Some(waiter) = handle.register(cx, Side::Room, &mut self.task.waiter) else {
-            let unsent = self.task.state.give_up_on(&mut handle.lock());
+            let unsent = self.task.give_up(handle);
             let Some(rest) = unsent else { unreachable!() };
             return Poll::Ready(Err(SendFault::Memory(rest)));
         };
-        let mut core = handle.lock();
-        let (polled, wakes) = self.task.state.poll_on(&mut core, waiter);
-        handle.release(core, wakes);
+        let mut held = handle.hold();
+        let (polled, wakes) = self.task.state.poll_on(held.core(), waiter);
+        handle.release(held, wakes);
         polled
     }
 }

@@ -63,16 +63,27 @@ impl<K, N, A: Allocator + Copy> Task<K, N, A> {
 }
 
 impl<K: Drop, N, A: Allocator + Copy> Task<K, N, A> {
-    /// Gives up the ticket. A message may hold a handle of this channel, and a waker wakes its task
-    /// when it is dropped, so both are dropped after the lock is released.
-    pub(crate) fn end<T, P: Ord, R: Wait + Clone>(self, handle: &Handle<T, P, R, A>) {
-        let Task { mut state, waiter } = self;
-        let mut unsent = None;
-        if state.ticket().is_some() {
-            unsent = state.give_up_on(&mut handle.lock());
+    /// Gives up the ticket, and returns what was not sent. A message may hold a handle of this
+    /// channel, and a waker wakes its task when it is dropped, so both are dropped by the caller,
+    /// after the lock is released.
+    pub(crate) fn give_up<T, P: Ord, R: Wait + Clone>(
+        &mut self,
+        handle: &Handle<T, P, R, A>,
+    ) -> Option<K>
+        ensures kept { result ≡ self.old.state.kept }
+        ensures done { self.new.state ≡ done }
+    {
+        let mut held = handle.hold();
+        let unsent = self.state.give_up_on(held.core());
+        held.unlock();
+        unsent
+    }
+
+    /// Gives up the ticket, if there is one.
+    pub(crate) fn end<T, P: Ord, R: Wait + Clone>(mut self, handle: &Handle<T, P, R, A>) {
+        if self.state.ticket().is_some() {
+            drop(self.give_up(handle));
         }
-        drop((unsent, state));
-        drop(waiter);
     }
 }
 
@@ -89,19 +100,19 @@ impl<A: Allocator + Copy> Task<(), One, A> {
         ensures answered { IfReady result (λ _. self.new.state ≡ done) }
         ensures waits { OnPending result (self.new.state.kept ≡ self.old.state.kept) }
     {
-        let mut core = handle.lock();
-        let (tried, wakes) = self.state.try_on(&mut core);
-        handle.release(core, wakes);
+        let mut held = handle.hold();
+        let (tried, wakes) = self.state.try_on(held.core());
+        handle.release(held, wakes);
         if let Poll::Ready(received) = tried {
             return Poll::Ready(received);
         }
         let Some(waiter) = handle.register(cx, Side::Message, &mut self.waiter) else {
-            self.state.give_up_on(&mut handle.lock());
+            self.give_up(handle);
             return Poll::Ready(Err(RecvFault::Memory));
         };
-        let mut core = handle.lock();
-        let (polled, wakes) = self.state.poll_on(&mut core, waiter);
-        handle.release(core, wakes);
+        let mut held = handle.hold();
+        let (polled, wakes) = self.state.poll_on(held.core(), waiter);
+        handle.release(held, wakes);
         polled
     }
 

@@ -66,7 +66,7 @@ woke_first first n v w e same = let x : (v == w) ≡ true = eq-eqb v w same in r
 fits_none : (See : ℕ → Type 0) (line : Lined) (t : Thread) → number_of t.phase ≡ None → Fits See line t
 fits_none See line t none = record {
   seen = λ n v a e w. let x : None ≡ Some n = sym none ∙ asleep_number t.phase n a in absurd (cc);
-  own = all_any (λ (party : ℕ × ℕ). number_of t.phase ≡ Some party.0 → party.1 ≡ t.waiter) (line_of line) (λ party h. let x : None ≡ Some party.0 = sym none ∙ h in absurd (cc));
+  own = all_any (λ (entry : ℕ × ℕ). number_of t.phase ≡ Some entry.0 → entry.1 ≡ t.waiter) (line_of line) (λ entry h. let x : None ≡ Some entry.0 = sym none ∙ h in absurd (cc));
   given = λ n h. let x : None ≡ Some n = sym none ∙ h in absurd (cc);
   leads = λ n h. let x : None ≡ Some n = sym none ∙ lead_number t.phase n h in absurd (cc);
 }
@@ -167,7 +167,7 @@ module _ {T P : Type 0} where
               kept = kept.woken (Seen mid.line (on_side mid.side mid.state.waiters) (Unit {0})) (SeenIn now) mid.line mid.line mid.threads k (option_to_list mid.line.first)
                   (λ j t there f. record {
                     seen = λ n v a e w.
-                        let same = at_first (λ (party : ℕ × ℕ). number_of t.phase ≡ Some party.0 → party.1 ≡ t.waiter) mid.line.first mid.line.others (n, v) f.own e (asleep_number t.phase n a) in
+                        let same = at_first (λ (entry : ℕ × ℕ). number_of t.phase ≡ Some entry.0 → entry.1 ≡ t.waiter) mid.line.first mid.line.others (n, v) f.own e (asleep_number t.phase n a) in
                         let no = (or-both t.is_woken (has_waiter t.waiter (option_to_list mid.line.first)) w).1 in
                         let yes = woke_first mid.line.first n v t.waiter e same in
                         absurd (cc);
@@ -267,12 +267,12 @@ module _ {T P : Type 0} where
         rouses mid new a.good (kept.turned (SeenIn old) See old.line mid.line old.threads a.kept i p _ at
         (λ j t ne there f. record {
           seen = λ m v asleep e w. inr (refl, tt);
-          own = rw (← is) (all_behind (λ (party : ℕ × ℕ). number_of t.phase ≡ Some party.0 → party.1 ≡ t.waiter) old.line.first old.line.others f.own);
+          own = rw (← is) (all_behind (λ (entry : ℕ × ℕ). number_of t.phase ≡ Some entry.0 → entry.1 ≡ t.waiter) old.line.first old.line.others f.own);
           given = f.given;
           leads = λ m lead'. let was = f.leads m lead' in absurd (alone n m was.0 lead j t ne there (lead_number t.phase m lead') was.1);
         })
         (fits_none See mid.line _ refl)
-        (rw (← is) (all_behind (λ (party : ℕ × ℕ). party.0 < old.line.next_number) old.line.first old.line.others a.kept.below)) (λ m e. absurd (cc))) h
+        (rw (← is) (all_behind (λ (entry : ℕ × ℕ). entry.0 < old.line.next_number) old.line.first old.line.others a.kept.below)) (λ m e. absurd (cc))) h
 
     asks_leads : (n : ℕ) → p.phase ≡ Asks n → IsFirst old.line n
         → IsAttended (record old { threads = set old.threads i (record { waiter = p.waiter; phase = Leads n; is_woken = p.is_woken }) })
@@ -295,12 +295,12 @@ module _ {T P : Type 0} where
           kept = kept.turned (SeenIn old) (SeenIn now) old.line now.line old.threads a.kept i p _ at
               (λ j t ne there f. record {
                 seen = f.seen;
-                own = all_without (λ (party : ℕ × ℕ). number_of t.phase ≡ Some party.0 → party.1 ≡ t.waiter) old.line.first old.line.others test f.own;
+                own = all_without (λ (entry : ℕ × ℕ). number_of t.phase ≡ Some entry.0 → entry.1 ≡ t.waiter) old.line.first old.line.others test f.own;
                 given = f.given;
                 leads = f.leads;
               })
               (fits_none (SeenIn now) now.line _ refl)
-              (all_without (λ (party : ℕ × ℕ). party.0 < old.line.next_number) old.line.first old.line.others test a.kept.below)
+              (all_without (λ (entry : ℕ × ℕ). entry.0 < old.line.next_number) old.line.first old.line.others test a.kept.below)
               (λ m e. absurd (cc));
         }
 
@@ -309,28 +309,28 @@ module _ {T P : Type 0} where
     joins_first none =
         let n = old.line.next_number in
         let now : ThreadWorld T P = record old { line = record old.line { first = Some (n, p.waiter); ticket = None; next_number = n + 1 }; threads = set old.threads i (record { waiter = p.waiter; phase = Asks n; is_woken = p.is_woken }) } in
-        let below = all_behind (λ (party : ℕ × ℕ). party.0 < n) old.line.first old.line.others a.kept.below in
+        let below = all_behind (λ (entry : ℕ × ℕ). entry.0 < n) old.line.first old.line.others a.kept.below in
         record {
           good = a.good;
           kept = kept.turned (SeenIn old) (SeenIn now) old.line now.line old.threads a.kept i p _ at
               (λ j t ne there f. record {
                 seen = λ m v asleep e w. let g = f.given m (asleep_number t.phase m asleep) in let s : n ≡ m = first_number (Some (n, p.waiter)) n p.waiter m v refl e in absurd (omega arith);
-                own = All-cons (λ (party : ℕ × ℕ). number_of t.phase ≡ Some party.0 → party.1 ≡ t.waiter) (n, p.waiter) old.line.others
+                own = All-cons (λ (entry : ℕ × ℕ). number_of t.phase ≡ Some entry.0 → entry.1 ≡ t.waiter) (n, p.waiter) old.line.others
                     (λ e. let g = f.given n e in absurd (omega arith))
-                    (all_behind (λ (party : ℕ × ℕ). number_of t.phase ≡ Some party.0 → party.1 ≡ t.waiter) old.line.first old.line.others f.own);
+                    (all_behind (λ (entry : ℕ × ℕ). number_of t.phase ≡ Some entry.0 → entry.1 ≡ t.waiter) old.line.first old.line.others f.own);
                 given = λ m e. let g = f.given m e in omega arith;
                 leads = λ m e. let was = f.leads m e in let x : None ≡ Some (m, was.0) = sym none ∙ was.1 in absurd (cc);
               })
               (record {
                 seen = λ m v asleep e w. absurd (cc);
-                own = All-cons (λ (party : ℕ × ℕ). Some n ≡ Some party.0 → party.1 ≡ p.waiter) (n, p.waiter) old.line.others (λ e. refl)
-                    (All-weaker (λ (party : ℕ × ℕ). party.0 < n) (λ (party : ℕ × ℕ). Some n ≡ Some party.0 → party.1 ≡ p.waiter)
-                    (λ party lt e. let s : n ≡ party.0 = cc in absurd (omega arith)) old.line.others below);
+                own = All-cons (λ (entry : ℕ × ℕ). Some n ≡ Some entry.0 → entry.1 ≡ p.waiter) (n, p.waiter) old.line.others (λ e. refl)
+                    (All-weaker (λ (entry : ℕ × ℕ). entry.0 < n) (λ (entry : ℕ × ℕ). Some n ≡ Some entry.0 → entry.1 ≡ p.waiter)
+                    (λ entry lt e. let s : n ≡ entry.0 = cc in absurd (omega arith)) old.line.others below);
                 given = λ m e. let s : n ≡ m = cc in omega arith;
                 leads = λ m e. absurd (cc);
               })
-              (All-cons (λ (party : ℕ × ℕ). party.0 < n + 1) (n, p.waiter) old.line.others (omega arith)
-              (All-weaker (λ (party : ℕ × ℕ). party.0 < n) (λ (party : ℕ × ℕ). party.0 < n + 1) (λ party lt. omega arith) old.line.others below))
+              (All-cons (λ (entry : ℕ × ℕ). entry.0 < n + 1) (n, p.waiter) old.line.others (omega arith)
+              (All-weaker (λ (entry : ℕ × ℕ). entry.0 < n) (λ (entry : ℕ × ℕ). entry.0 < n + 1) (λ entry lt. omega arith) old.line.others below))
               (λ m e. inr (cc));
         }
 
@@ -344,21 +344,21 @@ module _ {T P : Type 0} where
           kept = kept.turned (SeenIn old) (SeenIn now) old.line now.line old.threads a.kept i p _ at
               (λ j t ne there f. record {
                 seen = f.seen;
-                own = all_put (λ (party : ℕ × ℕ). number_of t.phase ≡ Some party.0 → party.1 ≡ t.waiter) old.line.first old.line.others (n, p.waiter) f.own
+                own = all_put (λ (entry : ℕ × ℕ). number_of t.phase ≡ Some entry.0 → entry.1 ≡ t.waiter) old.line.first old.line.others (n, p.waiter) f.own
                     (λ e. let g = f.given n e in absurd (omega arith));
                 given = λ m e. let g = f.given m e in omega arith;
                 leads = f.leads;
               })
               (record {
                 seen = λ m v asleep e w. absurd (cc);
-                own = all_put (λ (party : ℕ × ℕ). Some n ≡ Some party.0 → party.1 ≡ p.waiter) old.line.first old.line.others (n, p.waiter)
-                    (All-weaker (λ (party : ℕ × ℕ). party.0 < n) (λ (party : ℕ × ℕ). Some n ≡ Some party.0 → party.1 ≡ p.waiter)
-                    (λ party lt e. let s : n ≡ party.0 = cc in absurd (omega arith)) (line_of old.line) a.kept.below) (λ e. refl);
+                own = all_put (λ (entry : ℕ × ℕ). Some n ≡ Some entry.0 → entry.1 ≡ p.waiter) old.line.first old.line.others (n, p.waiter)
+                    (All-weaker (λ (entry : ℕ × ℕ). entry.0 < n) (λ (entry : ℕ × ℕ). Some n ≡ Some entry.0 → entry.1 ≡ p.waiter)
+                    (λ entry lt e. let s : n ≡ entry.0 = cc in absurd (omega arith)) (line_of old.line) a.kept.below) (λ e. refl);
                 given = λ m e. let s : n ≡ m = cc in omega arith;
                 leads = λ m e. absurd (cc);
               })
-              (all_put (λ (party : ℕ × ℕ). party.0 < n + 1) old.line.first old.line.others (n, p.waiter)
-              (All-weaker (λ (party : ℕ × ℕ). party.0 < n) (λ (party : ℕ × ℕ). party.0 < n + 1) (λ party lt. omega arith) (line_of old.line) a.kept.below) (omega arith))
+              (all_put (λ (entry : ℕ × ℕ). entry.0 < n + 1) old.line.first old.line.others (n, p.waiter)
+              (All-weaker (λ (entry : ℕ × ℕ). entry.0 < n) (λ (entry : ℕ × ℕ). entry.0 < n + 1) (λ entry lt. omega arith) (line_of old.line) a.kept.below) (omega arith))
               (λ m e. inr (cc));
         }
 
@@ -371,8 +371,8 @@ module _ {T P : Type 0} where
         (λ j t ne there g. record { seen = λ m v asleep e w. tt; own = g.own; given = g.given; leads = g.leads })
         (record {
           seen = λ m v asleep e w. tt;
-          own = All-weaker (λ (party : ℕ × ℕ). number_of p.phase ≡ Some party.0 → party.1 ≡ p.waiter) (λ (party : ℕ × ℕ). Some n ≡ Some party.0 → party.1 ≡ p.waiter)
-              (λ party own e. own (ap number_of leads ∙ e)) (line_of old.line) f.own;
+          own = All-weaker (λ (entry : ℕ × ℕ). number_of p.phase ≡ Some entry.0 → entry.1 ≡ p.waiter) (λ (entry : ℕ × ℕ). Some n ≡ Some entry.0 → entry.1 ≡ p.waiter)
+              (λ entry own e. own (ap number_of leads ∙ e)) (line_of old.line) f.own;
           given = λ m e. f.given m (ap number_of leads ∙ e);
           leads = λ m e. f.leads m (ap lead_of leads ∙ e);
         })

@@ -44,13 +44,13 @@ pub record Fits (See : ℕ → Type 0) (line : Lined) (thread : Thread) : Type 0
   pub seen : (number waiter : ℕ) → asleep_at thread.phase ≡ Some number → line.first ≡ Some (number, waiter) → thread.is_woken ≡ false
       → See waiter
   -- the queue has the thread's own waiter
-  pub own : All (λ party. number_of thread.phase ≡ Some party.0 → party.1 ≡ thread.waiter) (line_of line)
+  pub own : All (λ entry. number_of thread.phase ≡ Some entry.0 → entry.1 ≡ thread.waiter) (line_of line)
   pub given : (number : ℕ) → number_of thread.phase ≡ Some number → number < line.next_number
   pub leads : (number : ℕ) → lead_of thread.phase ≡ Some number → IsFirst line number
 
 pub record Kept (See : ℕ → Type 0) (line : Lined) (threads : List Thread) : Type 0 where
   pub fits : (which : ℕ) (thread : Thread) → slice_get threads which ≡ Some thread → Fits See line thread
-  pub below : All (λ party. party.0 < line.next_number) (line_of line)
+  pub below : All (λ entry. entry.0 < line.next_number) (line_of line)
   -- at most one thread has a number
   pub differ : (i j : ℕ) (a b : Thread) (number : ℕ) → slice_get threads i ≡ Some a → slice_get threads j ≡ Some b
       → number_of a.phase ≡ Some number → number_of b.phase ≡ Some number → i ≡ j
@@ -64,7 +64,7 @@ module _ (See See' : ℕ → Type 0) (line line' : Lined) (threads : List Thread
   pub turned : (i : ℕ) (p x : Thread) → slice_get threads i ≡ Some p
       → ((j : ℕ) (thread : Thread) → i ≢ j → slice_get threads j ≡ Some thread → Fits See line thread → Fits See' line' thread)
       → Fits See' line' x
-      → All (λ party. party.0 < line'.next_number) (line_of line')
+      → All (λ entry. entry.0 < line'.next_number) (line_of line')
       → ((n : ℕ) → number_of x.phase ≡ Some n → (number_of p.phase ≡ Some n) ⊎ (line.next_number ≡ n))
       → Kept See' line' (set threads i x)
   turned i p x at others mine below number = record {
@@ -98,7 +98,7 @@ module _ (See See' : ℕ → Type 0) (line line' : Lined) (threads : List Thread
   pub woken : (waiters : List (ℕ × ℕ))
       → ((j : ℕ) (thread : Thread) → slice_get threads j ≡ Some thread → Fits See line thread
       → Fits See' line' (record { waiter = thread.waiter; phase = thread.phase; is_woken = thread.is_woken || has_waiter thread.waiter waiters }))
-      → All (λ party. party.0 < line'.next_number) (line_of line')
+      → All (λ entry. entry.0 < line'.next_number) (line_of line')
       → Kept See' line' (wake waiters threads)
   woken waiters all below = record {
     fits = λ j thread there.
@@ -117,7 +117,7 @@ module _ (See See' : ℕ → Type 0) (line line' : Lined) (threads : List Thread
       wakes thread = record { waiter = thread.waiter; phase = thread.phase; is_woken = thread.is_woken || has_waiter thread.waiter waiters }
 
   pub changed : ((j : ℕ) (thread : Thread) → slice_get threads j ≡ Some thread → Fits See line thread → Fits See' line' thread)
-      → All (λ party. party.0 < line'.next_number) (line_of line')
+      → All (λ entry. entry.0 < line'.next_number) (line_of line')
       → Kept See' line' threads
   changed all below = record {
     fits = λ j thread there. all j thread there (kept.fits j thread there);
@@ -141,8 +141,8 @@ pub fits_turn : (See : ℕ → Type 0) (line : Lined) (p : Thread) (q : Phase) (
     → Fits See line (record { waiter = p.waiter; phase = q; is_woken = w })
 fits_turn See line p q w f number leads seen = record {
   seen = λ n v a e woken. seen n v a e;
-  own = All-weaker (λ (party : ℕ × ℕ). number_of p.phase ≡ Some party.0 → party.1 ≡ p.waiter) (λ (party : ℕ × ℕ). number_of q ≡ Some party.0 → party.1 ≡ p.waiter)
-      (λ party h e. h (number party.0 e)) (line_of line) f.own;
+  own = All-weaker (λ (entry : ℕ × ℕ). number_of p.phase ≡ Some entry.0 → entry.1 ≡ p.waiter) (λ (entry : ℕ × ℕ). number_of q ≡ Some entry.0 → entry.1 ≡ p.waiter)
+      (λ entry h e. h (number entry.0 e)) (line_of line) f.own;
   given = λ n h. f.given n (number n h);
   leads = leads;
 }

@@ -82,11 +82,11 @@ listed_behind (Some y) others n w m e ne h =
     let f : (y.0 == m) ≡ false = ne_eqb y.0 m (λ t. ne (sym t ∙ s)) in
     rw f at h
 
--- a party of the queue is a thread's
+-- an entry of the queue is a thread's
 abbrev HasThread : List Thread → ℕ × ℕ → Type 0
-HasThread threads party =
+HasThread threads entry =
     (which : ℕ) × (thread : Thread) × (slice_get threads which ≡ Some thread)
-    × (number_of thread.phase ≡ Some party.0) × (thread.waiter ≡ party.1)
+    × (number_of thread.phase ≡ Some entry.0) × (thread.waiter ≡ entry.1)
 
 record InOrder (first : Option (ℕ × ℕ)) (others : List (ℕ × ℕ)) (threads : List Thread) : Type 0 where
   headed : first ≡ None → others ≡ []
@@ -99,9 +99,9 @@ Some-is : {a b : ℕ} → Some a ≡ Some b → a ≡ b
 Some-is e = cc
 
 module _ (threads : List Thread) (i : ℕ) (p x : Thread) (at : slice_get threads i ≡ Some p) where
-  still_has : (party : ℕ × ℕ) → (number_of p.phase ≡ Some party.0 → (number_of x.phase ≡ Some party.0) × (x.waiter ≡ p.waiter))
-      → HasThread threads party → HasThread (set threads i x) party
-  still_has party turns h =
+  still_has : (entry : ℕ × ℕ) → (number_of p.phase ≡ Some entry.0 → (number_of x.phase ≡ Some entry.0) × (x.waiter ≡ p.waiter))
+      → HasThread threads entry → HasThread (set threads i x) entry
+  still_has entry turns h =
       elim (eqb_tells i h.0) [
         | inl e ↦
             let it : p ≡ h.1 = Some-same (slice_get threads i) p h.1 at (ap (slice_get threads) e.1 ∙ h.2) in
@@ -127,7 +127,7 @@ module _ (threads : List Thread) (i : ℕ) (p x : Thread) (at : slice_get thread
   turns first others o same own = record {
     headed = o.headed;
     rises = o.rises;
-    manned = All-weaker (HasThread threads) (HasThread (set threads i x)) (λ party. still_has party (λ h. (same ∙ h, own))) (option_to_list first ++ others) o.manned;
+    manned = All-weaker (HasThread threads) (HasThread (set threads i x)) (λ entry. still_has entry (λ h. (same ∙ h, own))) (option_to_list first ++ others) o.manned;
     stands = still_stands first first others others o (λ n h. o.stands i p n at (sym same ∙ h)) (λ j n t ne there has listed. listed);
   }
 
@@ -153,7 +153,7 @@ module _ (threads : List Thread) (i : ℕ) (p x : Thread) (at : slice_get thread
     headed = λ e. absurd (cc);
     rises = rises_push (y ∷ others) (n, p.waiter) o.rises below;
     manned = All-push (HasThread (set threads i x)) (y ∷ others) (n, p.waiter)
-        (All-weaker (HasThread threads) (HasThread (set threads i x)) (λ party. still_has party (λ h. let z : None ≡ Some party.0 = sym none ∙ h in absurd (cc))) (y ∷ others) o.manned)
+        (All-weaker (HasThread threads) (HasThread (set threads i x)) (λ entry. still_has entry (λ h. let z : None ≡ Some entry.0 = sym none ∙ h in absurd (cc))) (y ∷ others) o.manned)
         (i, x, at_changed threads i x p at, has, own);
     stands = still_stands (Some y) (Some y) others (others ++ (n, p.waiter) ∷ []) o
         (λ m h. let s : n ≡ m = cc in subst (λ (m : ℕ). is_listed m (y ∷ (others ++ (n, p.waiter) ∷ [])) ≡ true) s (listed_last n p.waiter (y ∷ others)))
@@ -164,7 +164,7 @@ module _ (threads : List Thread) (i : ℕ) (p x : Thread) (at : slice_get thread
     others_have : (xs : List (ℕ × ℕ)) → All (λ a. HasThread threads a × (a.0 ≢ n)) xs → All (HasThread (set threads i x)) xs
     others_have xs all =
         All-weaker (λ a. HasThread threads a × (a.0 ≢ n)) (HasThread (set threads i x))
-        (λ party h. still_has party (λ number. let s : n ≡ party.0 = Some-is (sym has ∙ number) in absurd (h.1 (sym s))) h.0) xs all
+        (λ entry h. still_has entry (λ number. let s : n ≡ entry.0 = Some-is (sym has ∙ number) in absurd (h.1 (sym s))) h.0) xs all
 
     leaves : (first : Option (ℕ × ℕ)) (others : List (ℕ × ℕ)) → InOrder first others threads → number_of x.phase ≡ None
         → ((w : ℕ) → first ≡ Some (n, w) → ⊥) → InOrder first (without n others) (set threads i x)
@@ -210,7 +210,7 @@ woken : (ws : List (ℕ × ℕ)) (threads : List Thread) (first : Option (ℕ ×
 woken ws threads first others o = record {
   headed = o.headed;
   rises = o.rises;
-  manned = All-weaker (HasThread threads) (HasThread (wake ws threads)) (λ party h. (h.0, _, at_mapped _ threads h.0 h.1 h.2, h.3, h.4)) (option_to_list first ++ others) o.manned;
+  manned = All-weaker (HasThread threads) (HasThread (wake ws threads)) (λ entry h. (h.0, _, at_mapped _ threads h.0 h.1 h.2, h.3, h.4)) (option_to_list first ++ others) o.manned;
   stands = λ j t n there has.
       let m = mapped_at _ threads j t there in
       o.stands j m.0 n m.1 (ap (λ (t : Thread). number_of t.phase) m.2 ∙ has);
@@ -218,7 +218,7 @@ woken ws threads first others o = record {
 
 -- who stands in a queue that has a head where it has anybody
 head_of : (first : Option (ℕ × ℕ)) (others : List (ℕ × ℕ)) (threads : List Thread) (n : ℕ) → InOrder first others threads
-    → is_listed n (option_to_list first ++ others) ≡ true → (party : ℕ × ℕ) × (first ≡ Some party) × HasThread threads party
+    → is_listed n (option_to_list first ++ others) ≡ true → (entry : ℕ × ℕ) × (first ≡ Some entry) × HasThread threads entry
 head_of None others threads n o listed =
     let e = o.headed refl in let z : false ≡ true = ap (is_listed n) (sym e) ∙ listed in absurd (cc)
 head_of (Some y) others threads n o listed = (y, refl, All-head (HasThread threads) y others o.manned)
@@ -252,7 +252,7 @@ module _ {T P : Type 0} where
         → (first : Option (ℕ × ℕ)) → first ≡ old.line.first → IsSome first → InOrder old.line.first (old.line.others ++ (old.line.next_number, p.waiter) ∷ []) (set old.threads i x)
     joins x none has own None e some = absurd (cc)
     joins x none has own (Some y) e some =
-        let below = subst (λ (f : Option (ℕ × ℕ)). All (λ (party : ℕ × ℕ). party.0 < old.line.next_number) (option_to_list f ++ old.line.others)) (sym e) a.kept.below in
+        let below = subst (λ (f : Option (ℕ × ℕ)). All (λ (entry : ℕ × ℕ). entry.0 < old.line.next_number) (option_to_list f ++ old.line.others)) (sym e) a.kept.below in
         rw (← e) (joins_behind old.threads i p x at y old.line.others old.line.next_number (rw e o) below none has own)
 
     act_ordered : (new : ThreadWorld T P) (act : Act) → Acts old i p act new → Ordered new

@@ -124,7 +124,7 @@ all_at Q (y ∷ xs) zero x all h = let s : y ≡ x = cc in rw (← s) (All-head 
 all_at Q (y ∷ xs) (suc i) x all h = all_at Q xs i x (All-tail Q y xs all) h
 
 module _ {T P : Type 0} where
-  -- who is handed out is woken, and then the lists may change at the tickets of others
+  -- the waiters on the wakes are woken, and then the lists may change at the tickets of others
   handed_out : (old : ThreadWorld T P) (a : IsAttended old) (mid s : State T P ℕ) (handed : Handed ℕ) → Hands old.state mid handed → IsGood s
       → ((t v : ℕ) → old.line.ticket ≡ Some t → waker_of t (on_side old.side mid.waiters) ≡ Some v → waker_of t (on_side old.side s.waiters) ≡ Some v)
       → IsAttended (record old { state = s; threads = wake (handed.room ++ handed.message) old.threads })
@@ -137,7 +137,7 @@ module _ {T P : Type 0} where
             (λ j t there f. record {
               seen = λ n v asleep e w.
                   let still = or-both t.is_woken (has_waiter t.waiter woken) w in
-                  let same = at_first (λ (party : ℕ × ℕ). number_of t.phase ≡ Some party.0 → party.1 ≡ t.waiter) old.line.first old.line.others (n, v) f.own e (asleep_number t.phase n asleep) in
+                  let same = at_first (λ (entry : ℕ × ℕ). number_of t.phase ≡ Some entry.0 → entry.1 ≡ t.waiter) old.line.first old.line.others (n, v) f.own e (asleep_number t.phase n asleep) in
                   elim (f.seen n v asleep e still.0) [
                     | inr u ↦ inr u
                     | inl x ↦ elim (stays_or_leaves old.state mid handed h old.side) [
@@ -183,12 +183,12 @@ module _ {T P : Type 0} where
         kept = record {
           fits = λ i t at. record {
             seen = λ n w asleep first woken. let x : None ≡ Some n = sym (none i t at) ∙ asleep_number t.phase n asleep in absurd (cc);
-            own = all_any (λ (party : ℕ × ℕ). number_of t.phase ≡ Some party.0 → party.1 ≡ t.waiter) (line_of world.line)
-                (λ party h. let x : None ≡ Some party.0 = sym (none i t at) ∙ h in absurd (cc));
+            own = all_any (λ (entry : ℕ × ℕ). number_of t.phase ≡ Some entry.0 → entry.1 ≡ t.waiter) (line_of world.line)
+                (λ entry h. let x : None ≡ Some entry.0 = sym (none i t at) ∙ h in absurd (cc));
             given = λ n h. let x : None ≡ Some n = sym (none i t at) ∙ h in absurd (cc);
             leads = λ n h. let x : None ≡ Some n = sym (none i t at) ∙ lead_number t.phase n h in absurd (cc);
           };
-          below = let e = o.2 in rw e (All-nil (λ (party : ℕ × ℕ). party.0 < 0));
+          below = let e = o.2 in rw e (All-nil (λ (entry : ℕ × ℕ). entry.0 < 0));
           differ = λ i j a b n at at' h h'. let x : None ≡ Some n = sym (none i a at) ∙ h in absurd (cc);
         };
       }

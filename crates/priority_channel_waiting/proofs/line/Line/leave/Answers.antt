@@ -7,5 +7,5 @@ invariant_of-self g c =
     let inside = c.self.inside in
     rw c.remove.ensures.list (
       (λ none. rw (c.self.invariant.0 none) refl),
-      All-filter (λ other. not (other.0 == c.args.party.number)) (λ other. other.0 < inside.next_number) inside.others c.self.invariant.1,
+      All-filter (λ other. not (other.0 == c.args.queued.number)) (λ other. other.0 < inside.next_number) inside.others c.self.invariant.1,
     )

@@ -8,7 +8,7 @@ pub returns-in_default-clause-value : goal.returns-in_default-clause-value
 returns-in_default-clause-value g c =
     rw (← c.self.view_is)
     (hands_back_all (HasList g.I.Iterator.next_gives) (peekable_can g.I.Iterator.can_next) (record { channel = c.self.inside.end.now; state = c.self.inside.task.state }) c.in-Some-unsent.rest
-    (sym c.give_up_on-unsent.ensures.kept ∙ c.in-Some-unsent.is) (rw (← c.self.view_is) at c.requires.callable))
+    (sym c.give_up-unsent.ensures.kept ∙ c.in-Some-unsent.is) (rw (← c.self.view_is) at c.requires.callable))
 
 pub returns-clause-same : goal.returns-clause-same
 returns-clause-same g c =
