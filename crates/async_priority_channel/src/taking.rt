@@ -1,9 +1,11 @@
-//! Calls that take out the messages that a test chooses.
+//! Calls that receive or take out the messages that a test chooses.
 ghost use Rattle.std.specs.Prelude.{true, false, All, IfOk, IfSome};
 ghost use Rattle.priority_channel_bag.specs.Least.{Tells};
 
 use crate::end::{End, Role};
+use crate::receiver::Receiver;
 use priority_channel_core::awaitable_atomics::Wakes;
+use priority_channel_core::errors::TryRecvError;
 use priority_channel_waiting::waiter::{Core, Waiter};
 use std::alloc::{AllocError, Allocator};
 use std::sync::Wait;
@@ -73,6 +75,36 @@ impl<S: Role, T, P: Ord, R: Wait + Clone, A: Allocator + Copy> End<S, T, P, R, A
         let (retained, wakes) = retain_on(held.core(), &test, alloc);
         self.handle.release(held, wakes);
         retained
+    }
+}
+
+impl<T, P: Ord, R: Wait + Clone, A: Allocator + Copy> Receiver<T, P, R, A> {
+    /// Receives the message of greatest priority, if the test returns true for it. Otherwise it
+    /// returns `Ok(None)`, and the message stays pending. The errors are those of `try_recv`. The
+    /// test is called as by `take_where`, and on this message alone.
+    ///
+    /// ```
+    /// let (tx, rx) = unbounded(&rt, rt.alloc())?;
+    /// tx.try_send("reindex", 1)?;
+    /// assert_eq!(rt; rx.try_recv_if(|_, priority| *priority > 5), Ok(None));
+    /// tx.try_send("page the admin", 9)?;
+    /// let urgent = rx.try_recv_if(|_, priority| *priority > 5);
+    /// assert_eq!(rt; urgent, Ok(Some(("page the admin", 9))));
+    /// assert_eq!(rt; rx.len(), 1);
+    /// ```
+    pub fn try_recv_if<F: Fn(&T, &P) -> bool>(
+        &self,
+        test: F,
+    ) -> Result<Option<(T, P)>, TryRecvError>
+    where
+        F: Drop,
+        requires { F.IsAlwaysCallable test }
+        ensures { IfOk result (λ taken. IfSome taken (λ pair. Tells F.Fn test pair true)) }
+    {
+        let mut held = self.handle.hold();
+        let (received, wakes) = held.core().try_recv_if(&test);
+        self.handle.release(held, wakes);
+        received
     }
 }
 

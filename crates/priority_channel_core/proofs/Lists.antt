@@ -1,5 +1,5 @@
 -- What is known of the list of a `Peekable` at a call of `next`, and at a `peek`.
-use Rattle.std.proofs.Common.{◌≡◌, ◌<◌, ◌↔◌, IsTrue, is_some, List, [], ◌∷◌, length, refl, sym, ap, subst, arith, Option, Some, None, MatchOption, Bor}
+use Rattle.std.proofs.Common.{◌≡◌, ◌<◌, ◌↔◌, IsTrue, is_some, List, [], ◌∷◌, ◌++◌, length, refl, sym, ap, subst, arith, Option, Some, None, MatchOption, Bor}
 use Rattle.std.specs.Option.{option_copied}
 use Rattle.std.specs.Iterator.Adapters.{peekable_source, peekable_peeked, peekable_steps, PeeksNext, PeekedOrNext}
 use Rattle.std.specs.Iterator.{AlwaysYields}
@@ -59,3 +59,8 @@ module _ {S A : Type 0} (steps : S → Option A → S → Type 0) where
       λ x j q. let k = h.1 x (peekable_source j) (at_source s j (Some x) e q) in (k.0, (list_from_source j ys q.0 k.1).runs),
     );
   }
+
+-- a list with an item is not empty
+pub has_item : {X : Type 0} (xs ys : List X) (x : X) → xs ++ x ∷ ys ≡ [] → ⊥
+has_item [] ys x is = absurd (cc)
+has_item (y ∷ xs) ys x is = absurd (cc)

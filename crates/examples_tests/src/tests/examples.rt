@@ -556,6 +556,30 @@ fn example_of_receiver_recv_many_blocking(rt: HostRuntime) {
 }
 
 #[test]
+fn example_of_receiver_recv_many_timeout(rt: HostRuntime) {
+    let (tx, rx) = bounded(&rt, rt.alloc(), 10).expect(&rt, "bounded");
+    let limit = Duration::from_millis(5);
+    let mut batch = Vec::new(rt.alloc());
+    let late = rx.recv_many_timeout(&mut batch, 8, limit);
+    expect_equal(&rt, late, Err(RecvTimeoutError::Timeout));
+    tx.try_send("Foo", 0).expect(&rt, "try_send");
+    tx.try_send("Bar", 2).expect(&rt, "try_send");
+    expect_equal(&rt, rx.recv_many_timeout(&mut batch, 8, limit), Ok(2));
+    expect_equal(&rt, batch.as_slice(), [("Bar", 2), ("Foo", 0)].as_slice());
+}
+
+#[test]
+fn example_of_receiver_recv_many_deadline(rt: HostRuntime) {
+    let (tx, rx) = bounded(&rt, rt.alloc(), 10).expect(&rt, "bounded");
+    tx.try_send("Foo", 0).expect(&rt, "try_send");
+    let now = Instant::now(&rt).expect(&rt, "now");
+    let mut batch = Vec::new(rt.alloc());
+    expect_equal(&rt, rx.recv_many_deadline(&mut batch, 8, now), Ok(1));
+    let late = rx.recv_many_deadline(&mut batch, 8, now);
+    expect_equal(&rt, late, Err(RecvTimeoutError::Timeout));
+}
+
+#[test]
 fn example_of_receiver_recv_many(rt: HostRuntime) {
     let (tx, rx) = unbounded(&rt, rt.alloc()).expect(&rt, "unbounded");
     let jobs = [("compile", 2), ("link", 1), ("test", 3)];
@@ -752,7 +776,7 @@ fn example_of_receiver_into_stream(rt: HostRuntime) {
 }
 
 #[test]
-fn example_of_receiver_take_where(rt: HostRuntime) {
+fn example_of_end_take_where(rt: HostRuntime) {
     let (tx, rx) = unbounded(&rt, rt.alloc()).expect(&rt, "unbounded");
     let jobs = [("compile", 2), ("link", 1), ("test", 3)];
     tx.try_sendv(jobs.into_iter().peekable())
@@ -767,7 +791,7 @@ fn example_of_receiver_take_where(rt: HostRuntime) {
 }
 
 #[test]
-fn example_of_receiver_retain(rt: HostRuntime) {
+fn example_of_end_retain(rt: HostRuntime) {
     let (tx, rx) = unbounded(&rt, rt.alloc()).expect(&rt, "unbounded");
     let jobs = [("compile", 2), ("link", 1), ("test", 3)];
     tx.try_sendv(jobs.into_iter().peekable())
@@ -775,6 +799,17 @@ fn example_of_receiver_retain(rt: HostRuntime) {
     let cancelled = rx.retain(|job, _| *job != "link").expect(&rt, "retain");
     expect_equal(&rt, cancelled.as_slice(), [("link", 1)].as_slice());
     expect_equal(&rt, rx.try_recv(), Ok(("test", 3)));
+    expect_equal(&rt, rx.len(), 1);
+}
+
+#[test]
+fn example_of_receiver_try_recv_if(rt: HostRuntime) {
+    let (tx, rx) = unbounded(&rt, rt.alloc()).expect(&rt, "unbounded");
+    tx.try_send("reindex", 1).expect(&rt, "try_send");
+    expect_equal(&rt, rx.try_recv_if(|_, priority| *priority > 5), Ok(None));
+    tx.try_send("page the admin", 9).expect(&rt, "try_send");
+    let urgent = rx.try_recv_if(|_, priority| *priority > 5);
+    expect_equal(&rt, urgent, Ok(Some(("page the admin", 9))));
     expect_equal(&rt, rx.len(), 1);
 }
 

@@ -1,17 +1,20 @@
-//! Taking out the pairs that a test chooses.
-ghost use Rattle.std.specs.Prelude.{◌≡◌, ℕ, List, ◌+◌, ◌*◌, ◌++◌, ◌≤◌, true, false, length, All, IfNone, IfSome, vec_capacity};
+//! Receiving and taking out the pairs that a test chooses.
+ghost use Rattle.std.specs.Prelude.{◌≡◌, ℕ, List, ◌+◌, ◌*◌, ◌++◌, ◌≤◌, true, false, length, All, IfNone, IfSome, IfOk, IfErr, Ok, Err, vec_capacity};
 ghost use Rattle.priority_channel_bag.specs.Digits.{digits};
 ghost use Rattle.priority_channel_core.specs.code.Many.{TakesInTurn};
 
 use crate::awaitable_atomics::Wakes;
 use crate::calls::{Answer, Call};
 use crate::channel::PriorityQueueChannel;
+use crate::errors::TryRecvError;
 use std::alloc::Allocator;
 
 impl<T, P: Ord, W: Clone, A: Allocator + Copy> PriorityQueueChannel<T, P, W, A> {
     ghost use Rattle.priority_channel_core.specs.machine.Good.{IsGood};
     ghost use Rattle.priority_channel_core.specs.machine.Step.{Step};
+    ghost use Rattle.priority_channel_bag.specs.Greatest.{TakesGreatest};
     ghost use Rattle.priority_channel_bag.specs.Least.{Tells};
+    ghost use Rattle.priority_channel_core.specs.machine.State.{nobody};
     ghost use Rattle.priority_channel_core.specs.code.Channel.{ComparesAtMost};
 
     /// Takes out a pending pair for which the test returns true, also from a closed channel. None
@@ -35,6 +38,53 @@ impl<T, P: Ord, W: Clone, A: Allocator + Copy> PriorityQueueChannel<T, P, W, A> 
                 (Some(pair), wakes)
             }
             None => (None, Wakes::nobody(self.alloc)),
+        }
+    }
+
+    /// Receives the greatest pending pair, if the test returns true for it. Otherwise the answer is
+    /// `Ok(None)`, and nothing changes. The errors are those of `try_recv`, without a call of the
+    /// test. It takes no memory.
+    pub fn try_recv_if<F: Fn(&T, &P) -> bool>(
+        &mut self,
+        test: &F,
+    ) -> (Result<Option<(T, P)>, TryRecvError>, Wakes<W, A>)
+        requires { F.IsAlwaysCallable test.now }
+        ensures received { IfOk result.0 (λ taken. IfSome taken (λ pair. Step P.cmp W.is_clone
+            self.old.state Call.TryRecv (Answer.TryRecv (Ok pair)) result.1 self.new.state)) }
+        ensures meets { IfOk result.0 (λ taken. IfSome taken (λ pair.
+            Tells F.Fn test.now pair true)) }
+        ensures kept { IfOk result.0 (λ taken. IfNone taken ((self.new.state ≡ self.old.state)
+            × (result.1 ≡ nobody) × (greatest : T × P) × (rest : List (T × P))
+            × TakesGreatest P.cmp self.old.state.pending greatest rest
+            × Tells F.Fn test.now greatest false)) }
+        ensures refused { IfErr result.0 (λ error. Step P.cmp W.is_clone self.old.state
+            Call.TryRecv (Answer.TryRecv (Err error)) result.1 self.new.state) }
+        ensures cost { ComparesAtMost (2 * digits (length self.old.state.pending)) 0 self.old
+            self.new }
+    {
+        if !self.greatest_passes(test) {
+            return (Ok(None), Wakes::nobody(self.alloc));
+        }
+        let (received, wakes) = self.try_recv();
+        match received {
+            Ok(pair) => (Ok(Some(pair)), wakes),
+            Err(error) => (Err(error), wakes),
+        }
+    }
+
+    // Whether the test returns true for the greatest pending pair, if there is one.
+    fn greatest_passes<F: Fn(&T, &P) -> bool>(&self, test: &F) -> bool
+        requires { F.IsAlwaysCallable test.now }
+        ensures passes { result ≡ true → (greatest : T × P) (rest : List (T × P))
+            → TakesGreatest P.cmp self.now.state.pending greatest rest
+            → Tells F.Fn test.now greatest true }
+        ensures fails { result ≡ false → (greatest : T × P) × (rest : List (T × P))
+            × TakesGreatest P.cmp self.now.state.pending greatest rest
+            × Tells F.Fn test.now greatest false }
+    {
+        match self.peek() {
+            Some((msg, priority)) => test(msg, priority),
+            None => true,
         }
     }
 

@@ -5,7 +5,7 @@ use super::calls::Side::*;
 use super::calls::Way::*;
 
 /// Those of a sender come first, and those that may close the channel last.
-pub const ALL: [Call; 48] = [
+pub const ALL: [Call; 53] = [
     Send(Try),
     Send(Poll),
     Send(Future),
@@ -19,6 +19,8 @@ pub const ALL: [Call; 48] = [
     Sendv(Timeout),
     Sendv(Deadline),
     SendEvicting,
+    TakeWhere(Sender),
+    Retain(Sender),
     Recv(Try),
     Recv(Poll),
     Recv(Future),
@@ -29,6 +31,9 @@ pub const ALL: [Call; 48] = [
     RecvMany(Poll),
     RecvMany(Future),
     RecvMany(Blocking),
+    RecvMany(Timeout),
+    RecvMany(Deadline),
+    RecvIf,
     TryIter,
     Iter,
     IntoIter,
@@ -36,8 +41,8 @@ pub const ALL: [Call; 48] = [
     Stream(Future),
     IntoStream(Poll),
     IntoStream(Future),
-    TakeWhere,
-    Retain,
+    TakeWhere(Receiver),
+    Retain(Receiver),
     PeekWith,
     PeekPriority,
     Unpolled(Sender),

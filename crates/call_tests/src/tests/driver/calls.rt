@@ -34,8 +34,9 @@ pub enum Call {
     /// A stream is asked for one message.
     Stream(Way),
     IntoStream(Way),
-    TakeWhere,
-    Retain,
+    TakeWhere(Side),
+    Retain(Side),
+    RecvIf,
     PeekWith,
     PeekPriority,
     /// Each kind of future, stream and loop is dropped as it was made.
@@ -54,7 +55,9 @@ impl Call {
     pub fn side(self) -> Side {
         match self {
             Call::Send(_) | Call::Sendv(_) | Call::SendEvicting => Side::Sender,
-            Call::Unpolled(side)
+            Call::TakeWhere(side)
+            | Call::Retain(side)
+            | Call::Unpolled(side)
             | Call::Look(side)
             | Call::Clone(side)
             | Call::Upgrade(side)
@@ -123,7 +126,8 @@ pub struct Input {
     pub most: usize,
     /// How long a call with a limit waits at most.
     pub limit: Duration,
-    /// The message that `take_where` takes. `retain` lets go what leaves the same rest by 8.
+    /// The message that `take_where` takes. `retain` lets go what leaves the same rest by 8, and
+    /// `try_recv_if` receives what leaves the same rest by 2.
     pub chosen: u64,
 }
 

@@ -61,8 +61,9 @@ impl Model {
             Call::TryIter | Call::Iter | Call::IntoIter => {
                 self.receive(rt, input.most, Outcome::Ended)
             }
-            Call::TakeWhere => self.take_where(rt, input.chosen),
-            Call::Retain => self.retain(rt, input.chosen),
+            Call::TakeWhere(_) => self.take_where(rt, input.chosen),
+            Call::Retain(_) => self.retain(rt, input.chosen),
+            Call::RecvIf => self.receive_if(rt, input.chosen),
             Call::PeekWith => {
                 let seen = self.first_greatest().map(|(_, pair)| pair);
                 Reply::found(rt, seen, Outcome::Empty)
@@ -211,6 +212,13 @@ impl Model {
             reply.pairs.push(pair).expect(rt, "memory for the model");
         }
         reply
+    }
+
+    fn receive_if(&mut self, rt: &impl Host, chosen: u64) -> Reply {
+        match self.first_greatest() {
+            Some((_, (msg, _))) if msg % 2 != chosen % 2 => Reply::new(rt, Outcome::Was(false)),
+            _ => self.receive_one(rt, Way::Try, Outcome::Closed),
+        }
     }
 
     fn take_where(&mut self, rt: &impl Host, chosen: u64) -> Reply {

@@ -5,7 +5,7 @@ use super::calls::{Call, Input, Pair, Side, Way};
 use super::reply::{Looks, Outcome, Refusal, Reply, looks};
 use super::send::deadline_of;
 use crate::tests::Host;
-use async_priority_channel::Receiver;
+use async_priority_channel::{End, Receiver, Role};
 use futures::StreamExt;
 use futures::executor::block_on;
 use futures::future::poll_immediate;
@@ -24,7 +24,7 @@ pub fn receive<R: Host, A: Allocator + Copy>(
     let most = input.most;
     match call {
         Call::Recv(way) => receive_one(rt, rx, way, input),
-        Call::RecvMany(way) => receive_many(rt, alloc, rx, way, most),
+        Call::RecvMany(way) => receive_many(rt, alloc, rx, way, input),
         Call::Stream(_) | Call::IntoStream(_) => stream(rt, rx, call),
         Call::TryIter => tell_loop(rt, rx.try_iter().take(most), most),
         Call::Iter => tell_loop(rt, rx.iter().take(most), most),
@@ -40,8 +40,10 @@ pub fn receive<R: Host, A: Allocator + Copy>(
             drop(rx.close_on_drop());
             Reply::new(rt, Outcome::Done)
         }
-        Call::Retain => retain(rt, rx, input.chosen),
-        _choice => choose(rt, rx, call, input.chosen),
+        Call::TakeWhere(Side::Receiver) => take_where(rt, rx, input.chosen),
+        Call::Retain(Side::Receiver) => retain(rt, rx, input.chosen),
+        Call::RecvIf => receive_if(rt, rx, input.chosen),
+        _peek => peek(rt, rx, call),
     }
 }
 
@@ -82,8 +84,9 @@ fn receive_many<R: Host, A: Allocator + Copy>(
     alloc: A,
     rx: &Receiver<u64, u64, R, A>,
     way: Way,
-    most: usize,
+    input: Input,
 ) -> Reply {
+    let most = input.most;
     let mut batch = Vec::new(alloc);
     match way {
         Way::Try => {
@@ -102,7 +105,14 @@ fn receive_many<R: Host, A: Allocator + Copy>(
             let received = rx.recv_many_blocking(&mut batch, most);
             tell_many(rt, Some(received), &batch)
         }
-        _no_call => Reply::new(rt, Outcome::Impossible),
+        Way::Timeout => {
+            let received = rx.recv_many_timeout(&mut batch, most, input.limit);
+            tell_many(rt, Some(received), &batch)
+        }
+        Way::Deadline => {
+            let received = rx.recv_many_deadline(&mut batch, most, deadline_of(rt, input));
+            tell_many(rt, Some(received), &batch)
+        }
     }
 }
 
@@ -125,14 +135,8 @@ fn stream<R: Host, A: Allocator + Copy>(
     }
 }
 
-fn choose<R: Host, A: Allocator + Copy>(
-    rt: &R,
-    rx: &Receiver<u64, u64, R, A>,
-    call: Call,
-    chosen: u64,
-) -> Reply {
+fn peek<R: Host, A: Allocator + Copy>(rt: &R, rx: &Receiver<u64, u64, R, A>, call: Call) -> Reply {
     let found = match call {
-        Call::TakeWhere => rx.take_where(|msg, _| *msg == chosen),
         Call::PeekWith => rx.peek_with(|msg, priority| (*msg, *priority)),
         Call::PeekPriority => {
             let seen = rx.peek_priority().expect(rt, "a priority");
@@ -143,13 +147,34 @@ fn choose<R: Host, A: Allocator + Copy>(
     Reply::found(rt, found, Outcome::Empty)
 }
 
-// Sorted, since their order is not said.
-fn retain<R: Host, A: Allocator + Copy>(
+fn receive_if<R: Host, A: Allocator + Copy>(
     rt: &R,
     rx: &Receiver<u64, u64, R, A>,
     chosen: u64,
 ) -> Reply {
-    let Ok(taken) = rx.retain(|msg, _| *msg % 8 != chosen % 8) else {
+    match rx.try_recv_if(|msg, _| *msg % 2 == chosen % 2) {
+        Ok(None) => Reply::new(rt, Outcome::Was(false)),
+        Ok(found) => Reply::found(rt, found, Outcome::Empty),
+        Err(refusal) => tell_one(rt, Some(Err(refusal))),
+    }
+}
+
+/// Takes out a message by either handle.
+pub fn take_where<S: Role, R: Host, A: Allocator + Copy>(
+    rt: &R,
+    end: &End<S, u64, u64, R, A>,
+    chosen: u64,
+) -> Reply {
+    Reply::found(rt, end.take_where(|msg, _| *msg == chosen), Outcome::Empty)
+}
+
+/// Retains messages by either handle. What is taken out is sorted, since its order is not said.
+pub fn retain<S: Role, R: Host, A: Allocator + Copy>(
+    rt: &R,
+    end: &End<S, u64, u64, R, A>,
+    chosen: u64,
+) -> Reply {
+    let Ok(taken) = end.retain(|msg, _| *msg % 8 != chosen % 8) else {
         return Reply::new(rt, Outcome::Memory);
     };
     let mut reply = Reply::with(rt, Outcome::Done, taken.iter().copied());

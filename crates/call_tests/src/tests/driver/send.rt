@@ -1,5 +1,6 @@
 //! The calls of a sender.
 use super::calls::{Call, Input, Pair, Pairs, Side, Way};
+use super::receive::{retain, take_where};
 use super::reply::{Looks, Outcome, Refusal, Reply, looks};
 use crate::tests::Host;
 use async_priority_channel::Sender;
@@ -26,6 +27,8 @@ pub fn send<R: Host, A: Allocator + Copy>(
             Ok(displaced) => Reply::found(rt, displaced, Outcome::Done),
             Err(refusal) => tell_one(rt, Some(Err(refusal))),
         },
+        Call::TakeWhere(Side::Sender) => take_where(rt, tx, input.chosen),
+        Call::Retain(Side::Sender) => retain(rt, tx, input.chosen),
         Call::Unpolled(Side::Sender) => {
             drop(tx.send(msg, priority));
             drop(tx.sendv(input.pairs.peekable()));

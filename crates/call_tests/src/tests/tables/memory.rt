@@ -38,7 +38,7 @@ fn pending_in(situation: Situation) -> u64 {
 // Whether the call takes no memory of a reserved channel.
 fn takes_none(call: Call, is_blocked: bool) -> bool {
     match call {
-        Call::RecvMany(_) | Call::Retain => false,
+        Call::RecvMany(_) | Call::Retain(_) => false,
         _ => call.way() != Way::Poll || !is_blocked,
     }
 }

@@ -52,7 +52,7 @@ impl Dice {
         if do_sends_prevail && number >= SENDS {
             return Call::SendEvicting;
         }
-        ALL.get(number as usize).copied().unwrap_or(Call::Retain)
+        ALL.get(number as usize).copied().unwrap_or(Call::RecvIf)
     }
 
     // Messages are told apart by their numbers, and many have the same priority.

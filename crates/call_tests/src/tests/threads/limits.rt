@@ -1,7 +1,9 @@
 //! Limits: of no time and without an end, by clocks that cannot be read, what is done at the last
 //! moment, and how long a limit takes.
 use super::clocks::{Paced, Plan, Times, second};
-use super::parties::{Party, TIMED, block, call_of, closed, done, is_bulk, long, refused};
+use super::parties::{
+    Party, TIMED, block, call_of, closed, done, is_batch, is_bulk, long, refused,
+};
 use super::watch::Watch;
 use super::{Threaded, let_others_wait};
 use crate::tests::driver::calls::{Call, Way};
@@ -14,7 +16,7 @@ use std::thread;
 use std::time::{Duration, Instant};
 
 // A limit that is over before a thread can park. A deadline is past as it is read again. Without
-// time no memory is asked for: a try needs none.
+// time no memory is asked for, but for a batch: a try needs none.
 #[test]
 fn a_call_without_time_is_a_try(rt: HostRuntime) {
     for nanos in [0u64, 1] {
@@ -22,14 +24,15 @@ fn a_call_without_time_is_a_try(rt: HostRuntime) {
         for call in TIMED {
             let alloc = Refusing::new(rt.alloc());
             let (party, other) = block(&rt, &alloc, call);
-            alloc.refuse_nth(if nanos == 0 { 1 } else { 0 });
+            let needs_none = nanos == 0 && !is_batch(call);
+            alloc.refuse_nth(if needs_none { 1 } else { 0 });
             let watch = Watch::begin(&rt, "calls without time", (call, nanos));
             let late = party.make(&rt, &alloc, call, limit);
             expect_equal_at(&rt, (call, nanos), late, refused(call, Outcome::Timeout));
             expect_true(&rt, other.help() && other.help(), "the channel is open");
             let sent = party.make(&rt, &alloc, call, limit);
             expect_equal_at(&rt, (call, nanos), sent, done(call));
-            expect_equal_at(&rt, call, alloc.refuse_none(), nanos == 0);
+            expect_equal_at(&rt, call, alloc.refuse_none(), needs_none);
             // What is pending comes, of a closed channel too.
             expect_true(&rt, other.close(), "it was open");
             let mut last = party.make(&rt, &alloc, call, limit);

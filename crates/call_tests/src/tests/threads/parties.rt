@@ -24,21 +24,28 @@ pub fn is_bulk(call: Call) -> bool {
     matches!(call, Call::Sendv(_))
 }
 
+/// A batch asks for memory of its own.
+pub fn is_batch(call: Call) -> bool {
+    matches!(call, Call::RecvMany(_))
+}
+
 pub fn waits(call: Call) -> bool {
     !matches!(call.way(), Way::Try | Way::Poll)
 }
 
 /// The calls that wait for a limited time.
-pub const TIMED: [Call; 6] = [
+pub const TIMED: [Call; 8] = [
     Call::Send(Way::Timeout),
     Call::Send(Way::Deadline),
     Call::Sendv(Way::Timeout),
     Call::Sendv(Way::Deadline),
     Call::Recv(Way::Timeout),
     Call::Recv(Way::Deadline),
+    Call::RecvMany(Way::Timeout),
+    Call::RecvMany(Way::Deadline),
 ];
 
-/// Whether it may send or take out a message.
+/// Whether it may send, or take out by a receiver.
 pub fn moves(call: Call) -> bool {
     matches!(
         call,
@@ -52,8 +59,9 @@ pub fn moves(call: Call) -> bool {
             | Call::IntoIter
             | Call::Stream(_)
             | Call::IntoStream(_)
-            | Call::TakeWhere
-            | Call::Retain
+            | Call::TakeWhere(Side::Receiver)
+            | Call::Retain(Side::Receiver)
+            | Call::RecvIf
     )
 }
 

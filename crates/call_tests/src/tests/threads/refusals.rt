@@ -1,5 +1,7 @@
 //! Memory that is refused to waits, and how much of it they ask for.
-use super::parties::{Party, SIDES, TIMED, block, call_of, done, is_bulk, long, refused, waits};
+use super::parties::{
+    Party, SIDES, TIMED, block, call_of, done, is_batch, is_bulk, long, refused, waits,
+};
 use super::watch::Watch;
 use super::{Threaded, let_others_wait};
 use crate::tests::driver::all::ALL;
@@ -152,14 +154,19 @@ fn a_loop_keeps_its_waiter(rt: HostRuntime) {
 }
 
 // A wait that is over has left the list. So the next ones find the list's memory there, and ask for
-// their waiter alone.
+// their waiter alone, and a batch for its own memory.
 #[test]
 fn a_wait_leaves_no_place_behind(rt: HostRuntime) {
     for call in TIMED {
         let alloc = Refusing::new(rt.alloc());
         let (party, other) = block(&rt, &alloc, call);
         for round in 0..50u64 {
-            let (nth, millis) = if round == 0 { (0, 100) } else { (2, 2) };
+            let needed = if is_batch(call) { 2 } else { 1 };
+            let (nth, millis) = if round == 0 {
+                (0, 100)
+            } else {
+                (needed + 1, 2)
+            };
             alloc.refuse_nth(nth);
             let watch = Watch::begin(&rt, "the end of a limit", (call, round));
             let answer = party.make(&rt, &alloc, call, Duration::from_millis(millis));
@@ -197,7 +204,7 @@ fn memory_for_a_message_is_not_waited_for(rt: HostRuntime) {
 #[test]
 fn what_need_not_wait_asks_for_nothing(rt: HostRuntime) {
     for call in ALL {
-        if !waits(call) || matches!(call, Call::RecvMany(_)) {
+        if !waits(call) || is_batch(call) {
             continue;
         }
         let alloc = Refusing::new(rt.alloc());
