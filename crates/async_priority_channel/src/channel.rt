@@ -40,6 +40,7 @@ pub fn bounded<T: Drop, P: Ord + Drop, R: Wait + Clone, A: Allocator + Copy>(
     ensures capacity { IfOk result (λ ends. ends.0.capacity ≡ cap) }
     ensures same { IfOk result (λ ends. ends.1 ≡ ends.0) }
 {
+    prove!(cap > 0);
     ends(rt, alloc, cap, Core::bounded(alloc, cap))
 }
 
@@ -64,6 +65,7 @@ pub fn bounded_reserved<T: Drop, P: Ord + Drop, R: Wait + Clone, A: Allocator + 
     ensures capacity { IfOk result (λ ends. ends.0.capacity ≡ cap) }
     ensures same { IfOk result (λ ends. ends.1 ≡ ends.0) }
 {
+    prove!(cap > 0);
     ends(rt, alloc, cap, Core::bounded_reserved(alloc, cap)?)
 }
 
