@@ -172,7 +172,7 @@ impl<T: Drop, P: Ord + Drop, R: Wait + Clone, A: Allocator + Copy> Sender<T, P, 
         msgs: Peekable<I>,
     ) -> Result<(), SendFault<Peekable<I>>>
         requires { peekable_can I.can_next msgs }
-        ensures tail { IfErr result (λ fault. HoldsTail (HasList I.next_gives) msgs
+        ensures handed_back { IfErr result (λ fault. HoldsTail (HasList I.next_gives) msgs
             (unsent fault)) }
         ensures callable { IfErr result (λ fault. peekable_can I.can_next (unsent fault)) }
     {
@@ -200,7 +200,7 @@ impl<T: Drop, P: Ord + Drop, R: Wait + Clone, A: Allocator + Copy> Sender<T, P, 
     where
         R: Clock,
         requires { peekable_can I.can_next msgs }
-        ensures tail { IfErr result (λ error. HoldsTail (HasList I.next_gives) msgs
+        ensures handed_back { IfErr result (λ error. HoldsTail (HasList I.next_gives) msgs
             (unsent_in_time error)) }
         ensures callable { IfErr result (λ error. peekable_can I.can_next (unsent_in_time error)) }
     {
@@ -227,7 +227,7 @@ impl<T: Drop, P: Ord + Drop, R: Wait + Clone, A: Allocator + Copy> Sender<T, P, 
     where
         R: Clock,
         requires { peekable_can I.can_next msgs }
-        ensures tail { IfErr result (λ error. HoldsTail (HasList I.next_gives) msgs
+        ensures handed_back { IfErr result (λ error. HoldsTail (HasList I.next_gives) msgs
             (unsent_in_time error)) }
         ensures callable { IfErr result (λ error. peekable_can I.can_next (unsent_in_time error)) }
     {

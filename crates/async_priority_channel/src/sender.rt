@@ -69,7 +69,7 @@ impl<T: Drop, P: Ord + Drop, R: Wait + Clone, A: Allocator + Copy> Sender<T, P, 
         msgs: Peekable<I>,
     ) -> Result<(), TrySendError<Peekable<I>>>
         requires { peekable_can I.can_next msgs }
-        ensures tail { IfErr result (λ error. HoldsTail (HasList I.next_gives) msgs
+        ensures handed_back { IfErr result (λ error. HoldsTail (HasList I.next_gives) msgs
             (rest_of error)) }
         ensures callable { IfErr result (λ error. peekable_can I.can_next (rest_of error)) }
     {
@@ -187,7 +187,7 @@ impl<T, P: Ord, R: Wait + Clone, A: Allocator + Copy> Sender<T, P, R, A> {
         msg: T,
         priority: P,
     ) -> Result<Option<(T, P)>, TrySendError<(T, P)>>
-        ensures refused { IfErr result (λ error. rest_of error ≡ (msg, priority)) }
+        ensures handed_back { IfErr result (λ error. rest_of error ≡ (msg, priority)) }
         ensures less_urgent { IfOk result (λ displaced. IfSome displaced (λ out.
             P.cmp out.1 priority ≡ Less)) }
     {

@@ -137,7 +137,7 @@ impl<T, P: Ord, A: Allocator + Copy> Attempt<T, P, A> for (T, P) {
 
     #[inline(always)]
     fn try_on(self, core: &mut Core<T, P, A>) -> (Outcome<(), Self>, Wakes<Waiter<A>, A>)
-        ensures whole { IfSome (left_over result.0) (λ rest. rest ≡ self) }
+        ensures handed_back { IfSome (left_over result.0) (λ rest. rest ≡ self) }
         ensures step { (reply : _) × (result.0 ≡ outcome_of_try reply)
             × Step P.cmp ⟦<Waiter<A> as Clone>⟧.is_clone core.old.state
             (Call.TrySend self.0 self.1) (Answer.TrySend reply) result.1 core.new.state }
@@ -169,7 +169,7 @@ impl<T: Drop, P: Ord + Drop, A: Allocator + Copy, I: Iterator<Item = (T, P)>> At
 
     fn try_on(self, core: &mut Core<T, P, A>) -> (Outcome<(), Self>, Wakes<Waiter<A>, A>)
         requires { peekable_can I.can_next self }
-        ensures tail { IfSome (left_over result.0) (HoldsTail (HasList I.next_gives) self) }
+        ensures handed_back { IfSome (left_over result.0) (HoldsTail (HasList I.next_gives) self) }
         ensures callable { IfSome (left_over result.0) (peekable_can I.can_next) }
         ensures step { (reply : _) × (result.0 ≡ outcome_of_try reply)
             × Performs (HasList I.next_gives) P.cmp ⟦<Waiter<A> as Clone>⟧.is_clone core.old.state

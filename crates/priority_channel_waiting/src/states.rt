@@ -205,7 +205,7 @@ impl<T: Drop, P: Ord + Drop> SendState<T, P> {
             ((core.old.state.is_closed ≡ false) × (room core.old.state ≡ 0))) }
         ensures waits { OnPending result.0 ((result.1 ≡ nobody) × (self.new ≡ self.old)
             × (core.new.state ≡ core.old.state)) }
-        ensures unsent { IfSome (handed_back result.0) (λ pair. self.old.kept ≡ Some pair) }
+        ensures handed_back { IfSome (handed_back result.0) (λ pair. self.old.kept ≡ Some pair) }
         ensures answered { IfReady result.0 (λ _. self.new ≡ done) }
         ensures cost { ComparesAtMost (digits (length core.new.state.pending))
             (search_bound core.old.state.waiters) core.old core.new }
@@ -230,7 +230,7 @@ impl<T: Drop, P: Ord + Drop> SendState<T, P> {
             self.new) }
         ensures done { self.old.kept ≡ None → (result.0 ≡ Poll.Pending) × (result.1 ≡ nobody)
             × (self.new ≡ self.old) × (core.new ≡ core.old) }
-        ensures unsent { IfSome (handed_back result.0) (λ pair. self.old.kept ≡ Some pair) }
+        ensures handed_back { IfSome (handed_back result.0) (λ pair. self.old.kept ≡ Some pair) }
         ensures kept { IfSome self.new.kept (λ pair. self.old.kept ≡ Some pair) }
         ensures answered { IfReady result.0 (λ _. self.new ≡ done) }
         ensures waits { OnPending result.0 (self.new.kept ≡ self.old.kept) }
@@ -272,7 +272,7 @@ impl<T: Drop, P: Ord + Drop, I: Iterator<Item = (T, P)>> SendvState<Peekable<I>>
             (Call.TrySendv msgs) (Answer.TrySendv reply) result.1 core.new.state))) }
         ensures done { self.old.kept ≡ None → (result.0 ≡ Poll.Pending) × (result.1 ≡ nobody)
             × (self.new ≡ self.old) × (core.new ≡ core.old) }
-        ensures unsent { IfSome self.old.kept (λ msgs. IfSome (handed_back result.0)
+        ensures handed_back { IfSome self.old.kept (λ msgs. IfSome (handed_back result.0)
             (HoldsTail (HasList I.next_gives) msgs)) }
         ensures kept { IfSome self.old.kept (λ msgs. IfSome self.new.kept
             (HoldsTail (HasList I.next_gives) msgs)) }
@@ -280,7 +280,7 @@ impl<T: Drop, P: Ord + Drop, I: Iterator<Item = (T, P)>> SendvState<Peekable<I>>
         ensures waits { OnPending result.0 (is_some self.new.kept ≡ is_some self.old.kept) }
 
         // This holds whether or not the iterator has one list.
-        ensures unsent_callable { IfSome (handed_back result.0) (peekable_can I.can_next) }
+        ensures handed_back_callable { IfSome (handed_back result.0) (peekable_can I.can_next) }
         ensures kept_callable { ForSome self.new.kept (peekable_can I.can_next) }
         ensures front { IfSome self.old.kept (λ _. (front : List (T × P))
             × TriesFront core.old.state self.old.ticket front result.0 result.1 core.new.state
@@ -309,7 +309,7 @@ impl<T: Drop, P: Ord + Drop, I: Iterator<Item = (T, P)>> SendvState<Peekable<I>>
             self.new) }
         ensures done { self.old.kept ≡ None → (result.0 ≡ Poll.Pending) × (result.1 ≡ nobody)
             × (self.new ≡ self.old) × (core.new ≡ core.old) }
-        ensures unsent { IfSome self.old.kept (λ msgs. IfSome (handed_back result.0)
+        ensures handed_back { IfSome self.old.kept (λ msgs. IfSome (handed_back result.0)
             (HoldsTail (HasList I.next_gives) msgs)) }
         ensures kept { IfSome self.old.kept (λ msgs. IfSome self.new.kept
             (HoldsTail (HasList I.next_gives) msgs)) }
@@ -317,7 +317,7 @@ impl<T: Drop, P: Ord + Drop, I: Iterator<Item = (T, P)>> SendvState<Peekable<I>>
         ensures waits { OnPending result.0 (is_some self.new.kept ≡ is_some self.old.kept) }
 
         // This holds whether or not the iterator has one list.
-        ensures unsent_callable { IfSome (handed_back result.0) (peekable_can I.can_next) }
+        ensures handed_back_callable { IfSome (handed_back result.0) (peekable_can I.can_next) }
         ensures kept_callable { ForSome self.new.kept (peekable_can I.can_next) }
         ensures front { IfSome self.old.kept (λ _. (front : List (T × P))
             × PollsFront W.is_clone core.old.state self.old.ticket waker.now front result.1

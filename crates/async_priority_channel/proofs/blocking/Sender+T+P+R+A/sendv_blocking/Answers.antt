@@ -4,6 +4,6 @@ use Rattle.priority_channel_waiting.specs.Holding.{HoldsTail}
 use Rattle.priority_channel_waiting.proofs.LeftOver.{held_by_error}
 use Rattle.async_priority_channel.proofs.blocking.Sender+T+P+R+A.sendv_blocking.Goals as goal
 
-pub returns-in_err-wait-clause-tail : goal.returns-in_err-wait-clause-tail
-returns-in_err-wait-clause-tail g c =
+pub returns-in_err-wait-clause-handed_back : goal.returns-in_err-wait-clause-handed_back
+returns-in_err-wait-clause-handed_back g c =
     held_by_error (HoldsTail (HasList g.I.Iterator.next_gives) c.args.msgs) _ unsent _ c.from_residual.result c.from_residual.ensures.1 c.in_err-wait.ensures.1

@@ -12,8 +12,8 @@ returns-clause-step g c =
     polls_kept (Performs (HasList g.I.Iterator.next_gives) g.P.Ord.cmp g.W.Clone.is_clone) (λ msgs. Sendv msgs) (λ reply. answer.PollSendv reply) _ _ _ _ _ _ _ _ _ _
     c.in-Some.ensures.taken c.keep.ensures.told c.keep.ensures.left c.poll_sendv-answer.ensures.step (sendv_left _ _ _)
 
-pub returns-clause-unsent : goal.returns-clause-unsent
-returns-clause-unsent g c =
+pub returns-clause-handed_back : goal.returns-clause-handed_back
+returns-clause-handed_back g c =
     rw (c.in-Some.ensures.taken, c.keep.ensures.told)
     (unsent_kept (HoldsTail (HasList g.I.Iterator.next_gives) c.in-Some.msgs) c.poll_sendv-answer.result.0
     (polled_tail (HasList g.I.Iterator.next_gives) g.P.Ord.cmp g.W.Clone.is_clone _ _ _ _ _ _ _ c.poll_sendv-answer.ensures.step))
@@ -24,6 +24,6 @@ returns-clause-kept g c =
     (left_kept (HoldsTail (HasList g.I.Iterator.next_gives) c.in-Some.msgs) c.poll_sendv-answer.result.0
     (polled_tail (HasList g.I.Iterator.next_gives) g.P.Ord.cmp g.W.Clone.is_clone _ _ _ _ _ _ _ c.poll_sendv-answer.ensures.step))
 
-pub returns-clause-unsent_callable : goal.returns-clause-unsent_callable
-returns-clause-unsent_callable g c =
+pub returns-clause-handed_back_callable : goal.returns-clause-handed_back_callable
+returns-clause-handed_back_callable g c =
     rw c.keep.ensures.told (unsent_kept (peekable_can g.I.Iterator.can_next) c.poll_sendv-answer.result.0 c.poll_sendv-answer.ensures.callable)

@@ -18,8 +18,8 @@ returns-clause-tried g c =
       tried_in_vain (HasList g.I.Iterator.next_gives) g.P.Ord.cmp g.W.Clone.is_clone _ _ _ _ _ _ _ c.keep_tried.ensures.waits c.try_sendv-tried.ensures.step,
     )
 
-pub returns-clause-unsent : goal.returns-clause-unsent
-returns-clause-unsent g c =
+pub returns-clause-handed_back : goal.returns-clause-handed_back
+returns-clause-handed_back g c =
     rw (c.in-Some.ensures.taken, c.keep_tried.ensures.told)
     (handed_back_at_once (HoldsTail (HasList g.I.Iterator.next_gives) c.in-Some.rest) c.try_sendv-tried.result.0
     (refused_tail (HasList g.I.Iterator.next_gives) g.P.Ord.cmp g.W.Clone.is_clone _ _ _ _ _ c.try_sendv-tried.ensures.step))
