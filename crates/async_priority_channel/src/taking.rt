@@ -1,4 +1,4 @@
-//! Calls that receive or take out the messages that a test chooses.
+//! Calls that count, receive or take out the messages that a test chooses.
 ghost use Rattle.std.specs.Prelude.{true, false, All, IfOk, IfSome};
 ghost use Rattle.priority_channel_bag.specs.Least.{Tells};
 
@@ -41,6 +41,23 @@ impl<S: Role, T, P: Ord, R: Wait + Clone, A: Allocator + Copy> End<S, T, P, R, A
         let (taken, wakes) = held.core().take_where(&test);
         self.handle.release(held, wakes);
         taken
+    }
+
+    /// The number of pending messages for which the test returns true. The test is called as by
+    /// `retain`. No priorities are compared.
+    ///
+    /// ```
+    /// let (tx, rx) = unbounded(&rt, rt.alloc())?;
+    /// let jobs = [("compile", 2), ("link", 1), ("test", 3)];
+    /// tx.try_sendv(jobs.into_iter().peekable())?;
+    /// assert_eq!(rt; rx.count_where(|_, priority| *priority > 1), 2);
+    /// ```
+    pub fn count_where<F: Fn(&T, &P) -> bool>(&self, test: F) -> u64
+    where
+        F: Drop,
+        requires { F.IsAlwaysCallable test }
+    {
+        self.handle.look().core().count_where(&test)
     }
 
     /// Keeps the pending messages for which the test returns true. All others are returned, in no

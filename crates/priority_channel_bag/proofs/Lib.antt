@@ -10,3 +10,4 @@ pub mod BinaryHeaps
 pub mod Ordered
 pub mod Kept
 pub mod Costs
+pub mod Counts

@@ -1,5 +1,5 @@
 -- Which pair makes room for another, and which pair a test takes out.
-use Rattle.std.specs.Prelude.{◌≡◌, Bool, false, List, [], ◌∷◌, ◌++◌}
+use Rattle.std.specs.Prelude.{◌≡◌, ℕ, ◌+◌, ◌⊎◌, Bool, false, List, [], ◌∷◌, ◌++◌}
 use Rattle.std.specs.List.{All}
 use Rattle.std.specs.Fn.{Shared, FnReturns}
 use Rattle.std.specs.Borrow.{Bor}
@@ -49,3 +49,10 @@ pub record Tells {F T P : Type 0} (g : Shared F (Bor T × (Bor P × Unit {0})) B
   pub priority : Bor P
   pub shows : (msg.now ≡ pair.0) × (priority.now ≡ pair.1)
   pub says : FnReturns g test (msg, (priority, tt)) answer
+
+-- `count` of the items pass, and the others fail
+abbrev pub Counts : {X : Type 0} → (X → Type 0) → (X → Type 0) → List X → ℕ → Type 0
+Counts passes fails [] count = count ≡ 0
+Counts passes fails (x ∷ xs) count =
+    (fails x × Counts passes fails xs count)
+    ⊎ (passes x × (fewer : ℕ) × (count ≡ fewer + 1) × Counts passes fails xs fewer)

@@ -5,10 +5,10 @@
 ghost use Rattle.std.specs.Prelude.{◌≡◌, List, ◌↔◌, ◌+◌, ◌*◌, ◌<◌, ◌≤◌, ◌^◌, true, false, [], ◌∷◌, ◌++◌, length, All, IfOk, IfErr, IfSome, IfNone, OnOk, OnErr, IsTrue, MatchOption, vec_capacity};
 ghost use Rattle.priority_channel_bag.specs.Digits.{digits};
 ghost use Rattle.priority_channel_bag.specs.Greatest.{TakesGreatest};
-ghost use Rattle.priority_channel_bag.specs.Least.{NoneBelow, Displaces, TakesOne, TakesAll, Tells};
+ghost use Rattle.priority_channel_bag.specs.Least.{Counts, NoneBelow, Displaces, TakesOne, TakesAll, Tells};
 ghost use Rattle.priority_channel_bag.specs.Bag.{search_for_least};
 
-use crate::by_test::{divide, find};
+use crate::by_test::{count, divide, find};
 use crate::comparisons::Comparisons;
 use crate::heaps;
 use crate::interval_heap::least_place;
@@ -254,6 +254,16 @@ impl<T, P: Ord, A: Allocator> Bag<T, P, A> {
                 self.has_two_ends,
             );
         }
+    }
+
+    /// The number of pairs for which the test returns true. It is called once on each pair, in no
+    /// specified order.
+    pub fn count_where<F: Fn(&T, &P) -> bool>(&self, test: &F) -> usize
+        requires { F.IsAlwaysCallable test.now }
+        ensures { Counts (λ pair. Tells F.Fn test.now pair true)
+            (λ pair. Tells F.Fn test.now pair false) self.now.pending result }
+    {
+        count(self.items.as_slice(), test)
     }
 
     /// Takes out a pair for which the test returns true. If there are several, it is not specified

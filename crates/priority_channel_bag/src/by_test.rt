@@ -2,7 +2,7 @@
 ghost use Rattle.std.specs.Prelude.{◌≡◌, ℕ, true, false, List, ◌++◌, ◌+◌, ◌<◌, ◌≤◌, length, map, slice_index_or, All, IfNone, IfSome, vec_capacity};
 ghost use Rattle.std.specs.List.Sorted.{IsPermutation};
 ghost use Rattle.priority_channel_bag.specs.Heap.{pair_of};
-ghost use Rattle.priority_channel_bag.specs.Least.{Tells};
+ghost use Rattle.priority_channel_bag.specs.Least.{Counts, Tells};
 ghost use Rattle.priority_channel_bag.specs.declared.item.Item.{Item};
 
 use crate::item::Item;
@@ -24,6 +24,22 @@ pub(crate) fn find<T, P, F: Fn(&T, &P) -> bool>(items: &[Item<T, P>], test: &F) 
         }
     }
     None
+}
+
+/// The number of items for whose pairs the test returns true.
+pub(crate) fn count<T, P, F: Fn(&T, &P) -> bool>(items: &[Item<T, P>], test: &F) -> usize
+    requires { F.IsAlwaysCallable test.now }
+    ensures { Counts (λ item. Tells F.Fn test.now (pair_of item) true)
+        (λ item. Tells F.Fn test.now (pair_of item) false) items.now result }
+{
+    let mut count = 0;
+    for at in 0..items.len() {
+        let item = &items[at];
+        if test(&item.msg, &item.priority) {
+            count += 1;
+        }
+    }
+    count
 }
 
 /// Moves the pairs for which the test returns false to the end of `out`. The order of the other

@@ -791,6 +791,15 @@ fn example_of_end_take_where(rt: HostRuntime) {
 }
 
 #[test]
+fn example_of_end_count_where(rt: HostRuntime) {
+    let (tx, rx) = unbounded(&rt, rt.alloc()).expect(&rt, "unbounded");
+    let jobs = [("compile", 2), ("link", 1), ("test", 3)];
+    tx.try_sendv(jobs.into_iter().peekable())
+        .expect(&rt, "try_sendv");
+    expect_equal(&rt, rx.count_where(|_, priority| *priority > 1), 2);
+}
+
+#[test]
 fn example_of_end_retain(rt: HostRuntime) {
     let (tx, rx) = unbounded(&rt, rt.alloc()).expect(&rt, "unbounded");
     let jobs = [("compile", 2), ("link", 1), ("test", 3)];

@@ -1,4 +1,4 @@
-//! Receiving and taking out the pairs that a test chooses.
+//! Counting, receiving and taking out the pairs that a test chooses.
 ghost use Rattle.std.specs.Prelude.{◌≡◌, ℕ, List, ◌+◌, ◌*◌, ◌++◌, ◌≤◌, true, false, length, All, IfNone, IfSome, IfOk, IfErr, Ok, Err, vec_capacity};
 ghost use Rattle.priority_channel_bag.specs.Digits.{digits};
 ghost use Rattle.priority_channel_core.specs.code.Many.{TakesInTurn};
@@ -13,7 +13,7 @@ impl<T, P: Ord, W: Clone, A: Allocator + Copy> PriorityQueueChannel<T, P, W, A> 
     ghost use Rattle.priority_channel_core.specs.machine.Good.{IsGood};
     ghost use Rattle.priority_channel_core.specs.machine.Step.{Step};
     ghost use Rattle.priority_channel_bag.specs.Greatest.{TakesGreatest};
-    ghost use Rattle.priority_channel_bag.specs.Least.{Tells};
+    ghost use Rattle.priority_channel_bag.specs.Least.{Counts, Tells};
     ghost use Rattle.priority_channel_core.specs.machine.State.{nobody};
     ghost use Rattle.priority_channel_core.specs.code.Channel.{ComparesAtMost};
 
@@ -39,6 +39,16 @@ impl<T, P: Ord, W: Clone, A: Allocator + Copy> PriorityQueueChannel<T, P, W, A> 
             }
             None => (None, Wakes::nobody(self.alloc)),
         }
+    }
+
+    /// The number of pending pairs for which the test returns true. It is called once on each pair,
+    /// in no specified order. No priorities are compared.
+    pub fn count_where<F: Fn(&T, &P) -> bool>(&self, test: &F) -> u64
+        requires { F.IsAlwaysCallable test.now }
+        ensures { Counts (λ pair. Tells F.Fn test.now pair true)
+            (λ pair. Tells F.Fn test.now pair false) self.now.state.pending result }
+    {
+        self.bag.count_where(test) as u64
     }
 
     /// Receives the greatest pending pair, if the test returns true for it. Otherwise the answer is

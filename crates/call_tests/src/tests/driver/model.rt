@@ -136,8 +136,17 @@ impl Model {
             capacity: (self.capacity < u64::MAX).then_some(self.capacity),
             sender_count: self.senders,
             receiver_count: self.receivers,
+            odd: self.count_odd(),
             is_of_itself: true,
         }
+    }
+
+    fn count_odd(&self) -> u64 {
+        let mut count = 0u64;
+        for pair in self.pending.iter() {
+            count = count.wrapping_add(pair.0 % 2);
+        }
+        count
     }
 
     // A front of the list is accepted. The rest comes back, but from a future that is dropped.

@@ -17,6 +17,8 @@ pub struct Looks {
     pub capacity: Option<u64>,
     pub sender_count: usize,
     pub receiver_count: usize,
+    /// How many messages are odd numbers.
+    pub odd: u64,
     /// Whether the handle is one of the same channel as itself.
     pub is_of_itself: bool,
 }
@@ -32,6 +34,7 @@ macro_rules! looks {
             capacity: $handle.capacity(),
             sender_count: $handle.sender_count(),
             receiver_count: $handle.receiver_count(),
+            odd: $handle.count_where(|msg, _| *msg % 2 == 1),
             is_of_itself: $handle.same_channel($handle),
         }
     };

@@ -1,0 +1,46 @@
+use Rattle.std.proofs.Common.{◌≡◌, ◌+◌, ℕ, true, false, ◌∷◌, drop, sym, ap, subst, ◌∙◌, arith, refl, inl, inr}
+use Rattle.std.proofs.lemmas.List.{drop_all, drop_more}
+use Rattle.priority_channel_bag.specs.Heap.{pair_of}
+use Rattle.priority_channel_bag.specs.Least.{Counts, Tells}
+use Rattle.priority_channel_bag.specs.declared.item.Item.{Item}
+use Rattle.priority_channel_bag.proofs.by_test.count.Goals as goal
+use Rattle.priority_channel_bag.proofs.by_test.count.Goals.{then-test, else-test}
+
+pub loop-at-preserved : goal.loop-at-preserved
+loop-at-preserved g c =
+    let passes : Item g.row.T.Denot g.row.P.Denot → Type 0 = (λ item. Tells g.F.Fn c.args.test.now (pair_of item) true) in
+    let fails : Item g.row.T.Denot g.row.P.Denot → Type 0 = (λ item. Tells g.F.Fn c.args.test.now (pair_of item) false) in
+    let xs = c.args.items.now in
+    let at = c.loop-at.at in
+    let item = c.index-items-at.result in
+    let told : Tells g.F.Fn c.args.test.now (pair_of item) c.test.result = record { msg = _; priority = _; shows = (refl, refl); says = record { met = c.test.ensures } } in
+    let more : drop at xs ≡ item ∷ drop (at + 1) xs = drop_more xs at item c.loop-at-test.true ∙ ap (λ x. x ∷ drop (at + 1) xs) (sym c.index-items-at.is) in
+    elim c.if-test.branch [
+      | then-test w ↦ (
+        omega (arith, c.loop-at.invariant.0, w.count-is),
+        λ n h.
+            let passed = subst (Tells g.F.Fn c.args.test.now (pair_of item)) w.if-test.true told in
+            let counted = subst (λ ys. Counts passes fails ys (n + 1)) (sym more) (inr (passed, n, refl, h)) in
+            let same : c.loop-at.count + (n + 1) ≡ c.if-test.count + n = omega (arith, w.count-is) in
+            subst (Counts passes fails xs) same (c.loop-at.invariant.1 (n + 1) counted),
+      )
+      | else-test w ↦ (
+        omega (arith, c.loop-at.invariant.0, w.count-is),
+        λ n h.
+            let failed = subst (Tells g.F.Fn c.args.test.now (pair_of item)) w.if-test.false told in
+            let counted = subst (λ ys. Counts passes fails ys n) (sym more) (inl (failed, h)) in
+            let same : c.loop-at.count + n ≡ c.if-test.count + n = omega (arith, w.count-is) in
+            subst (Counts passes fails xs) same (c.loop-at.invariant.1 n counted),
+      )
+    ]
+
+pub returns : goal.returns
+returns g c =
+    let passes : Item g.row.T.Denot g.row.P.Denot → Type 0 = (λ item. Tells g.F.Fn c.args.test.now (pair_of item) true) in
+    let fails : Item g.row.T.Denot g.row.P.Denot → Type 0 = (λ item. Tells g.F.Fn c.args.test.now (pair_of item) false) in
+    let xs = c.args.items.now in
+    let at = c.loop-at.at in
+    let none = drop_all at xs (omega arith) in
+    let all = c.loop-at.invariant.1 0 (subst (λ ys. Counts passes fails ys 0) (sym none) refl) in
+    let same : c.loop-at.count + 0 ≡ c.loop-at.count = omega arith in
+    subst (Counts passes fails xs) same all
