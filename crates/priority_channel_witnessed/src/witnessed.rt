@@ -7,6 +7,7 @@ ghost use Rattle.priority_channel_witnessed.specs.Log.{names};
 ghost use Rattle.priority_channel_witnessed.specs.Passes.{calls_of, calls_made, calls_of_others, AreNew, AreApart, Accounts, Tells};
 
 use crate::chronicle::{Fresh, Log, Pass, Seen};
+use crate::entry::Told;
 use crate::journal::Journal;
 use crate::kept::Kept;
 use crate::numbers::first_numbers;
@@ -17,6 +18,7 @@ use priority_channel_core::calls::{Answer, Call};
 use priority_channel_core::channel::PriorityQueueChannel;
 use priority_channel_core::errors::{TryRecvError, TrySendError};
 use std::alloc::{AllocError, Allocator, Global};
+use std::snapshot::Snapshot;
 use std::sync::{Mutex, Wait};
 
 mod bulk;
@@ -133,9 +135,13 @@ impl<T, P: Ord, W: Clone, J: Recording, A: Allocator + Copy> Witnessed<T, P, W, 
         ensures { Tells P.cmp W.is_clone J.capacity J.is_reserved pass.old
             (Call.TrySend msg priority) (Answer.TrySend result.0) result.1 pass.new }
     {
-        self.kept
-            .lock(rt)
-            .try_send(rt, &self.log, pass, msg, priority)
+        let (kept_msg, kept_priority) = (Snapshot::of(&msg), Snapshot::of(&priority));
+        let kept = &mut *self.kept.lock(rt);
+        let (sent, wakes) = kept.core.try_send(msg, priority);
+        let told = Told::TrySend(kept_msg, kept_priority, Snapshot::of(&sent));
+        let handed = Some(Snapshot::of(&wakes));
+        kept.journal.enter(rt, &self.log, &kept.core, pass, told, handed);
+        (sent, wakes)
     }
 
     /// Receives the first pending pair among those that no other exceeds in priority, also from a
@@ -148,7 +154,12 @@ impl<T, P: Ord, W: Clone, J: Recording, A: Allocator + Copy> Witnessed<T, P, W, 
         ensures { Tells P.cmp W.is_clone J.capacity J.is_reserved pass.old
             Call.TryRecv (Answer.TryRecv result.0) result.1 pass.new }
     {
-        self.kept.lock(rt).try_recv(rt, &self.log, pass)
+        let kept = &mut *self.kept.lock(rt);
+        let (received, wakes) = kept.core.try_recv();
+        let told = Told::TryRecv(Snapshot::of(&received));
+        let handed = Some(Snapshot::of(&wakes));
+        kept.journal.enter(rt, &self.log, &kept.core, pass, told, handed);
+        (received, wakes)
     }
 
     /// Closes the channel for good, and answers whether it was open. What is pending can still be
@@ -157,7 +168,11 @@ impl<T, P: Ord, W: Clone, J: Recording, A: Allocator + Copy> Witnessed<T, P, W, 
         ensures { Tells P.cmp W.is_clone J.capacity J.is_reserved pass.old
             Call.Close (Answer.Close result.0) result.1 pass.new }
     {
-        self.kept.lock(rt).close(rt, &self.log, pass)
+        let kept = &mut *self.kept.lock(rt);
+        let (was_open, wakes) = kept.core.close();
+        let handed = Some(Snapshot::of(&wakes));
+        kept.journal.enter(rt, &self.log, &kept.core, pass, Told::Close(was_open), handed);
+        (was_open, wakes)
     }
 
     /// Lets both passes see what either has seen, and the history as it is. It takes no lock and
@@ -211,7 +226,7 @@ impl<T, P: Ord, W: Clone, J: Recording, A: Allocator + Copy> Witnessed<T, P, W, 
         ensures legal { IfSome result
             (λ pass. IsLegal P.cmp W.is_clone J.capacity J.is_reserved pass.seen) }
     {
-        self.kept.lock(rt).admit()
+        self.kept.lock(rt).journal.admit()
     }
 
     /// A new pass, as `admit` gives, whose holder has seen all that the holder of this one has.
@@ -236,7 +251,7 @@ impl<T, P: Ord, W: Clone, J: Recording, A: Allocator + Copy> Witnessed<T, P, W, 
     /// Takes a pass back whose holder makes no more calls. Its part is free for another pass, and
     /// its calls stay in the history. It takes the longer the more passes are out.
     pub fn leave<R: Wait>(&self, rt: &R, pass: Pass<T, P, W, J>) {
-        self.kept.lock(rt).leave(rt, &self.log, pass);
+        self.kept.lock(rt).journal.leave(rt, &self.log, pass);
     }
 
     /// Ends the channel, where these are all passes that are out: then it gives the core back, and

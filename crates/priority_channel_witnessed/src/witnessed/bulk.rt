@@ -3,13 +3,14 @@ ghost use Rattle.priority_channel_witnessed.specs.Items.{list_in, listed, listed
 ghost use Rattle.priority_channel_witnessed.specs.Passes.{Tells};
 
 use crate::chronicle::Pass;
-use crate::entry::Pairs;
+use crate::entry::{Pairs, Told};
 use crate::witnessed::Witnessed;
 use priority_channel_chronicle::Recording;
 use priority_channel_core::awaitable_atomics::Wakes;
 use priority_channel_core::calls::{Answer, Call, CorePoll};
 use priority_channel_core::errors::{SendFault, TrySendError};
 use std::alloc::Allocator;
+use std::snapshot::Snapshot;
 use std::sync::Wait;
 
 impl<T: Drop, P: Ord + Drop, W: Clone, J: Recording, A: Allocator + Copy> Witnessed<T, P, W, J, A> {
@@ -28,7 +29,13 @@ impl<T: Drop, P: Ord + Drop, W: Clone, J: Recording, A: Allocator + Copy> Witnes
         ensures { Tells P.cmp W.is_clone J.capacity J.is_reserved pass.old
             (Call.TrySendv (list_in msgs)) (Answer.TrySendv (listed result.0)) result.1 pass.new }
     {
-        self.kept.lock(rt).try_sendv(rt, &self.log, pass, msgs)
+        let kept_msgs = Snapshot::of(&msgs);
+        let kept = &mut *self.kept.lock(rt);
+        let (sent, wakes) = kept.core.try_sendv(msgs);
+        let told = Told::TrySendv(kept_msgs, Snapshot::of(&sent));
+        let handed = Some(Snapshot::of(&wakes));
+        kept.journal.enter(rt, &self.log, &kept.core, pass, told, handed);
+        (sent, wakes)
     }
 
     /// Sends what there is room for, and waits for room with the rest, which is handed back for the
@@ -49,8 +56,13 @@ impl<T: Drop, P: Ord + Drop, W: Clone, J: Recording, A: Allocator + Copy> Witnes
             (Call.PollSendv (list_in msgs) ticket waker.now)
             (Answer.PollSendv (listed_poll result.0)) result.1 pass.new }
     {
-        self.kept
-            .lock(rt)
-            .poll_sendv(rt, &self.log, pass, msgs, ticket, waker)
+        let kept_msgs = Snapshot::of(&msgs);
+        let kept = &mut *self.kept.lock(rt);
+        let (polled, wakes) = kept.core.poll_sendv(msgs, ticket, waker);
+        let own = Snapshot::of(waker);
+        let told = Told::PollSendv(kept_msgs, ticket, own, Snapshot::of(&polled));
+        let handed = Some(Snapshot::of(&wakes));
+        kept.journal.enter(rt, &self.log, &kept.core, pass, told, handed);
+        (polled, wakes)
     }
 }

@@ -2,12 +2,14 @@
 ghost use Rattle.priority_channel_witnessed.specs.Passes.{Tells};
 
 use crate::chronicle::Pass;
+use crate::entry::Told;
 use crate::witnessed::Witnessed;
 use priority_channel_chronicle::Recording;
 use priority_channel_core::awaitable_atomics::Wakes;
 use priority_channel_core::calls::{Answer, Call};
 use priority_channel_core::errors::TrySendError;
 use std::alloc::Allocator;
+use std::snapshot::Snapshot;
 use std::sync::Wait;
 
 impl<T, P: Ord, W: Clone, J: Recording, A: Allocator + Copy> Witnessed<T, P, W, J, A> {
@@ -25,8 +27,12 @@ impl<T, P: Ord, W: Clone, J: Recording, A: Allocator + Copy> Witnessed<T, P, W, 
             (Call.TrySendEvicting msg priority)
             (Answer.TrySendEvicting result.0) result.1 pass.new }
     {
-        self.kept
-            .lock(rt)
-            .try_send_evicting(rt, &self.log, pass, msg, priority)
+        let (kept_msg, kept_priority) = (Snapshot::of(&msg), Snapshot::of(&priority));
+        let kept = &mut *self.kept.lock(rt);
+        let (sent, wakes) = kept.core.try_send_evicting(msg, priority);
+        let told = Told::TrySendEvicting(kept_msg, kept_priority, Snapshot::of(&sent));
+        let handed = Some(Snapshot::of(&wakes));
+        kept.journal.enter(rt, &self.log, &kept.core, pass, told, handed);
+        (sent, wakes)
     }
 }

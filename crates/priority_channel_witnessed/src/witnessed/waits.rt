@@ -14,13 +14,15 @@
 //! Whom a call hands out cannot be let go, so a body that forgets to wake them does not compile.
 //! That a wake arrives is no part of a contract, nor is the time: both are tested. A thread that
 //! waits takes memory for its waiter and for its place in the list.
-ghost use Rattle.std.specs.Prelude.{◌≡◌, IfOk, IfErr};
-ghost use Rattle.priority_channel_witnessed.specs.Futures.{answered, blocked};
+ghost use Rattle.std.specs.Prelude.{◌≡◌, Ok, Err, None, IfOk, IfErr};
+ghost use Rattle.priority_channel_witnessed.specs.Waits.{ends, send_result, ComesTo};
 
 use crate::attempt::Attempt;
 use crate::chronicle::Pass;
 use crate::witnessed::Witnessed;
 use priority_channel_chronicle::Recording;
+use priority_channel_core::errors::SendFault;
+use priority_channel_waiting::timeouts::SendTimeoutError;
 use priority_channel_waiting::until::Until;
 use priority_channel_waiting::waiter::Waiter;
 use std::alloc::Allocator;
@@ -29,6 +31,19 @@ use std::sync::{Wait, WaitMethods};
 mod recv;
 mod send;
 mod sendv;
+
+// What a send with a limit returns.
+fn in_time<K, O: Drop>(
+    waited: Result<Result<(), SendFault<K>>, (K, O)>,
+) -> Result<(), SendTimeoutError<K>>
+    ensures sent { IfOk waited (λ sent. result ≡ send_result (Ok sent)) }
+    ensures over { IfErr waited (λ rest. result ≡ send_result (Err rest.0)) }
+{
+    match waited {
+        Ok(sent) => Ok(sent?),
+        Err((rest, _over)) => Err(SendTimeoutError::Timeout(rest)),
+    }
+}
 
 impl<T, P: Ord, J: Recording, A: Allocator + Copy> Witnessed<T, P, Waiter<A>, J, A> {
     // Calls at once, or waits, where the time is not over.
@@ -39,8 +54,10 @@ impl<T, P: Ord, J: Recording, A: Allocator + Copy> Witnessed<T, P, Waiter<A>, J,
         call: C,
         until: &U,
     ) -> Result<C::Reply, (C, U::Over)>
-        ensures answered { IfOk result (λ reply. C.comes pass.old call (answered reply) pass.new) }
-        ensures over { IfErr result (λ rest. C.comes pass.old call (blocked rest.0) pass.new) }
+        ensures answered { IfOk result (λ reply. ComesTo P.cmp ⟦<Waiter<A> as Clone>⟧.is_clone
+            J.capacity J.is_reserved C.calls pass.old call None (ends (Ok reply)) pass.new) }
+        ensures over { IfErr result (λ rest. ComesTo P.cmp ⟦<Waiter<A> as Clone>⟧.is_clone
+            J.capacity J.is_reserved C.calls pass.old call None (ends (Err rest.0)) pass.new) }
     {
         match call.now(self, rt, pass) {
             Ok(reply) => Ok(reply),
@@ -65,8 +82,10 @@ impl<T, P: Ord, J: Recording, A: Allocator + Copy> Witnessed<T, P, Waiter<A>, J,
         until: &U,
         waiter: &Waiter<A>,
     ) -> Result<C::Reply, (C, U::Over)>
-        ensures answered { IfOk result (λ reply. C.comes pass.old call (answered reply) pass.new) }
-        ensures over { IfErr result (λ rest. C.comes pass.old call (blocked rest.0) pass.new) }
+        ensures answered { IfOk result (λ reply. ComesTo P.cmp ⟦<Waiter<A> as Clone>⟧.is_clone
+            J.capacity J.is_reserved C.calls pass.old call None (ends (Ok reply)) pass.new) }
+        ensures over { IfErr result (λ rest. ComesTo P.cmp ⟦<Waiter<A> as Clone>⟧.is_clone
+            J.capacity J.is_reserved C.calls pass.old call None (ends (Err rest.0)) pass.new) }
     {
         let mut rest = call;
         let mut ticket = None;
@@ -99,15 +118,15 @@ impl<T, P: Ord, J: Recording, A: Allocator + Copy> Witnessed<T, P, Waiter<A>, J,
         call: C,
         ticket: Option<u64>,
     ) -> Result<C::Reply, C>
-        ensures answered { IfOk result (λ reply. C.comes pass.old call (answered reply) pass.new) }
-        ensures blocked { IfErr result (λ rest. C.comes pass.old call (blocked rest) pass.new) }
-        ensures refused { IfErr result
-            (λ rest. C.comes pass.old call (answered (C.no_memory rest)) pass.new) }
+        ensures ended { ComesTo P.cmp ⟦<Waiter<A> as Clone>⟧.is_clone J.capacity J.is_reserved
+            C.calls pass.old call ticket (ends result) pass.new }
+        ensures refused { IfErr result (λ rest. ComesTo P.cmp ⟦<Waiter<A> as Clone>⟧.is_clone
+            J.capacity J.is_reserved C.calls pass.old call ticket
+            (ends (Ok (C.no_memory rest))) pass.new) }
     {
-        let Some(ticket) = ticket else {
-            return call.now(self, rt, pass);
-        };
-        call.give_up(self, rt, pass, ticket);
+        if let Some(ticket) = ticket {
+            self.give_up(rt, pass, ticket);
+        }
         call.now(self, rt, pass)
     }
 }

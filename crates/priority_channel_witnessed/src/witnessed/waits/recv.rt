@@ -1,7 +1,7 @@
 //! Receiving a pair on a thread that waits for it.
-ghost use Rattle.priority_channel_witnessed.specs.Waits.{IsAnswered, AnswersRecv, recv_in_time};
+ghost use Rattle.std.specs.Prelude.{◌≡◌, Ok, None};
+ghost use Rattle.priority_channel_witnessed.specs.Waits.{ends, recv_result, ComesTo, RecvCalls};
 
-use crate::attempt::Receive;
 use crate::chronicle::Pass;
 use crate::witnessed::Witnessed;
 use priority_channel_chronicle::Recording;
@@ -19,7 +19,8 @@ impl<T, P: Ord, J: Recording, A: Allocator + Copy> Witnessed<T, P, Waiter<A>, J,
     /// that is refused.
     ///
     /// What the pass sees then ends with the call that received the pair, or was refused; where
-    /// there was no memory for a waiter, with the try that found nothing.
+    /// there was no memory for a waiter, with the try that found nothing. All its calls before that
+    /// found nothing.
     ///
     /// ```
     /// let (msg, priority) = channel.recv_blocking(rt, pass)?;
@@ -29,12 +30,12 @@ impl<T, P: Ord, J: Recording, A: Allocator + Copy> Witnessed<T, P, Waiter<A>, J,
         rt: &R,
         pass: &mut Pass<T, P, Waiter<A>, J>,
     ) -> Result<(T, P), RecvFault>
-        ensures { IsAnswered P.cmp ⟦<Waiter<A> as Clone>⟧.is_clone J.capacity J.is_reserved
-            pass.old (AnswersRecv (recv_in_time result)) pass.new }
+        ensures { ComesTo P.cmp ⟦<Waiter<A> as Clone>⟧.is_clone J.capacity J.is_reserved RecvCalls
+            pass.old tt None (ends (Ok result)) pass.new }
     {
-        match self.wait(rt, pass, Receive, &Endless) {
+        match self.wait(rt, pass, (), &Endless) {
             Ok(received) => received,
-            Err((_receive, never)) => match never {},
+            Err(((), never)) => match never {},
         }
     }
 
@@ -59,14 +60,11 @@ impl<T, P: Ord, J: Recording, A: Allocator + Copy> Witnessed<T, P, Waiter<A>, J,
         pass: &mut Pass<T, P, Waiter<A>, J>,
         timeout: Duration,
     ) -> Result<(T, P), RecvTimeoutError>
-        ensures { IsAnswered P.cmp ⟦<Waiter<A> as Clone>⟧.is_clone J.capacity J.is_reserved
-            pass.old (AnswersRecv result) pass.new }
+        ensures { (end : _) × (result ≡ recv_result end) × ComesTo P.cmp
+            ⟦<Waiter<A> as Clone>⟧.is_clone J.capacity J.is_reserved RecvCalls
+            pass.old tt None (ends end) pass.new }
     {
-        let deadline = Deadline::after(rt, timeout);
-        match self.wait(rt, pass, Receive, &deadline) {
-            Ok(received) => Ok(received?),
-            Err((_receive, _overdue)) => Err(RecvTimeoutError::Timeout),
-        }
+        self.recv_until(rt, pass, &Deadline::after(rt, timeout))
     }
 
     /// As `recv_timeout`, but waits no longer than until then.
@@ -76,13 +74,26 @@ impl<T, P: Ord, J: Recording, A: Allocator + Copy> Witnessed<T, P, Waiter<A>, J,
         pass: &mut Pass<T, P, Waiter<A>, J>,
         deadline: Instant,
     ) -> Result<(T, P), RecvTimeoutError>
-        ensures { IsAnswered P.cmp ⟦<Waiter<A> as Clone>⟧.is_clone J.capacity J.is_reserved
-            pass.old (AnswersRecv result) pass.new }
+        ensures { (end : _) × (result ≡ recv_result end) × ComesTo P.cmp
+            ⟦<Waiter<A> as Clone>⟧.is_clone J.capacity J.is_reserved RecvCalls
+            pass.old tt None (ends end) pass.new }
     {
-        let deadline = Deadline::at(rt, deadline);
-        match self.wait(rt, pass, Receive, &deadline) {
+        self.recv_until(rt, pass, &Deadline::at(rt, deadline))
+    }
+
+    fn recv_until<R: Wait, C: Clock>(
+        &self,
+        rt: &R,
+        pass: &mut Pass<T, P, Waiter<A>, J>,
+        deadline: &Deadline<'_, C>,
+    ) -> Result<(T, P), RecvTimeoutError>
+        ensures { (end : _) × (result ≡ recv_result end) × ComesTo P.cmp
+            ⟦<Waiter<A> as Clone>⟧.is_clone J.capacity J.is_reserved RecvCalls
+            pass.old tt None (ends end) pass.new }
+    {
+        match self.wait(rt, pass, (), deadline) {
             Ok(received) => Ok(received?),
-            Err((_receive, _overdue)) => Err(RecvTimeoutError::Timeout),
+            Err(((), _overdue)) => Err(RecvTimeoutError::Timeout),
         }
     }
 }
