@@ -1,20 +1,29 @@
--- What comes back of a send.
-use Rattle.std.proofs.Common.{◌≡◌, ◌+◌, ℕ, Bool, List, [], ◌∷◌, ◌++◌, length, sym, ap, arith, length-append, Option}
-use Rattle.std.specs.Prelude.{Result, Ok, Err, IfErr, IfSome}
+-- The calls of a wait, and what comes back of a send.
+use Rattle.std.proofs.Common.{◌≡◌, ◌+◌, ℕ, Bool, List, [], ◌∷◌, ◌++◌, length, refl, sym, ap, subst, arith, length-append, append_assoc, ◌∙◌, Option, Some, None}
+use Rattle.std.specs.Prelude.{◌<◌, Result, Ok, Err, IfErr, IfSome, IsSomeAnd}
 use Rattle.std.specs.declared.cmp.Ordering.{Ordering}
+use Rattle.std.specs.declared.vec.IntoIter.{IntoIter}
+use Rattle.std.specs.declared.iter.Ahead.{Ahead}
 use Rattle.priority_channel_core.specs.declared.errors.TrySendError.{TrySendError}
 use Rattle.priority_channel_core.specs.declared.errors.TrySendError.TheVariants.{Full, Closed, Memory}
 use Rattle.priority_channel_core.specs.declared.errors.SendFault.{SendFault}
+use Rattle.priority_channel_core.specs.declared.errors.SendFault.TheVariants as fault
 use Rattle.priority_channel_core.specs.Errors.{rest_of}
+use Rattle.priority_channel_core.specs.machine.Polls.{send_answer}
+use Rattle.priority_channel_waiting.specs.Waits.{unsent_in_time}
 use Rattle.priority_channel_core.specs.declared.calls.Call.TheVariants as call
 use Rattle.priority_channel_core.specs.declared.calls.Answer.TheVariants as answer
 use Rattle.priority_channel_core.specs.declared.calls.CorePoll.{CorePoll}
 use Rattle.priority_channel_core.specs.code.Replies.{kept_by}
 use Rattle.priority_channel_core.specs.machine.State.{State, Handed}
 use Rattle.priority_channel_core.specs.machine.Sends.{as_list, Sends}
+use Rattle.priority_channel_core.specs.machine.Step.{Calls, Answers}
 use Rattle.priority_channel_core.proofs.Polls.{kept_callable}
 use Rattle.priority_channel_witnessed.specs.History.{entry}
-use Rattle.priority_channel_witnessed.specs.Passes.{Carried, IsTold}
+use Rattle.priority_channel_witnessed.specs.declared.entry.Entry.{Entry}
+use Rattle.priority_channel_witnessed.specs.Items.{list_in, listed, listed_poll}
+use Rattle.priority_channel_witnessed.specs.Passes.{Carried, IsTold, Tells}
+use Rattle.priority_channel_witnessed.specs.Waits.{Ending, ends, left, Underway, Makes, ComesTo, at_last, before, gave_up, Gives, WaitsOn, IsBack, Tried, send_result, polled_to, SendCalls, SendvCalls}
 use Rattle.priority_channel_witnessed.proofs.Histories.{told_step}
 
 -- who gets the only pair back gets that pair
@@ -46,3 +55,102 @@ module _ {T P W : Type 0} where
         let next = (told_step cmp is_clone capacity is_reserved old new _ told).1 in
         let moves = next.step.moves in
         kept_callable (λ kept. kept ≡ (msg, priority)) moves.reply moves.ticket polled (back_is next.old moves.mid msg priority moves.reply handed moves.tried) moves.answered
+
+abbrev Msgs : Type 0 → Type 0 → Type 0 → Type 0
+Msgs T P Z = Ahead (IntoIter (T × P) Z) (T × P)
+
+-- a bulk send's try and its poll are calls of its wait
+module _ {T P Z W : Type 0} (cmp : P → P → Ordering) (is_clone : W → W → Type 0) (capacity : ℕ) (is_reserved : Bool) (old new : Carried T P W) (msgs : Msgs T P Z) (handed : Handed W) where
+  pub tries_on : (ending : Msgs T P Z → Ending (Result (Unit {0}) (SendFault (Msgs T P Z))) (Msgs T P Z)) (reply : Result (Unit {0}) (TrySendError (Msgs T P Z)))
+      (result : Result (Result (Unit {0}) (SendFault (Msgs T P Z))) (Msgs T P Z))
+      → Tells cmp is_clone capacity is_reserved old (call.TrySendv (list_in msgs)) (answer.TrySendv (listed reply)) handed new
+      → IfErr result (λ rest. Tried send_answer (λ blocked. Err (Full blocked)) reply (ending rest))
+      → IfErr result (λ rest. Makes cmp is_clone capacity is_reserved (SendvCalls msgs None) old (ending rest) new)
+  tries_on ending reply (Ok sent) told tried = tt
+  tries_on ending reply (Err rest) told tried = record {
+    made = call.TrySendv (list_in msgs);
+    reply = answer.TrySendv (listed reply);
+    handed = handed;
+    told = told;
+    comes = (refl, refl, (reply, refl, tried));
+  }
+
+  pub polls_all : (ticket : Option ℕ) (waker : W) (polled : CorePoll (Result (Unit {0}) (SendFault (Msgs T P Z))) (Msgs T P Z)) (ending : Ending (Result (Unit {0}) (SendFault (Msgs T P Z))) (Msgs T P Z))
+      → Tells cmp is_clone capacity is_reserved old (call.PollSendv (list_in msgs) ticket waker) (answer.PollSendv (listed_poll polled)) handed new → ending ≡ polled_to polled
+      → Makes cmp is_clone capacity is_reserved (SendvCalls msgs ticket) old ending new
+  polls_all ticket waker polled ending told is = record {
+    made = call.PollSendv (list_in msgs) ticket waker;
+    reply = answer.PollSendv (listed_poll polled);
+    handed = handed;
+    told = told;
+    comes = (refl, refl, (polled, refl, is));
+  }
+
+-- what comes back of a wait to send a pair is the pair
+module _ {T P W : Type 0} (cmp : P → P → Ordering) (is_clone : W → W → Type 0) (capacity : ℕ) (is_reserved : Bool) where
+  pub comes_back : {old new : Carried T P W} {pair : T × P} {ticket : Option ℕ} {ending : Ending (Result (Unit {0}) (SendFault (T × P))) (T × P)}
+      → ComesTo cmp is_clone capacity is_reserved SendCalls old pair ticket ending new → IsBack pair ending
+  comes_back (at_last made) = made.comes.0
+  comes_back {ending = ending} (before made more) = subst (λ (p : T × P). IsBack p ending) made.comes.0 (comes_back more)
+  comes_back (gave_up told more) = comes_back more
+
+pub back_in_time : {Q : Type 0} (end : Result (Result (Unit {0}) (SendFault Q)) Q) (pair : Q) → IsBack pair (ends end) → IfErr (send_result end) (λ error. unsent_in_time error ≡ pair)
+back_in_time (Ok (Ok done)) pair is = tt
+back_in_time (Ok (Err (fault.Closed e))) pair is = is
+back_in_time (Ok (Err (fault.Memory rest))) pair is = is
+back_in_time (Err rest) pair is = is
+
+-- what a future gives, and how it waits on, where it holds this
+module _ {T P W R X : Type 0} (cmp : P → P → Ordering) (is_clone : W → W → Type 0) (capacity : ℕ) (is_reserved : Bool) (calls : X → Option ℕ → Calls T P W → Answers T P → Ending R X → Type 0) (future : Underway (Carried T P W) X) (pass : Carried T P W) (own : X) where
+  pub gives_of : (given : R × Carried T P W) → future.holds ≡ Some (pass, own)
+      → ComesTo cmp is_clone capacity is_reserved calls pass own future.ticket (ends (Ok given.0)) given.1 → Gives cmp is_clone capacity is_reserved calls future given
+  gives_of given is comes = rw is comes
+
+  pub waits_of : (later : Underway (Carried T P W) X) → future.holds ≡ Some (pass, own)
+      → IsSomeAnd later.holds (λ after. IsSomeAnd later.ticket (λ at. ComesTo cmp is_clone capacity is_reserved calls pass own future.ticket (left after.1 (Some at)) after.0))
+      → WaitsOn cmp is_clone capacity is_reserved calls future later
+  waits_of later is comes = rw is comes
+
+-- what is told after a call is told from before it
+module _ {T P W : Type 0} (cmp : P → P → Ordering) (is_clone : W → W → Type 0) (capacity : ℕ) (is_reserved : Bool) (old mid new : Carried T P W) where
+  told_later : (made last_made : Calls T P W) (reply last_reply : Answers T P) (handed last_handed : Handed W)
+      → Tells cmp is_clone capacity is_reserved old made reply handed mid
+      → IsTold cmp is_clone capacity is_reserved mid (entry mid.number last_made last_reply last_handed) new
+      → IsTold cmp is_clone capacity is_reserved old (entry old.number last_made last_reply last_handed) new
+  told_later made last_made reply last_reply handed last_handed first told =
+      let number = first.number in
+      let own : List (Entry T P W) = entry old.number made reply handed ∷ [] in
+      let between = first.told.between ++ own in
+      let begun : mid.seen ≡ old.seen ++ between = first.told.seen ∙ append_assoc old.seen first.told.between own in
+      record {
+        between = between ++ told.between;
+        seen = let whole = told.seen in let assoc = append_assoc old.seen between told.between in cc;
+        legal = told.legal;
+        counted = told.counted;
+      }
+
+module _ {T P W R X : Type 0} (cmp : P → P → Ordering) (is_clone : W → W → Type 0) (capacity : ℕ) (is_reserved : Bool) (calls : X → Option ℕ → Calls T P W → Answers T P → Ending R X → Type 0) where
+  abbrev LastTold : Carried T P W → Ending R X → Carried T P W → Type 0
+  LastTold old ending new =
+      (own : X) × (ticket : Option ℕ) × (made : Calls T P W) × (reply : Answers T P) × (handed : Handed W)
+      × IsTold cmp is_clone capacity is_reserved old (entry old.number made reply handed) new × calls own ticket made reply ending
+
+  -- a wait has made a call or more, and the pass was told of the last
+  pub last_told : {old new : Carried T P W} {own : X} {ticket : Option ℕ} {ending : Ending R X} → ComesTo cmp is_clone capacity is_reserved calls old own ticket ending new
+      → (new.number ≡ old.number) × (old.count < new.count) × LastTold old ending new
+  last_told (at_last {own = own} {ticket = ticket} made) =
+      (made.told.number, omega (arith, made.told.counted), (own, ticket, made.made, made.reply, made.handed, made.told.told, made.comes))
+  last_told (before {old = old} {mid = mid} {new = new} made more) =
+      let later = last_told more in
+      let last = later.2 in (
+        later.0 ∙ made.told.number,
+        omega (arith, made.told.counted, later.1),
+        (last.0, last.1, last.2, last.3, last.4, told_later cmp is_clone capacity is_reserved old mid new made.made last.2 made.reply last.3 made.handed last.4 made.told last.5, last.6),
+      )
+  last_told (gave_up {old = old} {mid = mid} {new = new} told more) =
+      let later = last_told more in
+      let last = later.2 in (
+        later.0 ∙ told.number,
+        omega (arith, told.counted, later.1),
+        (last.0, last.1, last.2, last.3, last.4, told_later cmp is_clone capacity is_reserved old mid new _ last.2 _ last.3 _ last.4 told last.5, last.6),
+      )

@@ -25,18 +25,22 @@ use Rattle.priority_channel_waiting.specs.Waits.{recv_fault_in_time, send_fault_
 use Rattle.priority_channel_witnessed.specs.Items.{list_in, listed, listed_poll}
 use Rattle.priority_channel_witnessed.specs.Passes.{Carried, Tells}
 
--- How far a wait has come: to its end, which is its reply, or what is left where the time is over.
--- Or else to what is left, and the ticket under which it is listed, if it is.
+-- A wait ended, with its reply, or with what is left where its time is over. Or this is left, and
+-- listed under this ticket, if any.
 pub data Ending (R X : Type 0) : Type 0 where
   ends : Result R X → Ending R X
   left : X → Option ℕ → Ending R X
 
--- What a future holds until its answer: its pass, and what it is to do. Under which ticket it is
--- listed, once it is. The source of its wakes.
+-- A future: until its answer its pass and what is left, its ticket once it is listed, and the source
+-- of its wakes.
 pub record Underway (S X : Type 0) : Type 0 where
   pub holds : Option (S × X)
   pub ticket : Option ℕ
   pub source : ℕ
+
+-- the end of a wait, without the evidence that its time is over
+abbrev pub without_evidence : {R X O : Type 0} → Result R (X × O) → Result R X
+without_evidence result = result_map_both (λ reply. reply) (λ rest. rest.0) result
 
 -- what a receive with a limit gives at such an end
 abbrev pub recv_result : {X C : Type 0} → Result (Result X RecvFault) C → Result X RecvTimeoutError
@@ -58,10 +62,9 @@ Tried polled blocked reply (ends (Err rest)) = reply ≡ blocked rest
 Tried polled blocked reply (left rest ticket) = (reply ≡ blocked rest) × (ticket ≡ None)
 
 -- A poll ends the wait, or lists it.
-abbrev pub Polled : {R X : Type 0} → CorePoll R X → Ending R X → Type 0
-Polled polled (ends (Ok reply)) = polled ≡ Ready reply
-Polled polled (ends (Err rest)) = ⊥
-Polled polled (left rest ticket) = (at : ℕ) × (polled ≡ Pending rest at) × (ticket ≡ Some at)
+abbrev pub polled_to : {R X : Type 0} → CorePoll R X → Ending R X
+polled_to (Ready reply) = ends (Ok reply)
+polled_to (Pending rest at) = left rest (Some at)
 
 -- what comes back of a send is what it was to send
 abbrev pub IsBack : {Q : Type 0} → Q → Ending (Result (Unit {0}) (SendFault Q)) Q → Type 0
@@ -76,18 +79,23 @@ module _ {T P W : Type 0} where
   RecvCalls nothing ticket call.TryRecv (answer.TryRecv reply) ending =
       (ticket ≡ None) × Tried recv_answer (λ rest. Err Empty) reply ending
   RecvCalls nothing ticket (call.PollRecv given waker) (answer.PollRecv polled) ending =
-      (given ≡ ticket) × Polled polled ending
+      (given ≡ ticket) × (ending ≡ polled_to polled)
   RecvCalls nothing ticket made reply ending = ⊥
 
   -- of a send of this pair
+  abbrev pub SendMade : T × P → Option ℕ → Calls T P W → Answers T P
+      → Ending (Result (Unit {0}) (SendFault (T × P))) (T × P) → Type 0
+  SendMade pair ticket (call.TrySend msg priority) (answer.TrySend reply) ending =
+      (ticket ≡ None) × ((msg, priority) ≡ pair)
+      × Tried send_answer (λ rest. Err (Full rest)) reply ending
+  SendMade pair ticket (call.PollSend msg priority given waker) (answer.PollSend polled) ending =
+      (given ≡ ticket) × ((msg, priority) ≡ pair) × (ending ≡ polled_to polled)
+  SendMade pair ticket made reply ending = ⊥
+
   abbrev pub SendCalls : T × P → Option ℕ → Calls T P W → Answers T P
       → Ending (Result (Unit {0}) (SendFault (T × P))) (T × P) → Type 0
-  SendCalls pair ticket (call.TrySend msg priority) (answer.TrySend reply) ending =
-      (ticket ≡ None) × ((msg, priority) ≡ pair)
-      × Tried send_answer (λ rest. Err (Full rest)) reply ending × IsBack pair ending
-  SendCalls pair ticket (call.PollSend msg priority given waker) (answer.PollSend polled) ending =
-      (given ≡ ticket) × ((msg, priority) ≡ pair) × Polled polled ending × IsBack pair ending
-  SendCalls pair ticket made reply ending = ⊥
+  SendCalls pair ticket made reply ending =
+      IsBack pair ending × SendMade pair ticket made reply ending
 
   -- of a send of these pairs, of which any may be left
   abbrev pub SendvCalls : {Z : Type 0} → Ahead (IntoIter (T × P) Z) (T × P) → Option ℕ
@@ -102,7 +110,7 @@ module _ {T P W : Type 0} where
       (given ≡ ticket) × (pairs ≡ list_in msgs)
       × ((known : CorePoll (Result (Unit {0}) (SendFault (Ahead (IntoIter (T × P) Z) (T × P))))
       (Ahead (IntoIter (T × P) Z) (T × P)))
-      × (polled ≡ listed_poll known) × Polled known ending)
+      × (polled ≡ listed_poll known) × (ending ≡ polled_to known))
   SendvCalls msgs ticket made reply ending = ⊥
 
 module _ {T P W : Type 0} (cmp : P → P → Ordering) (is_clone : W → W → Type 0) (capacity : ℕ)

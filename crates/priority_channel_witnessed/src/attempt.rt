@@ -1,6 +1,7 @@
 //! What can be called again and again until it is answered: a receive, a send, a bulk send.
 ghost use Rattle.std.specs.Prelude.{◌≡◌, ℕ, Option, Some, None, Ok, Err, IfOk, IfErr};
 ghost use Rattle.priority_channel_core.specs.declared.errors.TrySendError.TheVariants.{Full};
+ghost use Rattle.priority_channel_core.specs.declared.errors.SendFault.TheVariants as fault;
 ghost use Rattle.priority_channel_core.specs.machine.Polls.{send_answer};
 ghost use Rattle.priority_channel_core.specs.machine.Step.{Calls, Answers};
 ghost use Rattle.priority_channel_witnessed.specs.Waits.{Ending, ends, left, Makes, Tried};
@@ -121,14 +122,13 @@ impl<T, P: Ord, J: Recording, A: Allocator + Copy> Attempt<T, P, Waiter<A>, J, A
 }
 
 impl<T, P: Ord, J: Recording, A: Allocator + Copy> Attempt<T, P, Waiter<A>, J, A> for (T, P) {
-    ghost use Rattle.priority_channel_core.specs.declared.errors.SendFault.TheVariants.{Memory};
     ghost use Rattle.priority_channel_witnessed.specs.Waits.{SendCalls};
 
     type Reply = Result<(), SendFault<(T, P)>>;
 
     ghost calls = { SendCalls };
 
-    ghost no_memory = { λ pair. Err (Memory pair) };
+    ghost no_memory = { λ pair. Err (fault.Memory pair) };
 
     ghost woken_at = { λ room _. room };
 
@@ -166,14 +166,13 @@ impl<T, P: Ord, J: Recording, A: Allocator + Copy> Attempt<T, P, Waiter<A>, J, A
 
 impl<T: Drop, P: Ord + Drop, J: Recording, A: Allocator + Copy> Attempt<T, P, Waiter<A>, J, A>
     for Pairs<T, P, A> {
-    ghost use Rattle.priority_channel_core.specs.declared.errors.SendFault.TheVariants.{Memory};
     ghost use Rattle.priority_channel_witnessed.specs.Waits.{SendvCalls};
 
     type Reply = Result<(), SendFault<Pairs<T, P, A>>>;
 
     ghost calls = { SendvCalls };
 
-    ghost no_memory = { λ msgs. Err (Memory msgs) };
+    ghost no_memory = { λ msgs. Err (fault.Memory msgs) };
 
     ghost woken_at = { λ room _. room };
 
@@ -215,8 +214,11 @@ impl<T: Drop, P: Ord + Drop, J: Recording, A: Allocator + Copy> Attempt<T, P, Wa
 
 // What a try to send comes to.
 fn outcome_of<K>(sent: Result<(), TrySendError<K>>) -> Result<Result<(), SendFault<K>>, K>
-    ensures tried { Tried send_answer (λ rest. Err (Full rest)) sent (ends result) }
-    ensures full { IfErr result (λ rest. sent ≡ Err (Full rest)) }
+    ensures ended { Tried send_answer (λ rest. Err (Full rest)) sent (ends result) }
+    ensures refused { IfErr result (λ rest.
+        Tried send_answer (λ left. Err (Full left)) sent (ends (Ok (Err (fault.Memory rest))))) }
+    ensures goes_on { IfErr result (λ rest.
+        Tried send_answer (λ left. Err (Full left)) sent (left rest None)) }
 {
     match sent {
         Ok(()) => Ok(Ok(())),

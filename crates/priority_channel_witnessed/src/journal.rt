@@ -5,7 +5,7 @@ ghost use Rattle.priority_channel_core.specs.machine.State.{State};
 ghost use Rattle.priority_channel_core.specs.machine.Step.{Step};
 ghost use Rattle.priority_channel_witnessed.specs.History.{IsHistory};
 ghost use Rattle.priority_channel_witnessed.specs.Passes.{calls_of, calls_made, calls_of_others, AreApart, Accounts, AreGiven, Tells};
-ghost use Rattle.priority_channel_witnessed.specs.Tells.{call_of, answer_of, handed_told};
+ghost use Rattle.priority_channel_witnessed.specs.Tells.{made_of, handed_told};
 
 use crate::chronicle::{Calls, Log, Pass, Seen};
 use crate::entry::{Telling, Told};
@@ -117,12 +117,12 @@ impl<T, P: Ord, W: Clone, J: Recording, A: Allocator> Journal<T, P, W, J, A> {
     )
         requires step { (before : State T P W)
             × IsHistory P.cmp W.is_clone J.capacity J.is_reserved self.old before
-            × Step P.cmp W.is_clone before (call_of told) (answer_of told) (handed_told handed)
-            core.now.state }
+            × Step P.cmp W.is_clone before (made_of told).0 (made_of told).1
+            (handed_told handed) core.now.state }
         ensures leads { IsHistory P.cmp W.is_clone J.capacity J.is_reserved self.new
             core.now.state }
-        ensures told { Tells P.cmp W.is_clone J.capacity J.is_reserved pass.old (call_of told)
-            (answer_of told) (handed_told handed) pass.new }
+        ensures told { Tells P.cmp W.is_clone J.capacity J.is_reserved pass.old
+            (made_of told).0 (made_of told).1 (handed_told handed) pass.new }
     {
         let who = pass.number();
         await_given(rt, who, self.next);

@@ -5,7 +5,7 @@
 //! calls of the history: the first poll a try, and where that finds nothing, and at each later
 //! poll, one that lists the task's waker. So a future that is answered at once asks for no memory.
 //! Each message wakes all tasks that wait for one, and room all who wait for that.
-ghost use Rattle.std.specs.Prelude.{◌≡◌, ⊤, Some, None, Ok, IfOk, IfErr, IsSomeAnd};
+ghost use Rattle.std.specs.Prelude.{◌≡◌, ⊤, Some, None, Ok, IfOk, IfErr};
 ghost use Rattle.futures.specs.Task.{Covers, Keeps};
 ghost use Rattle.futures.specs.Poll.{IfReady, OnPending};
 ghost use Rattle.priority_channel_witnessed.specs.Waits.{ends, left, Makes, ComesTo, Gives, WaitsOn};
@@ -165,36 +165,19 @@ impl<
         }
     }
 
-    // A try, where the task is not listed.
-    fn try_first(&self, pass: &mut Pass<T, P, Waiter<A>, J>, call: C) -> Result<C::Reply, C>
-        ensures answered { IfOk result (λ reply. ComesTo P.cmp ⟦<Waiter<A> as Clone>⟧.is_clone
-            J.capacity J.is_reserved C.calls pass.old call self.now.ticket (ends (Ok reply))
-            pass.new) }
-        ensures goes_on { IfErr result (λ rest. (ending : _) (later : _)
-            → ComesTo P.cmp ⟦<Waiter<A> as Clone>⟧.is_clone J.capacity J.is_reserved C.calls
-            pass.new rest self.now.ticket ending later
-            → ComesTo P.cmp ⟦<Waiter<A> as Clone>⟧.is_clone J.capacity J.is_reserved C.calls
-            pass.old call self.now.ticket ending later) }
-    {
-        if self.ticket.is_some() {
-            return Err(call);
-        }
-        call.now(self.channel, self.rt, pass)
-    }
-
     // Leaves the task's waker, and is answered or listed; or ends, for want of memory.
     fn list(
         &mut self,
         cx: &mut Context<'_>,
         pass: &mut Pass<T, P, Waiter<A>, J>,
         call: C,
-    ) -> Result<C::Reply, C>
+    ) -> Result<C::Reply, (C, u64)>
         ensures answered { IfOk result (λ reply. ComesTo P.cmp ⟦<Waiter<A> as Clone>⟧.is_clone
             J.capacity J.is_reserved C.calls pass.old call self.old.ticket (ends (Ok reply))
             pass.new) }
-        ensures listed { IfErr result (λ rest. IsSomeAnd self.new.ticket (λ at. Makes P.cmp
-            ⟦<Waiter<A> as Clone>⟧.is_clone J.capacity J.is_reserved
-            (C.calls call self.old.ticket) pass.old (left rest (Some at)) pass.new)) }
+        ensures listed { IfErr result (λ rest. Makes P.cmp ⟦<Waiter<A> as Clone>⟧.is_clone J.capacity
+            J.is_reserved (C.calls call self.old.ticket) pass.old
+            (left rest.0 (Some rest.1)) pass.new) }
         ensures registered { IfErr result (λ _. Covers cx.new (λ source.
             source ≡ self.new.source)) }
         ensures kept { Keeps cx.old cx.new }
@@ -206,17 +189,11 @@ impl<
         let party = &mut self.waiter;
         let Some(waiter) = Waiter::register_party(rt, channel.alloc, cx, C::source(channel), party)
         else {
-            return match channel.last(rt, pass, call, self.ticket) {
-                Ok(reply) => Ok(reply),
-                Err(rest) => Ok(rest.refuse()),
-            };
+            return Ok(channel.refuse_wait(rt, pass, call, self.ticket));
         };
         match call.or_list(channel, rt, pass, self.ticket, waiter) {
             Ok(reply) => Ok(reply),
-            Err((rest, given)) => {
-                self.ticket = Some(given);
-                Err(rest)
-            }
+            Err(rest) => Err(rest),
         }
     }
 }
@@ -255,12 +232,14 @@ impl<
         let Some((mut pass, call)) = self.holds.take() else {
             return cx.yield_now();
         };
-        match self.try_first(&mut pass, call) {
+        let channel = self.channel;
+        match channel.try_first(self.rt, &mut pass, call, self.ticket) {
             Ok(reply) => Poll::Ready((reply, pass)),
             Err(rest) => match self.list(cx, &mut pass, rest) {
                 Ok(reply) => Poll::Ready((reply, pass)),
-                Err(rest) => {
+                Err((rest, given)) => {
                     self.holds = Some((pass, rest));
+                    self.ticket = Some(given);
                     Poll::Pending
                 }
             },

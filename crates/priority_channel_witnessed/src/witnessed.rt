@@ -21,8 +21,21 @@ use std::alloc::{AllocError, Allocator, Global};
 use std::snapshot::Snapshot;
 use std::sync::{Mutex, Wait};
 
+// A call of the core and its entry, in one hold of the lock. The entry tells what the call was given,
+// in the snapshots `$kept`, and what it answered.
+macro_rules! call {
+    ($channel:ident, $rt:ident, $pass:ident; $call:ident($($given:expr),*)
+        => $told:ident($($kept:expr),*)) => {{
+        let kept = &mut *$channel.kept.lock($rt);
+        let (answer, wakes) = kept.core.$call($($given),*);
+        let told = Told::$told($($kept,)* Snapshot::of(&answer));
+        let handed = Some(Snapshot::of(&wakes));
+        kept.journal.enter($rt, &$channel.log, &kept.core, $pass, told, handed);
+        (answer, wakes)
+    }};
+}
+
 mod bulk;
-mod evicting;
 mod looks;
 mod polls;
 mod waits;
@@ -136,12 +149,26 @@ impl<T, P: Ord, W: Clone, J: Recording, A: Allocator + Copy> Witnessed<T, P, W, 
             (Call.TrySend msg priority) (Answer.TrySend result.0) result.1 pass.new }
     {
         let (kept_msg, kept_priority) = (Snapshot::of(&msg), Snapshot::of(&priority));
-        let kept = &mut *self.kept.lock(rt);
-        let (sent, wakes) = kept.core.try_send(msg, priority);
-        let told = Told::TrySend(kept_msg, kept_priority, Snapshot::of(&sent));
-        let handed = Some(Snapshot::of(&wakes));
-        kept.journal.enter(rt, &self.log, &kept.core, pass, told, handed);
-        (sent, wakes)
+        call!(self, rt, pass; try_send(msg, priority) => TrySend(kept_msg, kept_priority))
+    }
+
+    /// Sends a pair, and into a full channel in place of the last accepted of the least urgent
+    /// pairs, if the new one is more urgent: then that comes back. Else the new one does, as
+    /// `Full`.
+    pub fn try_send_evicting<R: Wait>(
+        &self,
+        rt: &R,
+        pass: &mut Pass<T, P, W, J>,
+        msg: T,
+        priority: P,
+    ) -> (Result<Option<(T, P)>, TrySendError<(T, P)>>, Wakes<W, A>)
+        ensures { Tells P.cmp W.is_clone J.capacity J.is_reserved pass.old
+            (Call.TrySendEvicting msg priority)
+            (Answer.TrySendEvicting result.0) result.1 pass.new }
+    {
+        let (kept_msg, kept_priority) = (Snapshot::of(&msg), Snapshot::of(&priority));
+        call!(self, rt, pass; try_send_evicting(msg, priority)
+            => TrySendEvicting(kept_msg, kept_priority))
     }
 
     /// Receives the first pending pair among those that no other exceeds in priority, also from a
@@ -154,12 +181,7 @@ impl<T, P: Ord, W: Clone, J: Recording, A: Allocator + Copy> Witnessed<T, P, W, 
         ensures { Tells P.cmp W.is_clone J.capacity J.is_reserved pass.old
             Call.TryRecv (Answer.TryRecv result.0) result.1 pass.new }
     {
-        let kept = &mut *self.kept.lock(rt);
-        let (received, wakes) = kept.core.try_recv();
-        let told = Told::TryRecv(Snapshot::of(&received));
-        let handed = Some(Snapshot::of(&wakes));
-        kept.journal.enter(rt, &self.log, &kept.core, pass, told, handed);
-        (received, wakes)
+        call!(self, rt, pass; try_recv() => TryRecv())
     }
 
     /// Closes the channel for good, and answers whether it was open. What is pending can still be
@@ -168,11 +190,7 @@ impl<T, P: Ord, W: Clone, J: Recording, A: Allocator + Copy> Witnessed<T, P, W, 
         ensures { Tells P.cmp W.is_clone J.capacity J.is_reserved pass.old
             Call.Close (Answer.Close result.0) result.1 pass.new }
     {
-        let kept = &mut *self.kept.lock(rt);
-        let (was_open, wakes) = kept.core.close();
-        let handed = Some(Snapshot::of(&wakes));
-        kept.journal.enter(rt, &self.log, &kept.core, pass, Told::Close(was_open), handed);
-        (was_open, wakes)
+        call!(self, rt, pass; close() => Close())
     }
 
     /// Lets both passes see what either has seen, and the history as it is. It takes no lock and

@@ -30,12 +30,7 @@ impl<T: Drop, P: Ord + Drop, W: Clone, J: Recording, A: Allocator + Copy> Witnes
             (Call.TrySendv (list_in msgs)) (Answer.TrySendv (listed result.0)) result.1 pass.new }
     {
         let kept_msgs = Snapshot::of(&msgs);
-        let kept = &mut *self.kept.lock(rt);
-        let (sent, wakes) = kept.core.try_sendv(msgs);
-        let told = Told::TrySendv(kept_msgs, Snapshot::of(&sent));
-        let handed = Some(Snapshot::of(&wakes));
-        kept.journal.enter(rt, &self.log, &kept.core, pass, told, handed);
-        (sent, wakes)
+        call!(self, rt, pass; try_sendv(msgs) => TrySendv(kept_msgs))
     }
 
     /// Sends what there is room for, and waits for room with the rest, which is handed back for the
@@ -57,12 +52,7 @@ impl<T: Drop, P: Ord + Drop, W: Clone, J: Recording, A: Allocator + Copy> Witnes
             (Answer.PollSendv (listed_poll result.0)) result.1 pass.new }
     {
         let kept_msgs = Snapshot::of(&msgs);
-        let kept = &mut *self.kept.lock(rt);
-        let (polled, wakes) = kept.core.poll_sendv(msgs, ticket, waker);
-        let own = Snapshot::of(waker);
-        let told = Told::PollSendv(kept_msgs, ticket, own, Snapshot::of(&polled));
-        let handed = Some(Snapshot::of(&wakes));
-        kept.journal.enter(rt, &self.log, &kept.core, pass, told, handed);
-        (polled, wakes)
+        call!(self, rt, pass; poll_sendv(msgs, ticket, waker)
+            => PollSendv(kept_msgs, ticket, Snapshot::of(waker)))
     }
 }

@@ -27,12 +27,7 @@ impl<T, P: Ord, W: Clone, J: Recording, A: Allocator + Copy> Witnessed<T, P, W, 
         ensures { Tells P.cmp W.is_clone J.capacity J.is_reserved pass.old
             (Call.PollRecv ticket waker.now) (Answer.PollRecv result.0) result.1 pass.new }
     {
-        let kept = &mut *self.kept.lock(rt);
-        let (polled, wakes) = kept.core.poll_recv(ticket, waker);
-        let told = Told::PollRecv(ticket, Snapshot::of(waker), Snapshot::of(&polled));
-        let handed = Some(Snapshot::of(&wakes));
-        kept.journal.enter(rt, &self.log, &kept.core, pass, told, handed);
-        (polled, wakes)
+        call!(self, rt, pass; poll_recv(ticket, waker) => PollRecv(ticket, Snapshot::of(waker)))
     }
 
     /// Sends a pair, or waits for room under the answered ticket and hands the pair back for the
@@ -51,13 +46,8 @@ impl<T, P: Ord, W: Clone, J: Recording, A: Allocator + Copy> Witnessed<T, P, W, 
             (Answer.PollSend result.0) result.1 pass.new }
     {
         let (kept_msg, kept_priority) = (Snapshot::of(&msg), Snapshot::of(&priority));
-        let kept = &mut *self.kept.lock(rt);
-        let (polled, wakes) = kept.core.poll_send(msg, priority, ticket, waker);
-        let (own, answer) = (Snapshot::of(waker), Snapshot::of(&polled));
-        let told = Told::PollSend(kept_msg, kept_priority, ticket, own, answer);
-        let handed = Some(Snapshot::of(&wakes));
-        kept.journal.enter(rt, &self.log, &kept.core, pass, told, handed);
-        (polled, wakes)
+        call!(self, rt, pass; poll_send(msg, priority, ticket, waker)
+            => PollSend(kept_msg, kept_priority, ticket, Snapshot::of(waker)))
     }
 
     /// The party of this ticket waits no more. A ticket that is not listed changes nothing.

@@ -14,15 +14,15 @@
 //! Whom a call hands out cannot be let go, so a body that forgets to wake them does not compile.
 //! That a wake arrives is no part of a contract, nor is the time: both are tested. A thread that
 //! waits takes memory for its waiter and for its place in the list.
-ghost use Rattle.std.specs.Prelude.{◌≡◌, Ok, Err, None, IfOk, IfErr};
-ghost use Rattle.priority_channel_witnessed.specs.Waits.{ends, send_result, ComesTo};
+ghost use Rattle.std.specs.Prelude.{◌≡◌, Some, None, Ok, IfOk, IfErr};
+ghost use Rattle.priority_channel_witnessed.specs.Waits.{ends, without_evidence, recv_result, send_result, ComesTo};
 
 use crate::attempt::Attempt;
 use crate::chronicle::Pass;
 use crate::witnessed::Witnessed;
 use priority_channel_chronicle::Recording;
-use priority_channel_core::errors::SendFault;
-use priority_channel_waiting::timeouts::SendTimeoutError;
+use priority_channel_core::errors::{RecvFault, SendFault};
+use priority_channel_waiting::timeouts::{RecvTimeoutError, SendTimeoutError};
 use priority_channel_waiting::until::Until;
 use priority_channel_waiting::waiter::Waiter;
 use std::alloc::Allocator;
@@ -32,12 +32,23 @@ mod recv;
 mod send;
 mod sendv;
 
+// What a receive with a limit returns.
+fn received_in_time<X, C: Drop, O: Drop>(
+    waited: Result<Result<X, RecvFault>, (C, O)>,
+) -> Result<X, RecvTimeoutError>
+    ensures { result ≡ recv_result (without_evidence waited) }
+{
+    match waited {
+        Ok(received) => Ok(received?),
+        Err(_) => Err(RecvTimeoutError::Timeout),
+    }
+}
+
 // What a send with a limit returns.
-fn in_time<K, O: Drop>(
+fn sent_in_time<K, O: Drop>(
     waited: Result<Result<(), SendFault<K>>, (K, O)>,
 ) -> Result<(), SendTimeoutError<K>>
-    ensures sent { IfOk waited (λ sent. result ≡ send_result (Ok sent)) }
-    ensures over { IfErr waited (λ rest. result ≡ send_result (Err rest.0)) }
+    ensures { result ≡ send_result (without_evidence waited) }
 {
     match waited {
         Ok(sent) => Ok(sent?),
@@ -54,10 +65,8 @@ impl<T, P: Ord, J: Recording, A: Allocator + Copy> Witnessed<T, P, Waiter<A>, J,
         call: C,
         until: &U,
     ) -> Result<C::Reply, (C, U::Over)>
-        ensures answered { IfOk result (λ reply. ComesTo P.cmp ⟦<Waiter<A> as Clone>⟧.is_clone
-            J.capacity J.is_reserved C.calls pass.old call None (ends (Ok reply)) pass.new) }
-        ensures over { IfErr result (λ rest. ComesTo P.cmp ⟦<Waiter<A> as Clone>⟧.is_clone
-            J.capacity J.is_reserved C.calls pass.old call None (ends (Err rest.0)) pass.new) }
+        ensures { ComesTo P.cmp ⟦<Waiter<A> as Clone>⟧.is_clone J.capacity J.is_reserved C.calls
+            pass.old call None (ends (without_evidence result)) pass.new }
     {
         match call.now(self, rt, pass) {
             Ok(reply) => Ok(reply),
@@ -82,10 +91,8 @@ impl<T, P: Ord, J: Recording, A: Allocator + Copy> Witnessed<T, P, Waiter<A>, J,
         until: &U,
         waiter: &Waiter<A>,
     ) -> Result<C::Reply, (C, U::Over)>
-        ensures answered { IfOk result (λ reply. ComesTo P.cmp ⟦<Waiter<A> as Clone>⟧.is_clone
-            J.capacity J.is_reserved C.calls pass.old call None (ends (Ok reply)) pass.new) }
-        ensures over { IfErr result (λ rest. ComesTo P.cmp ⟦<Waiter<A> as Clone>⟧.is_clone
-            J.capacity J.is_reserved C.calls pass.old call None (ends (Err rest.0)) pass.new) }
+        ensures { ComesTo P.cmp ⟦<Waiter<A> as Clone>⟧.is_clone J.capacity J.is_reserved C.calls
+            pass.old call None (ends (without_evidence result)) pass.new }
     {
         let mut rest = call;
         let mut ticket = None;
@@ -98,35 +105,93 @@ impl<T, P: Ord, J: Recording, A: Allocator + Copy> Witnessed<T, P, Waiter<A>, J,
                         ticket = Some(given);
                         rest = kept;
                     }
-                    Err(over) => {
-                        return match self.last(rt, pass, kept, Some(given)) {
-                            Ok(reply) => Ok(reply),
-                            Err(rest) => Err((rest, over)),
-                        };
-                    }
+                    Err(over) => return self.end_wait(rt, pass, kept, given, over),
                 },
             }
         }
         unreachable!()
     }
 
-    // Waits no more, and calls once more.
-    pub(crate) fn last<C: Attempt<T, P, Waiter<A>, J, A>, R: Wait>(
+    // Waits no more, and tries once more.
+    fn end_wait<C: Attempt<T, P, Waiter<A>, J, A>, R: Wait, O: Drop>(
+        &self,
+        rt: &R,
+        pass: &mut Pass<T, P, Waiter<A>, J>,
+        call: C,
+        ticket: u64,
+        over: O,
+    ) -> Result<C::Reply, (C, O)>
+        ensures { ComesTo P.cmp ⟦<Waiter<A> as Clone>⟧.is_clone J.capacity J.is_reserved C.calls
+            pass.old call (Some ticket) (ends (without_evidence result)) pass.new }
+    {
+        self.give_up(rt, pass, ticket);
+        match call.now(self, rt, pass) {
+            Ok(reply) => Ok(reply),
+            Err(rest) => Err((rest, over)),
+        }
+    }
+
+    // A try, where it is not listed.
+    pub(crate) fn try_first<C: Attempt<T, P, Waiter<A>, J, A>, R: Wait>(
         &self,
         rt: &R,
         pass: &mut Pass<T, P, Waiter<A>, J>,
         call: C,
         ticket: Option<u64>,
     ) -> Result<C::Reply, C>
-        ensures ended { ComesTo P.cmp ⟦<Waiter<A> as Clone>⟧.is_clone J.capacity J.is_reserved
-            C.calls pass.old call ticket (ends result) pass.new }
-        ensures refused { IfErr result (λ rest. ComesTo P.cmp ⟦<Waiter<A> as Clone>⟧.is_clone
-            J.capacity J.is_reserved C.calls pass.old call ticket
-            (ends (Ok (C.no_memory rest))) pass.new) }
+        ensures answered { IfOk result (λ reply. ComesTo P.cmp ⟦<Waiter<A> as Clone>⟧.is_clone
+            J.capacity J.is_reserved C.calls pass.old call ticket (ends (Ok reply)) pass.new) }
+        ensures goes_on { IfErr result (λ rest. (ending : _) (later : _)
+            → ComesTo P.cmp ⟦<Waiter<A> as Clone>⟧.is_clone J.capacity J.is_reserved C.calls
+            pass.new rest ticket ending later
+            → ComesTo P.cmp ⟦<Waiter<A> as Clone>⟧.is_clone J.capacity J.is_reserved C.calls
+            pass.old call ticket ending later) }
     {
-        if let Some(ticket) = ticket {
-            self.give_up(rt, pass, ticket);
+        match ticket {
+            Some(_) => Err(call),
+            None => match call.now(self, rt, pass) {
+                Ok(reply) => Ok(reply),
+                Err(rest) => Err(rest),
+            },
         }
-        call.now(self, rt, pass)
+    }
+
+    // The answer where no memory for a wait is to be had: that of a last try.
+    pub(crate) fn refuse_wait<C: Attempt<T, P, Waiter<A>, J, A>, R: Wait>(
+        &self,
+        rt: &R,
+        pass: &mut Pass<T, P, Waiter<A>, J>,
+        call: C,
+        ticket: Option<u64>,
+    ) -> C::Reply
+        ensures { ComesTo P.cmp ⟦<Waiter<A> as Clone>⟧.is_clone J.capacity J.is_reserved C.calls
+            pass.old call ticket (ends (Ok result)) pass.new }
+    {
+        self.unlist(rt, pass, &call, ticket);
+        match call.now(self, rt, pass) {
+            Ok(reply) => reply,
+            Err(rest) => rest.refuse(),
+        }
+    }
+
+    // Waits no more under the ticket.
+    fn unlist<C: Attempt<T, P, Waiter<A>, J, A>, R: Wait>(
+        &self,
+        rt: &R,
+        pass: &mut Pass<T, P, Waiter<A>, J>,
+        call: &C,
+        ticket: Option<u64>,
+    )
+        ensures { (end : _) (later : _)
+            → ComesTo P.cmp ⟦<Waiter<A> as Clone>⟧.is_clone J.capacity J.is_reserved C.calls
+            pass.new call.now None (ends end) later
+            → ComesTo P.cmp ⟦<Waiter<A> as Clone>⟧.is_clone J.capacity J.is_reserved C.calls
+            pass.old call.now ticket (ends end) later }
+    {
+        let _ = call;
+        let Some(ticket) = ticket else {
+            return;
+        };
+        self.give_up(rt, pass, ticket);
     }
 }

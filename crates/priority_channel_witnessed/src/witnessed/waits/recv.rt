@@ -4,6 +4,7 @@ ghost use Rattle.priority_channel_witnessed.specs.Waits.{ends, recv_result, Come
 
 use crate::chronicle::Pass;
 use crate::witnessed::Witnessed;
+use crate::witnessed::waits::received_in_time;
 use priority_channel_chronicle::Recording;
 use priority_channel_core::errors::RecvFault;
 use priority_channel_waiting::timeouts::RecvTimeoutError;
@@ -64,7 +65,7 @@ impl<T, P: Ord, J: Recording, A: Allocator + Copy> Witnessed<T, P, Waiter<A>, J,
             ⟦<Waiter<A> as Clone>⟧.is_clone J.capacity J.is_reserved RecvCalls
             pass.old tt None (ends end) pass.new }
     {
-        self.recv_until(rt, pass, &Deadline::after(rt, timeout))
+        received_in_time(self.wait(rt, pass, (), &Deadline::after(rt, timeout)))
     }
 
     /// As `recv_timeout`, but waits no longer than until then.
@@ -78,22 +79,6 @@ impl<T, P: Ord, J: Recording, A: Allocator + Copy> Witnessed<T, P, Waiter<A>, J,
             ⟦<Waiter<A> as Clone>⟧.is_clone J.capacity J.is_reserved RecvCalls
             pass.old tt None (ends end) pass.new }
     {
-        self.recv_until(rt, pass, &Deadline::at(rt, deadline))
-    }
-
-    fn recv_until<R: Wait, C: Clock>(
-        &self,
-        rt: &R,
-        pass: &mut Pass<T, P, Waiter<A>, J>,
-        deadline: &Deadline<'_, C>,
-    ) -> Result<(T, P), RecvTimeoutError>
-        ensures { (end : _) × (result ≡ recv_result end) × ComesTo P.cmp
-            ⟦<Waiter<A> as Clone>⟧.is_clone J.capacity J.is_reserved RecvCalls
-            pass.old tt None (ends end) pass.new }
-    {
-        match self.wait(rt, pass, (), deadline) {
-            Ok(received) => Ok(received?),
-            Err(((), _overdue)) => Err(RecvTimeoutError::Timeout),
-        }
+        received_in_time(self.wait(rt, pass, (), &Deadline::at(rt, deadline)))
     }
 }

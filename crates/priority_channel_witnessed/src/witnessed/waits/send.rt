@@ -8,7 +8,7 @@ ghost use Rattle.priority_channel_witnessed.specs.Waits.{ends, send_result, Come
 
 use crate::chronicle::Pass;
 use crate::witnessed::Witnessed;
-use crate::witnessed::waits::in_time;
+use crate::witnessed::waits::sent_in_time;
 use priority_channel_chronicle::Recording;
 use priority_channel_core::calls::{Answer, Call, CorePoll};
 use priority_channel_core::errors::{SendFault, TrySendError};
@@ -67,7 +67,7 @@ impl<T, P: Ord, J: Recording, A: Allocator + Copy> Witnessed<T, P, Waiter<A>, J,
             pass.old (msg, priority) None (ends end) pass.new }
         ensures unsent { IfErr result (λ error. unsent_in_time error ≡ (msg, priority)) }
     {
-        in_time(self.wait(rt, pass, (msg, priority), &Deadline::after(rt, timeout)))
+        sent_in_time(self.wait(rt, pass, (msg, priority), &Deadline::after(rt, timeout)))
     }
 
     /// As `send_timeout`, but waits no longer than until then.
@@ -84,7 +84,7 @@ impl<T, P: Ord, J: Recording, A: Allocator + Copy> Witnessed<T, P, Waiter<A>, J,
             pass.old (msg, priority) None (ends end) pass.new }
         ensures unsent { IfErr result (λ error. unsent_in_time error ≡ (msg, priority)) }
     {
-        in_time(self.wait(rt, pass, (msg, priority), &Deadline::at(rt, deadline)))
+        sent_in_time(self.wait(rt, pass, (msg, priority), &Deadline::at(rt, deadline)))
     }
 
     // `try_send`, and wakes whom it hands out.

@@ -5,7 +5,7 @@ ghost use Rattle.priority_channel_witnessed.specs.Waits.{ends, send_result, Come
 use crate::chronicle::Pass;
 use crate::entry::Pairs;
 use crate::witnessed::Witnessed;
-use crate::witnessed::waits::in_time;
+use crate::witnessed::waits::sent_in_time;
 use priority_channel_chronicle::Recording;
 use priority_channel_core::errors::SendFault;
 use priority_channel_waiting::timeouts::SendTimeoutError;
@@ -59,7 +59,7 @@ impl<T: Drop, P: Ord + Drop, J: Recording, A: Allocator + Copy> Witnessed<T, P, 
             ⟦<Waiter<A> as Clone>⟧.is_clone J.capacity J.is_reserved SendvCalls
             pass.old msgs None (ends end) pass.new }
     {
-        in_time(self.wait(rt, pass, msgs, &Deadline::after(rt, timeout)))
+        sent_in_time(self.wait(rt, pass, msgs, &Deadline::after(rt, timeout)))
     }
 
     /// As `sendv_timeout`, but waits no longer than until then.
@@ -74,6 +74,6 @@ impl<T: Drop, P: Ord + Drop, J: Recording, A: Allocator + Copy> Witnessed<T, P, 
             ⟦<Waiter<A> as Clone>⟧.is_clone J.capacity J.is_reserved SendvCalls
             pass.old msgs None (ends end) pass.new }
     {
-        in_time(self.wait(rt, pass, msgs, &Deadline::at(rt, deadline)))
+        sent_in_time(self.wait(rt, pass, msgs, &Deadline::at(rt, deadline)))
     }
 }
