@@ -1,6 +1,6 @@
 -- The calls of a wait, and what comes back of a send.
 use Rattle.std.proofs.Common.{◌≡◌, ◌+◌, ℕ, Bool, List, [], ◌∷◌, ◌++◌, length, refl, sym, ap, subst, arith, length-append, append_assoc, ◌∙◌, Option, Some, None}
-use Rattle.std.specs.Prelude.{◌<◌, Result, Ok, Err, IfErr, IfSome, IsSomeAnd}
+use Rattle.std.specs.Prelude.{◌<◌, Result, Ok, Err, IfOk, IfErr, IfSome, IsSomeAnd}
 use Rattle.std.specs.declared.cmp.Ordering.{Ordering}
 use Rattle.std.specs.declared.vec.IntoIter.{IntoIter}
 use Rattle.std.specs.declared.iter.Ahead.{Ahead}
@@ -99,6 +99,14 @@ back_in_time (Ok (Ok done)) pair is = tt
 back_in_time (Ok (Err (fault.Closed e))) pair is = is
 back_in_time (Ok (Err (fault.Memory rest))) pair is = is
 back_in_time (Err rest) pair is = is
+
+module _ {T P W R X O : Type 0} (cmp : P → P → Ordering) (is_clone : W → W → Type 0) (capacity : ℕ) (is_reserved : Bool) (calls : X → Option ℕ → Calls T P W → Answers T P → Ending R X → Type 0)
+    (old new : Carried T P W) (own : X) (ticket : Option ℕ) where
+  -- a call that is the last
+  pub ok_last : (result : Result R O) → IfOk result (λ reply. Makes cmp is_clone capacity is_reserved (calls own ticket) old (ends (Ok reply)) new)
+      → IfOk result (λ reply. ComesTo cmp is_clone capacity is_reserved calls old own ticket (ends (Ok reply)) new)
+  ok_last (Ok reply) made = at_last made
+  ok_last (Err rest) made = tt
 
 -- what a future gives, and how it waits on, where it holds this
 module _ {T P W R X : Type 0} (cmp : P → P → Ordering) (is_clone : W → W → Type 0) (capacity : ℕ) (is_reserved : Bool) (calls : X → Option ℕ → Calls T P W → Answers T P → Ending R X → Type 0) (future : Underway (Carried T P W) X) (pass : Carried T P W) (own : X) where

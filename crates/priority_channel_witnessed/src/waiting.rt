@@ -191,10 +191,7 @@ impl<
         else {
             return Ok(channel.refuse_wait(rt, pass, call, self.ticket));
         };
-        match call.or_list(channel, rt, pass, self.ticket, waiter) {
-            Ok(reply) => Ok(reply),
-            Err(rest) => Err(rest),
-        }
+        call.or_list(channel, rt, pass, self.ticket, waiter)
     }
 }
 

@@ -156,7 +156,7 @@ impl<T, P: Ord, J: Recording, A: Allocator + Copy> Witnessed<T, P, Waiter<A>, J,
         }
     }
 
-    // The answer where no memory for a wait is to be had: that of a last try.
+    // The answer where memory for a wait is refused: that of a last try.
     pub(crate) fn refuse_wait<C: Attempt<T, P, Waiter<A>, J, A>, R: Wait>(
         &self,
         rt: &R,

@@ -5,19 +5,20 @@ use Rattle.priority_channel_witnessed.proofs.waiting.WaitsWaiterFuture.poll.Goal
 
 pub returns-in-Ok-clause-value : goal.returns-in-Ok-clause-value
 returns-in-Ok-clause-value g c =
-    rw (← c.self.view_is) (gives_of g.P.Ord.cmp _ _ _ _ _ c.in-Some.pass c.in-Some.call _ (search rules) c.in-Ok.ensures.answered)
+    gives_of g.P.Ord.cmp _ _ _ g.C.Attempt.calls c.args.self.now c.in-Some.pass c.in-Some.call _ (rw (← c.self.view_is) (search rules))
+    (rw (← c.self.view_is) c.in-Ok.ensures.answered)
 
 pub returns-in-Ok-list-clause-value : goal.returns-in-Ok-list-clause-value
 returns-in-Ok-list-clause-value g c =
-    rw (← c.self.view_is) (gives_of g.P.Ord.cmp _ _ _ _ _ c.in-Some.pass c.in-Some.call _ (search rules)
-    (c.in-Err.ensures.goes_on _ _ c.in-Ok-list.ensures.answered))
+    gives_of g.P.Ord.cmp _ _ _ g.C.Attempt.calls c.args.self.now c.in-Some.pass c.in-Some.call _ (rw (← c.self.view_is) (search rules))
+    (rw (← c.self.view_is) (c.in-Err.ensures.goes_on _ _ c.in-Ok-list.ensures.answered))
 
 pub returns-in-Err-list-clause-same : goal.returns-in-Err-list-clause-same
 returns-in-Err-list-clause-same g c = λ x more.
-    rw (← c.self.view_is) (gives_of g.P.Ord.cmp _ _ _ _ _ c.in-Some.pass c.in-Some.call x (search rules)
-    (c.in-Err.ensures.goes_on _ _ (before c.in-Err-list.ensures.listed more)))
+    gives_of g.P.Ord.cmp _ _ _ g.C.Attempt.calls c.args.self.now c.in-Some.pass c.in-Some.call x (rw (← c.self.view_is) (search rules))
+    (rw (← c.self.view_is) (c.in-Err.ensures.goes_on _ _ (before c.in-Err-list.ensures.listed more)))
 
 pub returns-in-Err-list-clause-waits : goal.returns-in-Err-list-clause-waits
 returns-in-Err-list-clause-waits g c =
-    rw (← c.self.view_is) (waits_of g.P.Ord.cmp _ _ _ _ _ c.in-Some.pass c.in-Some.call _ (search rules)
-    (c.in-Err.ensures.goes_on _ _ (at_last c.in-Err-list.ensures.listed)))
+    waits_of g.P.Ord.cmp _ _ _ g.C.Attempt.calls c.args.self.now c.in-Some.pass c.in-Some.call _ (rw (← c.self.view_is) (search rules))
+    (rw (← c.self.view_is) (c.in-Err.ensures.goes_on _ _ (at_last c.in-Err-list.ensures.listed)))

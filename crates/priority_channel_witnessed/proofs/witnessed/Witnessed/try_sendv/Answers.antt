@@ -7,6 +7,6 @@ enter-requires g c =
       step = rw (c.of-kept_msgs.ensures, c.of.ensures, c.of-2.ensures) (
         c.kept.inside.core.state,
         c.kept.invariant,
-        sends_list g.P.Ord.cmp g.W.Clone.is_clone _ _ _ _ _ c.try_sendv-sent.ensures.step,
+        sends_list g.P.Ord.cmp g.W.Clone.is_clone _ _ _ _ _ c.try_sendv-answer.ensures.step,
       );
     }
