@@ -23,7 +23,7 @@ use Rattle.priority_channel_witnessed.specs.History.{entry}
 use Rattle.priority_channel_witnessed.specs.declared.entry.Entry.{Entry}
 use Rattle.priority_channel_witnessed.specs.Items.{list_in, listed, listed_poll}
 use Rattle.priority_channel_witnessed.specs.Passes.{Carried, IsTold, Tells}
-use Rattle.priority_channel_witnessed.specs.Waits.{Ending, ends, left, Underway, Makes, ComesTo, at_last, before, gave_up, Gives, WaitsOn, IsBack, Tried, send_result, polled_to, SendCalls, SendvCalls}
+use Rattle.priority_channel_witnessed.specs.Waits.{Ending, ends, left, Underway, Makes, ComesTo, at_last, before, gave_up, Gives, IsBack, Tried, send_result, polled_to, SendCalls, SendvCalls}
 use Rattle.priority_channel_witnessed.proofs.Histories.{told_step}
 
 -- who gets the only pair back gets that pair
@@ -108,16 +108,14 @@ module _ {T P W R X O : Type 0} (cmp : P → P → Ordering) (is_clone : W → W
   ok_last (Ok reply) made = at_last made
   ok_last (Err rest) made = tt
 
--- what a future gives, and how it waits on, where it holds this
+-- what a future gives, where it holds this
 module _ {T P W R X : Type 0} (cmp : P → P → Ordering) (is_clone : W → W → Type 0) (capacity : ℕ) (is_reserved : Bool) (calls : X → Option ℕ → Calls T P W → Answers T P → Ending R X → Type 0) (future : Underway (Carried T P W) X) (pass : Carried T P W) (own : X) where
   pub gives_of : (given : R × Carried T P W) → future.holds ≡ Some (pass, own)
       → ComesTo cmp is_clone capacity is_reserved calls pass own future.ticket (ends (Ok given.0)) given.1 → Gives cmp is_clone capacity is_reserved calls future given
   gives_of given is comes = rw is comes
 
-  pub waits_of : (later : Underway (Carried T P W) X) → future.holds ≡ Some (pass, own)
-      → IsSomeAnd later.holds (λ after. IsSomeAnd later.ticket (λ at. ComesTo cmp is_clone capacity is_reserved calls pass own future.ticket (left after.1 (Some at)) after.0))
-      → WaitsOn cmp is_clone capacity is_reserved calls future later
-  waits_of later is comes = rw is comes
+pub if_held : {A : Type 0} (held : Option A) (x : A) (P : A → Type 0) → held ≡ Some x → P x → IfSome held P
+if_held held x P is so = rw is so
 
 -- what is told after a call is told from before it
 module _ {T P W : Type 0} (cmp : P → P → Ordering) (is_clone : W → W → Type 0) (capacity : ℕ) (is_reserved : Bool) (old mid new : Carried T P W) where

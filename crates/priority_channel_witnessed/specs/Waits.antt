@@ -25,14 +25,14 @@ use Rattle.priority_channel_waiting.specs.Waits.{recv_fault_in_time, send_fault_
 use Rattle.priority_channel_witnessed.specs.Items.{list_in, listed, listed_poll}
 use Rattle.priority_channel_witnessed.specs.Passes.{Carried, Tells}
 
--- A wait ended, with its reply, or with what is left where its time is over. Or this is left, and
--- listed under this ticket, if any.
+-- A wait has ended, with its reply, or with what is left where its time is over. Or this is left,
+-- and listed under this ticket, if any.
 pub data Ending (R X : Type 0) : Type 0 where
   ends : Result R X → Ending R X
   left : X → Option ℕ → Ending R X
 
--- A future: until its answer its pass and what is left, its ticket once it is listed, and the source
--- of its wakes.
+-- A future: its pass and what is left, until its answer; its ticket, once it is listed; and the
+-- source of its wakes.
 pub record Underway (S X : Type 0) : Type 0 where
   pub holds : Option (S × X)
   pub ticket : Option ℕ
@@ -126,8 +126,8 @@ module _ {T P W : Type 0} (cmp : P → P → Ordering) (is_clone : W → W → T
 
   module _ {R X : Type 0}
       (calls : X → Option ℕ → Calls T P W → Answers T P → Ending R X → Type 0) where
-    -- The calls of a wait, all that the pass made: what one leaves the next one is for, and the
-    -- last one comes to this. A wait that ends may give its ticket up before.
+    -- The calls of a wait, all that the pass made: what one leaves is for the next one, and the
+    -- last one comes to this. Only a wait that ends gives its ticket up.
     pub data ComesTo : Carried T P W → X → Option ℕ → Ending R X → Carried T P W → Type 0 where
       at_last : {old new : Carried T P W} {own : X} {ticket : Option ℕ} {ending : Ending R X}
           → Makes (calls own ticket) old ending new

@@ -1,9 +1,11 @@
 //! What can be called again and again until it is answered: a receive, a send, a bulk send.
 ghost use Rattle.std.specs.Prelude.{◌≡◌, ℕ, Option, Some, None, Ok, Err, IfOk, IfErr};
 ghost use Rattle.priority_channel_core.specs.declared.errors.TrySendError.TheVariants.{Full};
+ghost use Rattle.priority_channel_core.specs.declared.calls.Call.TheVariants as call;
 ghost use Rattle.priority_channel_core.specs.declared.errors.SendFault.TheVariants as fault;
 ghost use Rattle.priority_channel_core.specs.machine.Polls.{send_answer};
 ghost use Rattle.priority_channel_core.specs.machine.Step.{Calls, Answers};
+ghost use Rattle.priority_channel_witnessed.specs.Passes.{Tells};
 ghost use Rattle.priority_channel_witnessed.specs.Waits.{Ending, ends, left, Makes, Tried};
 
 use crate::chronicle::Pass;
@@ -26,6 +28,9 @@ pub trait Attempt<T, P: Ord, W: Clone, J: Recording, A: Allocator + Copy>: Sized
 
     // What a call of the channel comes to, where this is left and listed under that ticket.
     ghost calls: { Self → Option ℕ → Calls T P W → Answers T P → Ending Self.Reply Self → Type 0 };
+
+    // The call by which it is tried.
+    ghost tries: { Self → Calls T P W };
 
     // The reply where memory for a wait is refused.
     ghost no_memory: { Self → Self.Reply };
@@ -51,7 +56,9 @@ pub trait Attempt<T, P: Ord, W: Clone, J: Recording, A: Allocator + Copy>: Sized
         ensures refused { IfErr result (λ rest. Makes P.cmp W.is_clone J.capacity J.is_reserved
             (calls self None) pass.old (ends (Ok (no_memory rest))) pass.new) }
         ensures goes_on { IfErr result (λ rest. Makes P.cmp W.is_clone J.capacity J.is_reserved
-            (calls self None) pass.old (left rest None) pass.new) };
+            (calls self None) pass.old (left rest None) pass.new) }
+        ensures tried { (reply : _) × (handed : _) × Tells P.cmp W.is_clone J.capacity J.is_reserved
+            pass.old (tries self) reply handed pass.new };
 
     /// A poll, which gives back what is left, and the ticket under which that is listed.
     fn or_list<R: Wait>(
@@ -76,6 +83,8 @@ impl<T, P: Ord, J: Recording, A: Allocator + Copy> Attempt<T, P, Waiter<A>, J, A
     type Reply = Result<(T, P), RecvFault>;
 
     ghost calls = { RecvCalls };
+
+    ghost tries = { λ _. call.TryRecv };
 
     ghost no_memory = { λ _. Err Memory };
 
@@ -128,6 +137,8 @@ impl<T, P: Ord, J: Recording, A: Allocator + Copy> Attempt<T, P, Waiter<A>, J, A
 
     ghost calls = { SendCalls };
 
+    ghost tries = { λ pair. call.TrySend pair.0 pair.1 };
+
     ghost no_memory = { λ pair. Err (fault.Memory pair) };
 
     ghost woken_at = { λ room _. room };
@@ -166,11 +177,14 @@ impl<T, P: Ord, J: Recording, A: Allocator + Copy> Attempt<T, P, Waiter<A>, J, A
 
 impl<T: Drop, P: Ord + Drop, J: Recording, A: Allocator + Copy> Attempt<T, P, Waiter<A>, J, A>
     for Pairs<T, P, A> {
+    ghost use Rattle.priority_channel_witnessed.specs.Items.{list_in};
     ghost use Rattle.priority_channel_witnessed.specs.Waits.{SendvCalls};
 
     type Reply = Result<(), SendFault<Pairs<T, P, A>>>;
 
     ghost calls = { SendvCalls };
+
+    ghost tries = { λ msgs. call.TrySendv (list_in msgs) };
 
     ghost no_memory = { λ msgs. Err (fault.Memory msgs) };
 

@@ -175,8 +175,8 @@ impl<
         ensures answered { IfOk result (λ reply. ComesTo P.cmp ⟦<Waiter<A> as Clone>⟧.is_clone
             J.capacity J.is_reserved C.calls pass.old call self.old.ticket (ends (Ok reply))
             pass.new) }
-        ensures listed { IfErr result (λ rest. Makes P.cmp ⟦<Waiter<A> as Clone>⟧.is_clone J.capacity
-            J.is_reserved (C.calls call self.old.ticket) pass.old
+        ensures listed { IfErr result (λ rest. Makes P.cmp ⟦<Waiter<A> as Clone>⟧.is_clone
+            J.capacity J.is_reserved (C.calls call self.old.ticket) pass.old
             (left rest.0 (Some rest.1)) pass.new) }
         ensures registered { IfErr result (λ _. Covers cx.new (λ source.
             source ≡ self.new.source)) }

@@ -21,8 +21,8 @@ use std::alloc::{AllocError, Allocator, Global};
 use std::snapshot::Snapshot;
 use std::sync::{Mutex, Wait};
 
-// A call of the core and its entry, in one hold of the lock. The entry tells what the call was given,
-// in the snapshots `$kept`, and what it answered.
+// A call of the core and its entry, in one hold of the lock. The entry tells what the call was
+// given, as `$kept`, and what it answered.
 macro_rules! call {
     ($channel:ident, $rt:ident, $pass:ident; $call:ident($($given:expr),*)
         => $told:ident($($kept:expr),*)) => {{

@@ -15,6 +15,7 @@
 //! That a wake arrives is no part of a contract, nor is the time: both are tested. A thread that
 //! waits takes memory for its waiter and for its place in the list.
 ghost use Rattle.std.specs.Prelude.{◌≡◌, Some, None, Ok, IfOk, IfErr};
+ghost use Rattle.priority_channel_witnessed.specs.Passes.{Tells};
 ghost use Rattle.priority_channel_witnessed.specs.Waits.{ends, without_evidence, recv_result, send_result, ComesTo};
 
 use crate::attempt::Attempt;
@@ -79,6 +80,24 @@ impl<T, P: Ord, J: Recording, A: Allocator + Copy> Witnessed<T, P, Waiter<A>, J,
                     Err(_) => Ok(rest.refuse()),
                 }
             }
+        }
+    }
+
+    // A try, where there is no time to wait.
+    fn at_once<C: Attempt<T, P, Waiter<A>, J, A>, R: Wait>(
+        &self,
+        rt: &R,
+        pass: &mut Pass<T, P, Waiter<A>, J>,
+        call: C,
+    ) -> Result<C::Reply, (C, ())>
+        ensures ended { ComesTo P.cmp ⟦<Waiter<A> as Clone>⟧.is_clone J.capacity J.is_reserved
+            C.calls pass.old call None (ends (without_evidence result)) pass.new }
+        ensures tried { (reply : _) × (handed : _) × Tells P.cmp ⟦<Waiter<A> as Clone>⟧.is_clone
+            J.capacity J.is_reserved pass.old (C.tries call) reply handed pass.new }
+    {
+        match call.now(self, rt, pass) {
+            Ok(reply) => Ok(reply),
+            Err(rest) => Err((rest, ())),
         }
     }
 

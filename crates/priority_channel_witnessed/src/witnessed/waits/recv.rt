@@ -1,11 +1,14 @@
 //! Receiving a pair on a thread that waits for it.
 ghost use Rattle.std.specs.Prelude.{◌≡◌, Ok, None};
+ghost use Rattle.std.specs.Duration.{as_nanos};
+ghost use Rattle.priority_channel_witnessed.specs.Passes.{Tells};
 ghost use Rattle.priority_channel_witnessed.specs.Waits.{ends, recv_result, ComesTo, RecvCalls};
 
 use crate::chronicle::Pass;
 use crate::witnessed::Witnessed;
 use crate::witnessed::waits::received_in_time;
 use priority_channel_chronicle::Recording;
+use priority_channel_core::calls::Call;
 use priority_channel_core::errors::RecvFault;
 use priority_channel_waiting::timeouts::RecvTimeoutError;
 use priority_channel_waiting::until::{Deadline, Endless};
@@ -61,10 +64,16 @@ impl<T, P: Ord, J: Recording, A: Allocator + Copy> Witnessed<T, P, Waiter<A>, J,
         pass: &mut Pass<T, P, Waiter<A>, J>,
         timeout: Duration,
     ) -> Result<(T, P), RecvTimeoutError>
-        ensures { (end : _) × (result ≡ recv_result end) × ComesTo P.cmp
+        ensures told { (end : _) × (result ≡ recv_result end) × ComesTo P.cmp
             ⟦<Waiter<A> as Clone>⟧.is_clone J.capacity J.is_reserved RecvCalls
             pass.old tt None (ends end) pass.new }
+        ensures at_once { as_nanos timeout ≡ 0 → (reply : _) × (handed : _) × Tells P.cmp
+            ⟦<Waiter<A> as Clone>⟧.is_clone J.capacity J.is_reserved pass.old
+            Call.TryRecv reply handed pass.new }
     {
+        if timeout.is_zero() {
+            return received_in_time(self.at_once(rt, pass, ()));
+        }
         received_in_time(self.wait(rt, pass, (), &Deadline::after(rt, timeout)))
     }
 

@@ -1,5 +1,6 @@
 //! Sending a pair on a thread that waits for room.
 ghost use Rattle.std.specs.Prelude.{◌≡◌, Ok, None, IfErr, IfSome};
+ghost use Rattle.std.specs.Duration.{as_nanos};
 ghost use Rattle.priority_channel_core.specs.Errors.{rest_of, unsent};
 ghost use Rattle.priority_channel_core.specs.code.Replies.{kept_by};
 ghost use Rattle.priority_channel_waiting.specs.Waits.{unsent_in_time};
@@ -66,7 +67,13 @@ impl<T, P: Ord, J: Recording, A: Allocator + Copy> Witnessed<T, P, Waiter<A>, J,
             ⟦<Waiter<A> as Clone>⟧.is_clone J.capacity J.is_reserved SendCalls
             pass.old (msg, priority) None (ends end) pass.new }
         ensures unsent { IfErr result (λ error. unsent_in_time error ≡ (msg, priority)) }
+        ensures at_once { as_nanos timeout ≡ 0 → (reply : _) × (handed : _) × Tells P.cmp
+            ⟦<Waiter<A> as Clone>⟧.is_clone J.capacity J.is_reserved pass.old
+            (Call.TrySend msg priority) reply handed pass.new }
     {
+        if timeout.is_zero() {
+            return sent_in_time(self.at_once(rt, pass, (msg, priority)));
+        }
         sent_in_time(self.wait(rt, pass, (msg, priority), &Deadline::after(rt, timeout)))
     }
 

@@ -1,5 +1,8 @@
 //! Sending many pairs on a thread that waits for room.
 ghost use Rattle.std.specs.Prelude.{◌≡◌, Ok, None};
+ghost use Rattle.std.specs.Duration.{as_nanos};
+ghost use Rattle.priority_channel_witnessed.specs.Items.{list_in};
+ghost use Rattle.priority_channel_witnessed.specs.Passes.{Tells};
 ghost use Rattle.priority_channel_witnessed.specs.Waits.{ends, send_result, ComesTo, SendvCalls};
 
 use crate::chronicle::Pass;
@@ -7,6 +10,7 @@ use crate::entry::Pairs;
 use crate::witnessed::Witnessed;
 use crate::witnessed::waits::sent_in_time;
 use priority_channel_chronicle::Recording;
+use priority_channel_core::calls::Call;
 use priority_channel_core::errors::SendFault;
 use priority_channel_waiting::timeouts::SendTimeoutError;
 use priority_channel_waiting::until::{Deadline, Endless};
@@ -55,10 +59,16 @@ impl<T: Drop, P: Ord + Drop, J: Recording, A: Allocator + Copy> Witnessed<T, P, 
         msgs: Pairs<T, P, A>,
         timeout: Duration,
     ) -> Result<(), SendTimeoutError<Pairs<T, P, A>>>
-        ensures { (end : _) × (result ≡ send_result end) × ComesTo P.cmp
+        ensures told { (end : _) × (result ≡ send_result end) × ComesTo P.cmp
             ⟦<Waiter<A> as Clone>⟧.is_clone J.capacity J.is_reserved SendvCalls
             pass.old msgs None (ends end) pass.new }
+        ensures at_once { as_nanos timeout ≡ 0 → (reply : _) × (handed : _) × Tells P.cmp
+            ⟦<Waiter<A> as Clone>⟧.is_clone J.capacity J.is_reserved pass.old
+            (Call.TrySendv (list_in msgs)) reply handed pass.new }
     {
+        if timeout.is_zero() {
+            return sent_in_time(self.at_once(rt, pass, msgs));
+        }
         sent_in_time(self.wait(rt, pass, msgs, &Deadline::after(rt, timeout)))
     }
 
