@@ -1,6 +1,6 @@
 -- The calls of a wait, and what comes back of a send.
-use Rattle.std.proofs.Common.{◌≡◌, ◌+◌, ℕ, Bool, List, [], ◌∷◌, ◌++◌, length, refl, sym, ap, subst, arith, length-append, append_assoc, ◌∙◌, Option, Some, None}
-use Rattle.std.specs.Prelude.{◌<◌, Result, Ok, Err, IfOk, IfErr, IfSome, IsSomeAnd}
+use Rattle.std.proofs.Common.{◌≡◌, ℕ, Bool, List, [], ◌∷◌, ◌++◌, length, refl, sym, ap, subst, arith, length-append, append_assoc, ◌∙◌, Option, Some, None}
+use Rattle.std.specs.Prelude.{◌<◌, Result, Ok, Err, IfOk, IfErr, IfSome}
 use Rattle.std.specs.declared.cmp.Ordering.{Ordering}
 use Rattle.std.specs.declared.vec.IntoIter.{IntoIter}
 use Rattle.std.specs.declared.iter.Ahead.{Ahead}
@@ -23,7 +23,7 @@ use Rattle.priority_channel_witnessed.specs.History.{entry}
 use Rattle.priority_channel_witnessed.specs.declared.entry.Entry.{Entry}
 use Rattle.priority_channel_witnessed.specs.Items.{list_in, listed, listed_poll}
 use Rattle.priority_channel_witnessed.specs.Passes.{Carried, IsTold, Tells}
-use Rattle.priority_channel_witnessed.specs.Waits.{Ending, ends, left, Underway, Makes, ComesTo, at_last, before, gave_up, Gives, IsBack, Tried, send_result, polled_to, SendCalls, SendvCalls}
+use Rattle.priority_channel_witnessed.specs.Waits.{Ending, ends, Underway, Makes, ComesTo, at_last, before, gave_up, Gives, IsBack, Tried, send_result, polled_to, SendCalls, SendvCalls}
 use Rattle.priority_channel_witnessed.proofs.Histories.{told_step}
 
 -- who gets the only pair back gets that pair
