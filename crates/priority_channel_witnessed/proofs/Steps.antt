@@ -1,5 +1,5 @@
 -- What was told of one call, as a fact about the state in which it was made.
-use Rattle.std.proofs.Common.{◌≡◌, ℕ, Bool, [], ◌∷◌, ap, arith, length, length-append, Result, Ok, Err}
+use Rattle.std.proofs.Common.{ℕ, Bool, [], ◌∷◌, ap, arith, length, length-append, Result, Ok, Err}
 use Rattle.std.specs.Prelude.{IfOk}
 use Rattle.std.specs.declared.cmp.Ordering.{Ordering}
 use Rattle.priority_channel_core.specs.declared.errors.TryRecvError.{TryRecvError}

@@ -1,6 +1,6 @@
--- What a pass is told over the calls of a wait.
-use Rattle.std.proofs.Common.{◌≡◌, ◌+◌, ℕ, Bool, List, [], ◌∷◌, ◌++◌, length, refl, sym, subst, ap, arith, length-append, append_assoc, ◌∙◌, Option}
-use Rattle.std.specs.Prelude.{◌<◌, Some, Result, Ok, Err, IfOk, IfErr, IfSome}
+-- The calls of a wait, and what comes back of a send.
+use Rattle.std.proofs.Common.{◌≡◌, ℕ, Bool, List, [], ◌∷◌, ◌++◌, length, refl, sym, ap, subst, arith, length-append, append_assoc, ◌∙◌, Option, Some, None}
+use Rattle.std.specs.Prelude.{◌<◌, Result, Ok, Err, IfOk, IfErr, IfSome}
 use Rattle.std.specs.declared.cmp.Ordering.{Ordering}
 use Rattle.std.specs.declared.vec.IntoIter.{IntoIter}
 use Rattle.std.specs.declared.iter.Ahead.{Ahead}
@@ -9,25 +9,21 @@ use Rattle.priority_channel_core.specs.declared.errors.TrySendError.TheVariants.
 use Rattle.priority_channel_core.specs.declared.errors.SendFault.{SendFault}
 use Rattle.priority_channel_core.specs.declared.errors.SendFault.TheVariants as fault
 use Rattle.priority_channel_core.specs.Errors.{rest_of}
-use Rattle.priority_channel_waiting.specs.declared.timeouts.SendTimeoutError.{SendTimeoutError}
-use Rattle.priority_channel_waiting.specs.declared.timeouts.SendTimeoutError.TheVariants as late
+use Rattle.priority_channel_core.specs.machine.Polls.{send_answer}
+use Rattle.priority_channel_waiting.specs.Waits.{unsent_in_time}
 use Rattle.priority_channel_core.specs.declared.calls.Call.TheVariants as call
 use Rattle.priority_channel_core.specs.declared.calls.Answer.TheVariants as answer
 use Rattle.priority_channel_core.specs.declared.calls.CorePoll.{CorePoll}
-use Rattle.priority_channel_core.specs.declared.calls.CorePoll.TheVariants.{Ready, Pending}
 use Rattle.priority_channel_core.specs.code.Replies.{kept_by}
 use Rattle.priority_channel_core.specs.machine.State.{State, Handed}
 use Rattle.priority_channel_core.specs.machine.Sends.{as_list, Sends}
 use Rattle.priority_channel_core.specs.machine.Step.{Calls, Answers}
 use Rattle.priority_channel_core.proofs.Polls.{kept_callable}
 use Rattle.priority_channel_witnessed.specs.History.{entry}
+use Rattle.priority_channel_witnessed.specs.declared.entry.Entry.{Entry}
 use Rattle.priority_channel_witnessed.specs.Items.{list_in, listed, listed_poll}
 use Rattle.priority_channel_witnessed.specs.Passes.{Carried, IsTold, Tells}
-use Rattle.priority_channel_witnessed.specs.Waits.{AnswersTry, AnswersSendv, Leaves, IsAnswered, HasCalled, IsSentOn, at_last, before, listed_in_time, send_in_time}
-use mathlib.Core.List.{IsPrefix}
-use Rattle.priority_channel_witnessed.specs.declared.entry.Entry.{Entry}
-use Rattle.priority_channel_witnessed.specs.Futures.{Ending, answered, blocked, SendsAll}
-use Rattle.priority_channel_witnessed.specs.Futures as waits
+use Rattle.priority_channel_witnessed.specs.Waits.{Ending, ends, Underway, Makes, ComesTo, at_last, before, gave_up, Gives, IsBack, Tried, send_result, polled_to, SendCalls, SendvCalls}
 use Rattle.priority_channel_witnessed.proofs.Histories.{told_step}
 
 -- who gets the only pair back gets that pair
@@ -60,119 +56,107 @@ module _ {T P W : Type 0} where
         let moves = next.step.moves in
         kept_callable (λ kept. kept ≡ (msg, priority)) moves.reply moves.ticket polled (back_is next.old moves.mid msg priority moves.reply handed moves.tried) moves.answered
 
+abbrev Msgs : Type 0 → Type 0 → Type 0 → Type 0
+Msgs T P Z = Ahead (IntoIter (T × P) Z) (T × P)
+
+-- a bulk send's try and its poll are calls of its wait
+module _ {T P Z W : Type 0} (cmp : P → P → Ordering) (is_clone : W → W → Type 0) (capacity : ℕ) (is_reserved : Bool) (old new : Carried T P W) (msgs : Msgs T P Z) (handed : Handed W) where
+  pub tries_on : (ending : Msgs T P Z → Ending (Result (Unit {0}) (SendFault (Msgs T P Z))) (Msgs T P Z)) (reply : Result (Unit {0}) (TrySendError (Msgs T P Z)))
+      (result : Result (Result (Unit {0}) (SendFault (Msgs T P Z))) (Msgs T P Z))
+      → Tells cmp is_clone capacity is_reserved old (call.TrySendv (list_in msgs)) (answer.TrySendv (listed reply)) handed new
+      → IfErr result (λ rest. Tried send_answer (λ blocked. Err (Full blocked)) reply (ending rest))
+      → IfErr result (λ rest. Makes cmp is_clone capacity is_reserved (SendvCalls msgs None) old (ending rest) new)
+  tries_on ending reply (Ok sent) told tried = tt
+  tries_on ending reply (Err rest) told tried = record {
+    made = call.TrySendv (list_in msgs);
+    reply = answer.TrySendv (listed reply);
+    handed = handed;
+    told = told;
+    comes = (refl, refl, (reply, refl, tried));
+  }
+
+  pub polls_all : (ticket : Option ℕ) (waker : W) (polled : CorePoll (Result (Unit {0}) (SendFault (Msgs T P Z))) (Msgs T P Z)) (ending : Ending (Result (Unit {0}) (SendFault (Msgs T P Z))) (Msgs T P Z))
+      → Tells cmp is_clone capacity is_reserved old (call.PollSendv (list_in msgs) ticket waker) (answer.PollSendv (listed_poll polled)) handed new → ending ≡ polled_to polled
+      → Makes cmp is_clone capacity is_reserved (SendvCalls msgs ticket) old ending new
+  polls_all ticket waker polled ending told is = record {
+    made = call.PollSendv (list_in msgs) ticket waker;
+    reply = answer.PollSendv (listed_poll polled);
+    handed = handed;
+    told = told;
+    comes = (refl, refl, (polled, refl, is));
+  }
+
+-- what comes back of a wait to send a pair is the pair
 module _ {T P W : Type 0} (cmp : P → P → Ordering) (is_clone : W → W → Type 0) (capacity : ℕ) (is_reserved : Bool) where
-  -- a bulk send that waits has made a call
-  pub sent_on_called : {old new : Carried T P W} {pairs : List (T × P)} {result : Result (Unit {0}) (SendTimeoutError (List (T × P)))}
-      → IsSentOn cmp is_clone capacity is_reserved old pairs result new → HasCalled old new (IsSentOn cmp is_clone capacity is_reserved old pairs result new)
-  sent_on_called (at_last told answers) =
-      record { number = told.number; counted = omega (arith, told.counted); told = at_last told answers }
-  sent_on_called (before told leaves more) =
-      let later = sent_on_called more in
-      record { number = later.number ∙ told.number; counted = omega (arith, told.counted, later.counted); told = before told leaves more }
+  pub comes_back : {old new : Carried T P W} {pair : T × P} {ticket : Option ℕ} {ending : Ending (Result (Unit {0}) (SendFault (T × P))) (T × P)}
+      → ComesTo cmp is_clone capacity is_reserved SendCalls old pair ticket ending new → IsBack pair ending
+  comes_back (at_last made) = made.comes.0
+  comes_back {ending = ending} (before made more) = subst (λ (p : T × P). IsBack p ending) made.comes.0 (comes_back more)
+  comes_back (gave_up told more) = comes_back more
 
--- what a call with a limit returns is what its wait came to
-module _ {T P Z W O : Type 0} (cmp : P → P → Ordering) (is_clone : W → W → Type 0) (capacity : ℕ) (is_reserved : Bool) (old new : Carried T P W) (pairs : List (T × P)) where
-  pub sent_in_time : (waited : Result (Result (Unit {0}) (SendFault (Ahead (IntoIter (T × P) Z) (T × P)))) (Ahead (IntoIter (T × P) Z) (T × P) × O))
-      (result : Result (Unit {0}) (SendTimeoutError (Ahead (IntoIter (T × P) Z) (T × P))))
-      → IfOk waited (λ reply. HasCalled old new (IsSentOn cmp is_clone capacity is_reserved old pairs (listed_in_time (send_in_time reply)) new))
-      → IfErr waited (λ rest. HasCalled old new (IsSentOn cmp is_clone capacity is_reserved old pairs (Err (late.Timeout (list_in rest.0))) new))
-      → IfOk waited (λ reply. send_in_time reply ≡ result) → IfErr waited (λ rest. result ≡ Err (late.Timeout rest.0))
-      → HasCalled old new (IsSentOn cmp is_clone capacity is_reserved old pairs (listed_in_time result) new)
-  sent_in_time (Ok reply) result sent over is gone =
-      subst (λ r. HasCalled old new (IsSentOn cmp is_clone capacity is_reserved old pairs (listed_in_time r) new)) is sent
-  sent_in_time (Err rest) result gone over none is =
-      subst (λ r. HasCalled old new (IsSentOn cmp is_clone capacity is_reserved old pairs (listed_in_time r) new)) (sym is) over
+pub back_in_time : {Q : Type 0} (end : Result (Result (Unit {0}) (SendFault Q)) Q) (pair : Q) → IsBack pair (ends end) → IfErr (send_result end) (λ error. unsent_in_time error ≡ pair)
+back_in_time (Ok (Ok done)) pair is = tt
+back_in_time (Ok (Err (fault.Closed e))) pair is = is
+back_in_time (Ok (Err (fault.Memory rest))) pair is = is
+back_in_time (Err rest) pair is = is
 
-module _ {T P Z W : Type 0} where
-  ready_answers : (pairs : List (T × P)) (ticket : Option ℕ) (waker : W) (sent : Result (Unit {0}) (SendFault (Ahead (IntoIter (T × P) Z) (T × P))))
-      → AnswersSendv pairs (listed_in_time (send_in_time sent)) (call.PollSendv pairs ticket waker) (answer.PollSendv (listed_poll (Ready sent)))
-  ready_answers pairs ticket waker (Ok done) = (refl, refl)
-  ready_answers pairs ticket waker (Err (fault.Closed e)) = (refl, refl)
-  ready_answers pairs ticket waker (Err (fault.Memory rest)) = (refl, refl)
+module _ {T P W R X O : Type 0} (cmp : P → P → Ordering) (is_clone : W → W → Type 0) (capacity : ℕ) (is_reserved : Bool) (calls : X → Option ℕ → Calls T P W → Answers T P → Ending R X → Type 0)
+    (old new : Carried T P W) (own : X) (ticket : Option ℕ) where
+  -- a call that is the last
+  pub ok_last : (result : Result R O) → IfOk result (λ reply. Makes cmp is_clone capacity is_reserved (calls own ticket) old (ends (Ok reply)) new)
+      → IfOk result (λ reply. ComesTo cmp is_clone capacity is_reserved calls old own ticket (ends (Ok reply)) new)
+  ok_last (Ok reply) made = at_last made
+  ok_last (Err rest) made = tt
 
--- What is told after a call is told from before it.
-module _ {T P W : Type 0} (cmp : P → P → Ordering) (is_clone : W → W → Type 0) (capacity : ℕ) (is_reserved : Bool) (old mid : Carried T P W) where
-  answered_later : (new : Carried T P W) (answers_so : Calls T P W → Answers T P → Type 0) → mid.number ≡ old.number → old.count < mid.count → IsPrefix old.seen mid.seen
-      → IsAnswered cmp is_clone capacity is_reserved mid answers_so new → IsAnswered cmp is_clone capacity is_reserved old answers_so new
-  answered_later new answers_so number counted front last_told =
-      let told = last_told.told in
+-- what a future gives, where it holds this
+module _ {T P W R X : Type 0} (cmp : P → P → Ordering) (is_clone : W → W → Type 0) (capacity : ℕ) (is_reserved : Bool) (calls : X → Option ℕ → Calls T P W → Answers T P → Ending R X → Type 0) (future : Underway (Carried T P W) X) (pass : Carried T P W) (own : X) where
+  pub gives_of : (given : R × Carried T P W) → future.holds ≡ Some (pass, own)
+      → ComesTo cmp is_clone capacity is_reserved calls pass own future.ticket (ends (Ok given.0)) given.1 → Gives cmp is_clone capacity is_reserved calls future given
+  gives_of given is comes = rw is comes
+
+pub if_held : {A : Type 0} (held : Option A) (x : A) (P : A → Type 0) → held ≡ Some x → P x → IfSome held P
+if_held held x P is so = rw is so
+
+-- what is told after a call is told from before it
+module _ {T P W : Type 0} (cmp : P → P → Ordering) (is_clone : W → W → Type 0) (capacity : ℕ) (is_reserved : Bool) (old mid new : Carried T P W) where
+  told_later : (made last_made : Calls T P W) (reply last_reply : Answers T P) (handed last_handed : Handed W)
+      → Tells cmp is_clone capacity is_reserved old made reply handed mid
+      → IsTold cmp is_clone capacity is_reserved mid (entry mid.number last_made last_reply last_handed) new
+      → IsTold cmp is_clone capacity is_reserved old (entry old.number last_made last_reply last_handed) new
+  told_later made last_made reply last_reply handed last_handed first told =
+      let number = first.number in
+      let own : List (Entry T P W) = entry old.number made reply handed ∷ [] in
+      let between = first.told.between ++ own in
+      let begun : mid.seen ≡ old.seen ++ between = first.told.seen ∙ append_assoc old.seen first.told.between own in
       record {
-        number = last_told.number ∙ number;
-        counted = omega (arith, counted, last_told.counted);
-        made = last_told.made;
-        reply = last_told.reply;
-        handed = last_told.handed;
-        told = record {
-          between = front.0 ++ told.between;
-          seen = let whole = told.seen in let begun = front.1 in let assoc = append_assoc old.seen front.0 told.between in cc;
-          legal = told.legal;
-          counted = told.counted;
-        };
-        answers = last_told.answers;
+        between = between ++ told.between;
+        seen = let whole = told.seen in let assoc = append_assoc old.seen between told.between in cc;
+        legal = told.legal;
+        counted = told.counted;
       }
 
-  told_later : (new : Carried T P W) (made : Calls T P W) (reply : Answers T P) (handed : Handed W) (answers_so : Calls T P W → Answers T P → Type 0)
-      → Tells cmp is_clone capacity is_reserved old made reply handed mid
-      → IsAnswered cmp is_clone capacity is_reserved mid answers_so new → IsAnswered cmp is_clone capacity is_reserved old answers_so new
-  told_later new made reply handed answers_so first last_told =
-      let told = first.told in
-      let last : List (Entry T P W) = entry old.number made reply handed ∷ [] in
-      answered_later new answers_so first.number (omega (arith, first.counted)) (told.between ++ last, sym (append_assoc old.seen told.between last) ∙ sym told.seen) last_told
+module _ {T P W R X : Type 0} (cmp : P → P → Ordering) (is_clone : W → W → Type 0) (capacity : ℕ) (is_reserved : Bool) (calls : X → Option ℕ → Calls T P W → Answers T P → Ending R X → Type 0) where
+  abbrev LastTold : Carried T P W → Ending R X → Carried T P W → Type 0
+  LastTold old ending new =
+      (own : X) × (ticket : Option ℕ) × (made : Calls T P W) × (reply : Answers T P) × (handed : Handed W)
+      × IsTold cmp is_clone capacity is_reserved old (entry old.number made reply handed) new × calls own ticket made reply ending
 
--- The bulk sends of a wait, each by what the code's own call answered.
-module _ {T P Z W : Type 0} (cmp : P → P → Ordering) (is_clone : W → W → Type 0) (capacity : ℕ) (is_reserved : Bool) where
-  pub tried_last : (old new : Carried T P W) (pairs : List (T × P)) (reply known : Result (Unit {0}) (TrySendError (Ahead (IntoIter (T × P) Z) (T × P)))) (handed : Handed W)
-      (result : Result (Unit {0}) (SendTimeoutError (List (T × P))))
-      → Tells cmp is_clone capacity is_reserved old (call.TrySendv pairs) (answer.TrySendv (listed reply)) handed new → reply ≡ known → AnswersTry result (listed known)
-      → HasCalled old new (IsSentOn cmp is_clone capacity is_reserved old pairs result new)
-  tried_last old new pairs reply known handed result told is answers =
-      sent_on_called cmp is_clone capacity is_reserved (at_last {made = call.TrySendv pairs} {reply = answer.TrySendv (listed reply)} told (refl, rw is answers))
-
-  pub polled_last : (old new : Carried T P W) (pairs : List (T × P)) (ticket : Option ℕ) (waker : W)
-      (polled : CorePoll (Result (Unit {0}) (SendFault (Ahead (IntoIter (T × P) Z) (T × P)))) (Ahead (IntoIter (T × P) Z) (T × P))) (handed : Handed W) (sent : Result (Unit {0}) (SendFault (Ahead (IntoIter (T × P) Z) (T × P))))
-      → Tells cmp is_clone capacity is_reserved old (call.PollSendv pairs ticket waker) (answer.PollSendv (listed_poll polled)) handed new → polled ≡ Ready sent
-      → HasCalled old new (IsSentOn cmp is_clone capacity is_reserved old pairs (listed_in_time (send_in_time sent)) new)
-  polled_last old new pairs ticket waker polled handed sent told is =
-      sent_on_called cmp is_clone capacity is_reserved (at_last {made = call.PollSendv pairs ticket waker} {reply = answer.PollSendv (listed_poll polled)} told (rw is (ready_answers pairs ticket waker sent)))
-
-  module _ (old mid : Carried T P W) (msgs rest : Ahead (IntoIter (T × P) Z) (T × P)) (handed : Handed W) where
-    -- the rest is sent on after a call that left it
-    pub left_on : (made : Calls T P W) (reply : Answers T P) → Tells cmp is_clone capacity is_reserved old made reply handed mid → Leaves (list_in msgs) made reply (list_in rest)
-        → (ending : Ending (Result (Unit {0}) (SendFault (Ahead (IntoIter (T × P) Z) (T × P)))) (Ahead (IntoIter (T × P) Z) (T × P))) (later : Carried T P W)
-        → SendsAll cmp is_clone capacity is_reserved mid rest ending later → SendsAll cmp is_clone capacity is_reserved old msgs ending later
-    left_on made reply told leaves (answered r) later more =
-        sent_on_called cmp is_clone capacity is_reserved (before {made = made} {reply = reply} told leaves more.told)
-    left_on made reply told leaves (blocked back) later more =
-        sent_on_called cmp is_clone capacity is_reserved (before {made = made} {reply = reply} told leaves more.told)
-    left_on made reply told leaves (waits.listed back was is_now) later more = (
-      told_later cmp is_clone capacity is_reserved old mid later made reply handed _ told more.0,
-      λ result end sent. before {made = made} {reply = reply} told leaves (more.1 result end sent),
-    )
-
-    pub tried_on : (reply : Result (Unit {0}) (TrySendError (Ahead (IntoIter (T × P) Z) (T × P))))
-        → Tells cmp is_clone capacity is_reserved old (call.TrySendv (list_in msgs)) (answer.TrySendv (listed reply)) handed mid → reply ≡ Err (Full rest)
-        → (ending : Ending (Result (Unit {0}) (SendFault (Ahead (IntoIter (T × P) Z) (T × P)))) (Ahead (IntoIter (T × P) Z) (T × P))) (later : Carried T P W)
-        → SendsAll cmp is_clone capacity is_reserved mid rest ending later → SendsAll cmp is_clone capacity is_reserved old msgs ending later
-    tried_on reply told is =
-        left_on (call.TrySendv (list_in msgs)) (answer.TrySendv (listed reply)) told (rw is (refl, refl))
-
-    module _ (ticket : Option ℕ) (waker : W) (polled : CorePoll (Result (Unit {0}) (SendFault (Ahead (IntoIter (T × P) Z) (T × P)))) (Ahead (IntoIter (T × P) Z) (T × P))) (at : ℕ)
-        (told : Tells cmp is_clone capacity is_reserved old (call.PollSendv (list_in msgs) ticket waker) (answer.PollSendv (listed_poll polled)) handed mid) (is : polled ≡ Pending rest at) where
-      pub polled_on : (ending : Ending (Result (Unit {0}) (SendFault (Ahead (IntoIter (T × P) Z) (T × P)))) (Ahead (IntoIter (T × P) Z) (T × P))) (later : Carried T P W)
-          → SendsAll cmp is_clone capacity is_reserved mid rest ending later → SendsAll cmp is_clone capacity is_reserved old msgs ending later
-      polled_on =
-          left_on (call.PollSendv (list_in msgs) ticket waker) (answer.PollSendv (listed_poll polled)) told (rw is (refl, refl))
-
-      pub polled_listed : SendsAll cmp is_clone capacity is_reserved old msgs (waits.listed rest ticket (Some at)) mid
-      polled_listed = (
-        record {
-          number = told.number;
-          counted = omega (arith, told.counted);
-          made = call.PollSendv (list_in msgs) ticket waker;
-          reply = answer.PollSendv (listed_poll polled);
-          handed = handed;
-          told = told.told;
-          answers = rw is (refl, refl, refl);
-        },
-        λ result later more. before {made = call.PollSendv (list_in msgs) ticket waker} {reply = answer.PollSendv (listed_poll polled)} told (rw is (refl, refl)) more,
+  -- a wait has made a call or more, and the pass was told of the last
+  pub last_told : {old new : Carried T P W} {own : X} {ticket : Option ℕ} {ending : Ending R X} → ComesTo cmp is_clone capacity is_reserved calls old own ticket ending new
+      → (new.number ≡ old.number) × (old.count < new.count) × LastTold old ending new
+  last_told (at_last {own = own} {ticket = ticket} made) =
+      (made.told.number, omega (arith, made.told.counted), (own, ticket, made.made, made.reply, made.handed, made.told.told, made.comes))
+  last_told (before {old = old} {mid = mid} {new = new} made more) =
+      let later = last_told more in
+      let last = later.2 in (
+        later.0 ∙ made.told.number,
+        omega (arith, made.told.counted, later.1),
+        (last.0, last.1, last.2, last.3, last.4, told_later cmp is_clone capacity is_reserved old mid new made.made last.2 made.reply last.3 made.handed last.4 made.told last.5, last.6),
+      )
+  last_told (gave_up {old = old} {mid = mid} {new = new} told more) =
+      let later = last_told more in
+      let last = later.2 in (
+        later.0 ∙ told.number,
+        omega (arith, told.counted, later.1),
+        (last.0, last.1, last.2, last.3, last.4, told_later cmp is_clone capacity is_reserved old mid new _ last.2 _ last.3 _ last.4 told last.5, last.6),
       )

@@ -4,5 +4,4 @@ pub mod Tells
 pub mod Log
 pub mod Passes
 pub mod Waits
-pub mod Futures
 pub mod Uses

@@ -1,7 +1,6 @@
 -- What a caller knows of its own call, whatever others do.
-use Rattle.std.specs.Prelude.{◌≡◌, ℕ, false, Bool, List, [], ◌∷◌, ◌++◌}
+use Rattle.std.specs.Prelude.{◌≡◌, ℕ, false, Bool, List, ◌++◌}
 use Rattle.std.specs.declared.cmp.Ordering.{Ordering}
-use mathlib.Core.List.{IsPrefix}
 use Rattle.priority_channel_bag.specs.Greatest.{TakesGreatest}
 use Rattle.priority_channel_core.specs.machine.State.{State, room}
 use Rattle.priority_channel_witnessed.specs.declared.entry.Entry.{Entry}

@@ -1,135 +1,155 @@
--- What a call that waits tells of its answer. Errors are those of a call with a limit: without one,
--- an error is the same, and never that the time is over.
-use Rattle.std.specs.Prelude.{◌≡◌, ◌⊎◌, ◌<◌, ℕ, Bool, List, Result, Ok, Err}
+-- The calls of a wait, and how it ends.
+use Rattle.std.specs.Prelude.{◌≡◌, ℕ, Bool, Option, Some, None, Result, Ok, Err, IfErr, IfSome, IsSomeAnd}
 use Rattle.std.specs.Result.{result_map_both}
 use Rattle.std.specs.declared.cmp.Ordering.{Ordering}
 use Rattle.std.specs.declared.vec.IntoIter.{IntoIter}
 use Rattle.std.specs.declared.iter.Ahead.{Ahead}
-use Rattle.priority_channel_core.specs.declared.errors.TryRecvError.TheVariants as recv_error
+use Rattle.priority_channel_core.specs.declared.errors.TryRecvError.TheVariants.{Empty}
 use Rattle.priority_channel_core.specs.declared.errors.TrySendError.{TrySendError}
-use Rattle.priority_channel_core.specs.declared.errors.TrySendError.TheVariants as send_error
+use Rattle.priority_channel_core.specs.declared.errors.TrySendError.TheVariants.{Full}
 use Rattle.priority_channel_core.specs.declared.errors.RecvFault.{RecvFault}
 use Rattle.priority_channel_core.specs.declared.errors.SendFault.{SendFault}
+use Rattle.priority_channel_core.specs.declared.calls.Call.TheVariants as call
+use Rattle.priority_channel_core.specs.declared.calls.Answer.TheVariants as answer
+use Rattle.priority_channel_core.specs.declared.calls.CorePoll.{CorePoll}
+use Rattle.priority_channel_core.specs.declared.calls.CorePoll.TheVariants.{Ready, Pending}
+use Rattle.priority_channel_core.specs.Errors.{unsent}
+use Rattle.priority_channel_core.specs.machine.Polls.{recv_answer, send_answer}
+use Rattle.priority_channel_core.specs.machine.State.{Handed, nobody}
+use Rattle.priority_channel_core.specs.machine.Step.{Calls, Answers}
 use Rattle.priority_channel_waiting.specs.declared.timeouts.RecvTimeoutError.{RecvTimeoutError}
 use Rattle.priority_channel_waiting.specs.declared.timeouts.RecvTimeoutError.TheVariants as recv_late
 use Rattle.priority_channel_waiting.specs.declared.timeouts.SendTimeoutError.{SendTimeoutError}
-use Rattle.priority_channel_waiting.specs.declared.timeouts.SendTimeoutError.TheVariants.{Timeout, Closed, Memory}
+use Rattle.priority_channel_waiting.specs.declared.timeouts.SendTimeoutError.TheVariants as send_late
 use Rattle.priority_channel_waiting.specs.Waits.{recv_fault_in_time, send_fault_in_time}
-use Rattle.priority_channel_core.specs.declared.calls.Call.TheVariants as call
-use Rattle.priority_channel_core.specs.declared.calls.Answer.TheVariants as answer
-use Rattle.priority_channel_core.specs.declared.calls.CorePoll.TheVariants.{Ready, Pending}
-use Rattle.priority_channel_core.specs.machine.State.{Handed}
-use Rattle.priority_channel_core.specs.machine.Step.{Calls, Answers}
-use Rattle.priority_channel_witnessed.specs.History.{entry}
-use Rattle.priority_channel_witnessed.specs.Items.{list_in}
-use Rattle.priority_channel_witnessed.specs.Passes.{Carried, IsTold, Tells}
+use Rattle.priority_channel_witnessed.specs.Items.{list_in, listed, listed_poll}
+use Rattle.priority_channel_witnessed.specs.Passes.{Carried, Tells}
 
--- what a receive without a limit gives, as that of one with a limit
-abbrev pub recv_in_time : {X : Type 0} → Result X RecvFault → Result X RecvTimeoutError
-recv_in_time result = result_map_both (λ pair. pair) recv_fault_in_time result
+-- A wait has ended, with its reply, or with what is left where its time is over. Or this is left,
+-- and listed under this ticket, if any.
+pub data Ending (R X : Type 0) : Type 0 where
+  ends : Result R X → Ending R X
+  left : X → Option ℕ → Ending R X
 
--- the same of a send
-abbrev pub send_in_time : {K : Type 0} → Result (Unit {0}) (SendFault K)
+-- A future: its pass and what is left, until its answer; its ticket, once it is listed; and the
+-- source of its wakes.
+pub record Underway (S X : Type 0) : Type 0 where
+  pub holds : Option (S × X)
+  pub ticket : Option ℕ
+  pub source : ℕ
+
+-- the end of a wait, without the evidence that its time is over
+abbrev pub without_evidence : {R X O : Type 0} → Result R (X × O) → Result R X
+without_evidence result = result_map_both (λ reply. reply) (λ rest. rest.0) result
+
+-- what a receive with a limit gives at such an end
+abbrev pub recv_result : {X C : Type 0} → Result (Result X RecvFault) C → Result X RecvTimeoutError
+recv_result (Ok received) = result_map_both (λ pair. pair) recv_fault_in_time received
+recv_result (Err call) = Err recv_late.Timeout
+
+-- and a send
+abbrev pub send_result : {K : Type 0} → Result (Result (Unit {0}) (SendFault K)) K
     → Result (Unit {0}) (SendTimeoutError K)
-send_in_time result = result_map_both (λ done. done) send_fault_in_time result
+send_result (Ok sent) = result_map_both (λ done. done) send_fault_in_time sent
+send_result (Err rest) = Err (send_late.Timeout rest)
 
--- what a bulk send gives, with the list of what comes back
-abbrev pub with_list : {X Z : Type 0} → SendTimeoutError (Ahead (IntoIter X Z) X)
-    → SendTimeoutError (List X)
-with_list (Timeout rest) = Timeout (list_in rest)
-with_list (Closed rest) = Closed (list_in rest)
-with_list (Memory rest) = Memory (list_in rest)
+-- Where a try was blocked, the time is over, the wait goes on, or memory for it is refused. Other
+-- tries end it as polls of that reply.
+abbrev pub Tried : {Q R X : Type 0} → (Q → Option ℕ → Option (CorePoll R X)) → (X → Q) → Q
+    → Ending R X → Type 0
+Tried polled blocked reply (ends (Ok told)) = polled reply None ≡ Some (Ready told)
+Tried polled blocked reply (ends (Err rest)) = reply ≡ blocked rest
+Tried polled blocked reply (left rest ticket) = (reply ≡ blocked rest) × (ticket ≡ None)
 
-abbrev pub listed_in_time : {X Z : Type 0}
-    → Result (Unit {0}) (SendTimeoutError (Ahead (IntoIter X Z) X))
-    → Result (Unit {0}) (SendTimeoutError (List X))
-listed_in_time result = result_map_both (λ done. done) with_list result
+-- A poll ends the wait, or lists it.
+abbrev pub polled_to : {R X : Type 0} → CorePoll R X → Ending R X
+polled_to (Ready reply) = ends (Ok reply)
+polled_to (Pending rest at) = left rest (Some at)
 
--- A try's reply answers a send that waits. One that found no room answers that the time is over, or
--- that memory was refused for the wait.
-abbrev pub AnswersTry : {K : Type 0} → Result (Unit {0}) (SendTimeoutError K)
-    → Result (Unit {0}) (TrySendError K) → Type 0
-AnswersTry result (Ok done) = result ≡ Ok done
-AnswersTry result (Err (send_error.Closed rest)) = result ≡ Err (Closed rest)
-AnswersTry result (Err (send_error.Memory rest)) = result ≡ Err (Memory rest)
-AnswersTry result (Err (send_error.Full rest)) =
-    (result ≡ Err (Timeout rest)) ⊎ (result ≡ Err (Memory rest))
+-- what comes back of a send is what it was to send
+abbrev pub IsBack : {Q : Type 0} → Q → Ending (Result (Unit {0}) (SendFault Q)) Q → Type 0
+IsBack pair (ends (Ok sent)) = IfErr sent (λ fault. unsent fault ≡ pair)
+IsBack pair (ends (Err kept)) = kept ≡ pair
+IsBack pair (left kept ticket) = kept ≡ pair
 
 module _ {T P W : Type 0} where
-  -- a try or a poll answers a receive, in the same way
-  abbrev pub AnswersRecv : Result (T × P) RecvTimeoutError → Calls T P W → Answers T P → Type 0
-  AnswersRecv result call.TryRecv (answer.TryRecv (Ok pair)) = result ≡ Ok pair
-  AnswersRecv result call.TryRecv (answer.TryRecv (Err recv_error.Closed)) =
-      result ≡ Err recv_late.Closed
-  AnswersRecv result call.TryRecv (answer.TryRecv (Err recv_error.Empty)) =
-      (result ≡ Err recv_late.Timeout) ⊎ (result ≡ Err recv_late.Memory)
-  AnswersRecv result (call.PollRecv ticket waker) (answer.PollRecv (Ready received)) =
-      result ≡ recv_in_time received
-  AnswersRecv result made reply = ⊥
+  -- The calls of a receive: tries while it is not listed, and polls under its ticket.
+  abbrev pub RecvCalls : Unit {0} → Option ℕ → Calls T P W → Answers T P
+      → Ending (Result (T × P) RecvFault) (Unit {0}) → Type 0
+  RecvCalls nothing ticket call.TryRecv (answer.TryRecv reply) ending =
+      (ticket ≡ None) × Tried recv_answer (λ rest. Err Empty) reply ending
+  RecvCalls nothing ticket (call.PollRecv given waker) (answer.PollRecv polled) ending =
+      (given ≡ ticket) × (ending ≡ polled_to polled)
+  RecvCalls nothing ticket made reply ending = ⊥
 
-  -- a send of this very pair
-  abbrev pub AnswersSend : T → P → Result (Unit {0}) (SendTimeoutError (T × P)) → Calls T P W
-      → Answers T P → Type 0
-  AnswersSend msg priority result (call.TrySend m p) (answer.TrySend reply) =
-      (m ≡ msg) × (p ≡ priority) × AnswersTry result reply
-  AnswersSend msg priority result (call.PollSend m p ticket waker) (answer.PollSend (Ready sent)) =
-      (m ≡ msg) × (p ≡ priority) × (result ≡ send_in_time sent)
-  AnswersSend msg priority result made reply = ⊥
+  -- of a send of this pair
+  abbrev pub SendMade : T × P → Option ℕ → Calls T P W → Answers T P
+      → Ending (Result (Unit {0}) (SendFault (T × P))) (T × P) → Type 0
+  SendMade pair ticket (call.TrySend msg priority) (answer.TrySend reply) ending =
+      (ticket ≡ None) × ((msg, priority) ≡ pair)
+      × Tried send_answer (λ rest. Err (Full rest)) reply ending
+  SendMade pair ticket (call.PollSend msg priority given waker) (answer.PollSend polled) ending =
+      (given ≡ ticket) × ((msg, priority) ≡ pair) × (ending ≡ polled_to polled)
+  SendMade pair ticket made reply ending = ⊥
 
-  -- a bulk send of these very pairs
-  abbrev pub AnswersSendv : List (T × P) → Result (Unit {0}) (SendTimeoutError (List (T × P)))
-      → Calls T P W → Answers T P → Type 0
-  AnswersSendv pairs result (call.TrySendv given) (answer.TrySendv reply) =
-      (given ≡ pairs) × AnswersTry result reply
-  AnswersSendv pairs result (call.PollSendv given ticket waker) (answer.PollSendv (Ready sent)) =
-      (given ≡ pairs) × (result ≡ send_in_time sent)
-  AnswersSendv pairs result made reply = ⊥
+  abbrev pub SendCalls : T × P → Option ℕ → Calls T P W → Answers T P
+      → Ending (Result (Unit {0}) (SendFault (T × P))) (T × P) → Type 0
+  SendCalls pair ticket made reply ending =
+      IsBack pair ending × SendMade pair ticket made reply ending
 
-  -- and a call that leaves a rest of them: a bulk send that found no room for all, or the end of a
-  -- wait for room
-  abbrev pub Leaves : List (T × P) → Calls T P W → Answers T P → List (T × P) → Type 0
-  Leaves pairs (call.TrySendv given) (answer.TrySendv (Err (send_error.Full back))) rest =
-      (given ≡ pairs) × (rest ≡ back)
-  Leaves pairs (call.PollSendv given ticket waker) (answer.PollSendv (Pending back at)) rest =
-      (given ≡ pairs) × (rest ≡ back)
-  Leaves pairs (call.GiveUp ticket) answer.GiveUp rest = rest ≡ pairs
-  Leaves pairs made reply rest = ⊥
+  -- of a send of these pairs, of which any may be left
+  abbrev pub SendvCalls : {Z : Type 0} → Ahead (IntoIter (T × P) Z) (T × P) → Option ℕ
+      → Calls T P W → Answers T P
+      → Ending (Result (Unit {0}) (SendFault (Ahead (IntoIter (T × P) Z) (T × P))))
+      (Ahead (IntoIter (T × P) Z) (T × P)) → Type 0
+  SendvCalls {Z} msgs ticket (call.TrySendv pairs) (answer.TrySendv reply) ending =
+      (ticket ≡ None) × (pairs ≡ list_in msgs)
+      × ((known : Result (Unit {0}) (TrySendError (Ahead (IntoIter (T × P) Z) (T × P))))
+      × (reply ≡ listed known) × Tried send_answer (λ rest. Err (Full rest)) known ending)
+  SendvCalls {Z} msgs ticket (call.PollSendv pairs given waker) (answer.PollSendv polled) ending =
+      (given ≡ ticket) × (pairs ≡ list_in msgs)
+      × ((known : CorePoll (Result (Unit {0}) (SendFault (Ahead (IntoIter (T × P) Z) (T × P))))
+      (Ahead (IntoIter (T × P) Z) (T × P)))
+      × (polled ≡ listed_poll known) × (ending ≡ polled_to known))
+  SendvCalls msgs ticket made reply ending = ⊥
 
--- One call or more was made with the pass, under its number, and it was told, last of all, of one
--- that answers so: what it sees now is a legal history that begins with all that it had seen and
--- ends with this call.
-pub record IsAnswered {T P W : Type 0} (cmp : P → P → Ordering) (is_clone : W → W → Type 0)
-    (capacity : ℕ) (is_reserved : Bool) (old : Carried T P W)
-    (answers_so : Calls T P W → Answers T P → Type 0) (new : Carried T P W) : Type 0 where
-  pub number : new.number ≡ old.number
-  pub counted : old.count < new.count
-  pub made : Calls T P W
-  pub reply : Answers T P
-  pub handed : Handed W
-  pub told : IsTold cmp is_clone capacity is_reserved old (entry old.number made reply handed) new
-  pub answers : answers_so made reply
+module _ {T P W : Type 0} (cmp : P → P → Ordering) (is_clone : W → W → Type 0) (capacity : ℕ)
+    (is_reserved : Bool) where
+  -- The pass made one more call, which came to this.
+  pub record Makes {E : Type 0} (comes_to : Calls T P W → Answers T P → E → Type 0)
+      (old : Carried T P W) (ending : E) (new : Carried T P W) : Type 0 where
+    pub made : Calls T P W
+    pub reply : Answers T P
+    pub handed : Handed W
+    pub told : Tells cmp is_clone capacity is_reserved old made reply handed new
+    pub comes : comes_to made reply ending
 
--- The pass has made a call or more, of which it was told so much.
-pub record HasCalled {T P W : Type 0} (old new : Carried T P W) (fact : Type 0) : Type 0 where
-  pub number : new.number ≡ old.number
-  pub counted : old.count < new.count
-  pub told : fact
+  module _ {R X : Type 0}
+      (calls : X → Option ℕ → Calls T P W → Answers T P → Ending R X → Type 0) where
+    -- The calls of a wait, all that the pass made: what one leaves is for the next one, and the
+    -- last one comes to this. Only a wait that ends gives its ticket up.
+    pub data ComesTo : Carried T P W → X → Option ℕ → Ending R X → Carried T P W → Type 0 where
+      at_last : {old new : Carried T P W} {own : X} {ticket : Option ℕ} {ending : Ending R X}
+          → Makes (calls own ticket) old ending new
+          → ComesTo old own ticket ending new
+      before : {old mid new : Carried T P W} {own rest : X} {ticket listed : Option ℕ}
+          {ending : Ending R X}
+          → Makes (calls own ticket) old (left rest listed) mid
+          → ComesTo mid rest listed ending new
+          → ComesTo old own ticket ending new
+      gave_up : {old mid new : Carried T P W} {own : X} {ticket : ℕ} {end : Result R X}
+          → Tells cmp is_clone capacity is_reserved old (call.GiveUp ticket) answer.GiveUp nobody
+          mid
+          → ComesTo mid own None (ends end) new
+          → ComesTo old own (Some ticket) (ends end) new
 
--- The calls of a bulk send that waits, all that the pass made: the last one answers, and each other
--- one leaves a rest for the next.
-pub data IsSentOn {T P W : Type 0} (cmp : P → P → Ordering) (is_clone : W → W → Type 0)
-    (capacity : ℕ) (is_reserved : Bool) : Carried T P W → List (T × P)
-    → Result (Unit {0}) (SendTimeoutError (List (T × P))) → Carried T P W → Type 0 where
-  at_last : {old new : Carried T P W} {pairs : List (T × P)}
-      {result : Result (Unit {0}) (SendTimeoutError (List (T × P)))} {made : Calls T P W}
-      {reply : Answers T P} {handed : Handed W}
-      → Tells cmp is_clone capacity is_reserved old made reply handed new
-      → AnswersSendv pairs result made reply
-      → IsSentOn cmp is_clone capacity is_reserved old pairs result new
-  before : {old mid new : Carried T P W} {pairs rest : List (T × P)}
-      {result : Result (Unit {0}) (SendTimeoutError (List (T × P)))} {made : Calls T P W}
-      {reply : Answers T P} {handed : Handed W}
-      → Tells cmp is_clone capacity is_reserved old made reply handed mid
-      → Leaves pairs made reply rest
-      → IsSentOn cmp is_clone capacity is_reserved mid rest result new
-      → IsSentOn cmp is_clone capacity is_reserved old pairs result new
+    -- what a future gives: a reply, and its pass
+    abbrev pub Gives : Underway (Carried T P W) X → R × Carried T P W → Type 0
+    Gives future given = IsSomeAnd future.holds
+        (λ held. ComesTo held.0 held.1 future.ticket (ends (Ok given.0)) given.1)
+
+    -- it is listed, with its pass and what is left
+    abbrev pub WaitsOn : Underway (Carried T P W) X → Underway (Carried T P W) X → Type 0
+    WaitsOn old new = IfSome old.holds (λ before. IsSomeAnd new.holds (λ after.
+        IsSomeAnd new.ticket
+        (λ at. ComesTo before.0 before.1 old.ticket (left after.1 (Some at)) after.0)))

@@ -1,7 +1,12 @@
 //! What can be called again and again until it is answered: a receive, a send, a bulk send.
-ghost use Rattle.std.specs.Prelude.{◌≡◌, ℕ, Option, Some, IfOk, IfErr};
-ghost use Rattle.priority_channel_witnessed.specs.Passes.{Carried};
-ghost use Rattle.priority_channel_witnessed.specs.Futures.{Ending, answered, blocked, listed};
+ghost use Rattle.std.specs.Prelude.{◌≡◌, ℕ, Option, Some, None, Ok, Err, IfOk, IfErr};
+ghost use Rattle.priority_channel_core.specs.declared.errors.TrySendError.TheVariants.{Full};
+ghost use Rattle.priority_channel_core.specs.declared.calls.Call.TheVariants as call;
+ghost use Rattle.priority_channel_core.specs.declared.errors.SendFault.TheVariants as fault;
+ghost use Rattle.priority_channel_core.specs.machine.Polls.{send_answer};
+ghost use Rattle.priority_channel_core.specs.machine.Step.{Calls, Answers};
+ghost use Rattle.priority_channel_witnessed.specs.Passes.{Tells};
+ghost use Rattle.priority_channel_witnessed.specs.Waits.{Ending, ends, left, Makes, Tried};
 
 use crate::chronicle::Pass;
 use crate::entry::Pairs;
@@ -16,13 +21,16 @@ use priority_channel_waiting::waiter::{Waiter, wake_all};
 use std::alloc::Allocator;
 use std::sync::Wait;
 
-/// A call that waits until it is answered. Of its calls of the channel one gives the answer, or all
-/// do in turn; whom they hand out is woken.
+/// A call that waits until it is answered. Each of its calls of the channel wakes the waiters that
+/// it lets go on.
 pub trait Attempt<T, P: Ord, W: Clone, J: Recording, A: Allocator + Copy>: Sized {
     type Reply;
 
-    // From the one pass to the other its calls have come so far.
-    ghost comes: { Carried T P W → Self → Ending Self.Reply Self → Carried T P W → Type 0 };
+    // What a call of the channel comes to, where this is left and listed under that ticket.
+    ghost calls: { Self → Option ℕ → Calls T P W → Answers T P → Ending Self.Reply Self → Type 0 };
+
+    // The call by which it is tried.
+    ghost tries: { Self → Calls T P W };
 
     // The reply where memory for a wait is refused.
     ghost no_memory: { Self → Self.Reply };
@@ -43,14 +51,16 @@ pub trait Attempt<T, P: Ord, W: Clone, J: Recording, A: Allocator + Copy>: Sized
         rt: &R,
         pass: &mut Pass<T, P, W, J>,
     ) -> Result<Self::Reply, Self>
-        ensures answered { IfOk result (λ reply. comes pass.old self (answered reply) pass.new) }
-        ensures blocked { IfErr result (λ rest. comes pass.old self (blocked rest) pass.new) }
-        ensures refused { IfErr result
-            (λ rest. comes pass.old self (answered (no_memory rest)) pass.new) }
-        ensures goes_on { IfErr result (λ rest. (ending : _) (later : _)
-            → comes pass.new rest ending later → comes pass.old self ending later) };
+        ensures ended { Makes P.cmp W.is_clone J.capacity J.is_reserved (calls self None) pass.old
+            (ends result) pass.new }
+        ensures refused { IfErr result (λ rest. Makes P.cmp W.is_clone J.capacity J.is_reserved
+            (calls self None) pass.old (ends (Ok (no_memory rest))) pass.new) }
+        ensures goes_on { IfErr result (λ rest. Makes P.cmp W.is_clone J.capacity J.is_reserved
+            (calls self None) pass.old (left rest None) pass.new) }
+        ensures tried { (reply : _) × (handed : _) × Tells P.cmp W.is_clone J.capacity J.is_reserved
+            pass.old (tries self) reply handed pass.new };
 
-    /// A poll, which lists who waits and gives back what is left, and the ticket.
+    /// A poll, which gives back what is left, and the ticket under which that is listed.
     fn or_list<R: Wait>(
         self,
         channel: &Witnessed<T, P, W, J, A>,
@@ -59,37 +69,22 @@ pub trait Attempt<T, P: Ord, W: Clone, J: Recording, A: Allocator + Copy>: Sized
         ticket: Option<u64>,
         waker: &W,
     ) -> Result<Self::Reply, (Self, u64)>
-        ensures answered { IfOk result (λ reply. comes pass.old self (answered reply) pass.new) }
-        ensures listed { IfErr result
-            (λ rest. comes pass.old self (listed rest.0 ticket (Some rest.1)) pass.new) }
-        ensures goes_on { IfErr result (λ rest. (ending : _) (later : _)
-            → comes pass.new rest.0 ending later → comes pass.old self ending later) };
-
-    /// Waits no more under the ticket.
-    fn give_up<R: Wait>(
-        &self,
-        channel: &Witnessed<T, P, W, J, A>,
-        rt: &R,
-        pass: &mut Pass<T, P, W, J>,
-        ticket: u64,
-    )
-        ensures goes_on { (ending : _) (later : _) → comes pass.new self.now ending later
-            → comes pass.old self.now ending later };
+        ensures ended { IfOk result (λ reply. Makes P.cmp W.is_clone J.capacity J.is_reserved
+            (calls self ticket) pass.old (ends (Ok reply)) pass.new) }
+        ensures listed { IfErr result (λ rest. Makes P.cmp W.is_clone J.capacity J.is_reserved
+            (calls self ticket) pass.old (left rest.0 (Some rest.1)) pass.new) };
 }
 
-/// A receive of one pair.
-#[derive(Clone, Copy)]
-pub struct Receive;
-
-impl<T, P: Ord, J: Recording, A: Allocator + Copy> Attempt<T, P, Waiter<A>, J, A> for Receive {
-    ghost use Rattle.std.specs.Prelude.{Err};
+/// A receive of one pair, which needs nothing.
+impl<T, P: Ord, J: Recording, A: Allocator + Copy> Attempt<T, P, Waiter<A>, J, A> for () {
     ghost use Rattle.priority_channel_core.specs.declared.errors.RecvFault.TheVariants.{Memory};
-    ghost use Rattle.priority_channel_witnessed.specs.Futures.{Receives};
+    ghost use Rattle.priority_channel_witnessed.specs.Waits.{RecvCalls};
 
     type Reply = Result<(T, P), RecvFault>;
 
-    ghost comes = { λ old _ ending new. Receives P.cmp ⟦<Waiter<A> as Clone>⟧.is_clone J.capacity
-        J.is_reserved old ending new };
+    ghost calls = { RecvCalls };
+
+    ghost tries = { λ _. call.TryRecv };
 
     ghost no_memory = { λ _. Err Memory };
 
@@ -108,13 +103,13 @@ impl<T, P: Ord, J: Recording, A: Allocator + Copy> Attempt<T, P, Waiter<A>, J, A
         channel: &Witnessed<T, P, Waiter<A>, J, A>,
         rt: &R,
         pass: &mut Pass<T, P, Waiter<A>, J>,
-    ) -> Result<Result<(T, P), RecvFault>, Receive> {
+    ) -> Result<Result<(T, P), RecvFault>, ()> {
         let (received, wakes) = channel.try_recv(rt, pass);
         wake_all(rt, wakes);
         match received {
             Ok(pair) => Ok(Ok(pair)),
             Err(TryRecvError::Closed) => Ok(Err(RecvFault::Closed(RecvError))),
-            Err(TryRecvError::Empty) => Err(self),
+            Err(TryRecvError::Empty) => Err(()),
         }
     }
 
@@ -125,37 +120,26 @@ impl<T, P: Ord, J: Recording, A: Allocator + Copy> Attempt<T, P, Waiter<A>, J, A
         pass: &mut Pass<T, P, Waiter<A>, J>,
         ticket: Option<u64>,
         waker: &Waiter<A>,
-    ) -> Result<Result<(T, P), RecvFault>, (Receive, u64)> {
+    ) -> Result<Result<(T, P), RecvFault>, ((), u64)> {
         let (polled, wakes) = channel.poll_recv(rt, pass, ticket, waker);
         wake_all(rt, wakes);
         match polled {
             CorePoll::Ready(received) => Ok(received),
-            CorePoll::Pending((), given) => Err((self, given)),
+            CorePoll::Pending((), given) => Err(((), given)),
         }
-    }
-
-    fn give_up<R: Wait>(
-        &self,
-        channel: &Witnessed<T, P, Waiter<A>, J, A>,
-        rt: &R,
-        pass: &mut Pass<T, P, Waiter<A>, J>,
-        ticket: u64,
-    ) {
-        channel.give_up(rt, pass, ticket);
     }
 }
 
 impl<T, P: Ord, J: Recording, A: Allocator + Copy> Attempt<T, P, Waiter<A>, J, A> for (T, P) {
-    ghost use Rattle.std.specs.Prelude.{Err};
-    ghost use Rattle.priority_channel_core.specs.declared.errors.SendFault.TheVariants.{Memory};
-    ghost use Rattle.priority_channel_witnessed.specs.Futures.{Sends};
+    ghost use Rattle.priority_channel_witnessed.specs.Waits.{SendCalls};
 
     type Reply = Result<(), SendFault<(T, P)>>;
 
-    ghost comes = { λ old pair ending new. Sends P.cmp ⟦<Waiter<A> as Clone>⟧.is_clone J.capacity
-        J.is_reserved old pair ending new };
+    ghost calls = { SendCalls };
 
-    ghost no_memory = { λ pair. Err (Memory pair) };
+    ghost tries = { λ pair. call.TrySend pair.0 pair.1 };
+
+    ghost no_memory = { λ pair. Err (fault.Memory pair) };
 
     ghost woken_at = { λ room _. room };
 
@@ -173,12 +157,7 @@ impl<T, P: Ord, J: Recording, A: Allocator + Copy> Attempt<T, P, Waiter<A>, J, A
         rt: &R,
         pass: &mut Pass<T, P, Waiter<A>, J>,
     ) -> Result<Result<(), SendFault<(T, P)>>, (T, P)> {
-        match channel.send_now(rt, pass, self) {
-            Ok(()) => Ok(Ok(())),
-            Err(TrySendError::Closed(pair)) => Ok(Err(SendFault::Closed(SendError(pair)))),
-            Err(TrySendError::Memory(pair)) => Ok(Err(SendFault::Memory(pair))),
-            Err(TrySendError::Full(pair)) => Err(pair),
-        }
+        outcome_of(channel.send_now(rt, pass, self))
     }
 
     fn or_list<R: Wait>(
@@ -194,30 +173,20 @@ impl<T, P: Ord, J: Recording, A: Allocator + Copy> Attempt<T, P, Waiter<A>, J, A
             CorePoll::Pending(kept, given) => Err((kept, given)),
         }
     }
-
-    fn give_up<R: Wait>(
-        &self,
-        channel: &Witnessed<T, P, Waiter<A>, J, A>,
-        rt: &R,
-        pass: &mut Pass<T, P, Waiter<A>, J>,
-        ticket: u64,
-    ) {
-        channel.give_up(rt, pass, ticket);
-    }
 }
 
 impl<T: Drop, P: Ord + Drop, J: Recording, A: Allocator + Copy> Attempt<T, P, Waiter<A>, J, A>
     for Pairs<T, P, A> {
-    ghost use Rattle.std.specs.Prelude.{Err};
-    ghost use Rattle.priority_channel_core.specs.declared.errors.SendFault.TheVariants.{Memory};
-    ghost use Rattle.priority_channel_witnessed.specs.Futures.{SendsAll};
+    ghost use Rattle.priority_channel_witnessed.specs.Items.{list_in};
+    ghost use Rattle.priority_channel_witnessed.specs.Waits.{SendvCalls};
 
     type Reply = Result<(), SendFault<Pairs<T, P, A>>>;
 
-    ghost comes = { λ old msgs ending new. SendsAll P.cmp ⟦<Waiter<A> as Clone>⟧.is_clone
-        J.capacity J.is_reserved old msgs ending new };
+    ghost calls = { SendvCalls };
 
-    ghost no_memory = { λ msgs. Err (Memory msgs) };
+    ghost tries = { λ msgs. call.TrySendv (list_in msgs) };
+
+    ghost no_memory = { λ msgs. Err (fault.Memory msgs) };
 
     ghost woken_at = { λ room _. room };
 
@@ -237,12 +206,7 @@ impl<T: Drop, P: Ord + Drop, J: Recording, A: Allocator + Copy> Attempt<T, P, Wa
     ) -> Result<Result<(), SendFault<Pairs<T, P, A>>>, Pairs<T, P, A>> {
         let (sent, wakes) = channel.try_sendv(rt, pass, self);
         wake_all(rt, wakes);
-        match sent {
-            Ok(()) => Ok(Ok(())),
-            Err(TrySendError::Closed(rest)) => Ok(Err(SendFault::Closed(SendError(rest)))),
-            Err(TrySendError::Memory(rest)) => Ok(Err(SendFault::Memory(rest))),
-            Err(TrySendError::Full(rest)) => Err(rest),
-        }
+        outcome_of(sent)
     }
 
     fn or_list<R: Wait>(
@@ -260,14 +224,20 @@ impl<T: Drop, P: Ord + Drop, J: Recording, A: Allocator + Copy> Attempt<T, P, Wa
             CorePoll::Pending(rest, given) => Err((rest, given)),
         }
     }
+}
 
-    fn give_up<R: Wait>(
-        &self,
-        channel: &Witnessed<T, P, Waiter<A>, J, A>,
-        rt: &R,
-        pass: &mut Pass<T, P, Waiter<A>, J>,
-        ticket: u64,
-    ) {
-        channel.give_up(rt, pass, ticket);
+// What a try to send comes to.
+fn outcome_of<K>(sent: Result<(), TrySendError<K>>) -> Result<Result<(), SendFault<K>>, K>
+    ensures ended { Tried send_answer (λ rest. Err (Full rest)) sent (ends result) }
+    ensures refused { IfErr result (λ rest.
+        Tried send_answer (λ left. Err (Full left)) sent (ends (Ok (Err (fault.Memory rest))))) }
+    ensures goes_on { IfErr result (λ rest.
+        Tried send_answer (λ left. Err (Full left)) sent (left rest None)) }
+{
+    match sent {
+        Ok(()) => Ok(Ok(())),
+        Err(TrySendError::Closed(rest)) => Ok(Err(SendFault::Closed(SendError(rest)))),
+        Err(TrySendError::Memory(rest)) => Ok(Err(SendFault::Memory(rest))),
+        Err(TrySendError::Full(rest)) => Err(rest),
     }
 }

@@ -31,7 +31,7 @@ pub enum Told<T, P, W, A: Allocator> {
         Snapshot<Result<Option<(T, P)>, TrySendError<(T, P)>>>,
     ),
     TryRecv(Snapshot<Result<(T, P), TryRecvError>>),
-    Close(bool),
+    Close(Snapshot<bool>),
     IsClosed(bool),
     IsEmpty(bool),
     IsFull(bool),

@@ -1,9 +1,11 @@
 //! What is kept of the history under the lock.
 ghost use Rattle.std.specs.Prelude.{◌≡◌, ◌+◌, ◌<◌, [], ◌∷◌, ◌++◌, length, vec_len, All, IfOk, IfErr, IfSome};
 ghost use mathlib.Core.List.{IsPrefix};
+ghost use Rattle.priority_channel_core.specs.machine.State.{State};
+ghost use Rattle.priority_channel_core.specs.machine.Step.{Step};
 ghost use Rattle.priority_channel_witnessed.specs.History.{IsHistory};
 ghost use Rattle.priority_channel_witnessed.specs.Passes.{calls_of, calls_made, calls_of_others, AreApart, Accounts, AreGiven, Tells};
-ghost use Rattle.priority_channel_witnessed.specs.Tells.{entry_of, call_of, answer_of, handed_told};
+ghost use Rattle.priority_channel_witnessed.specs.Tells.{made_of, handed_told};
 
 use crate::chronicle::{Calls, Log, Pass, Seen};
 use crate::entry::{Telling, Told};
@@ -101,7 +103,8 @@ impl<T, P: Ord, W: Clone, J: Recording, A: Allocator> Journal<T, P, W, J, A> {
         strike(rt, &mut self.out, number);
     }
 
-    /// Enters a call that led to the core's state, under the pass.
+    /// Enters a call that led to the core's state from that to which the history leads, under the
+    /// pass.
     #[tactic(auto, using(crate::proofs::Histories::legal_of, crate::proofs::Leaving::shared_more))]
     pub(crate) fn enter<R: Wait>(
         &mut self,
@@ -112,12 +115,14 @@ impl<T, P: Ord, W: Clone, J: Recording, A: Allocator> Journal<T, P, W, J, A> {
         told: Told<T, P, W, A>,
         handed: Option<Snapshot<Wakes<W, A>>>,
     )
-        requires leads { IsHistory P.cmp W.is_clone J.capacity J.is_reserved
-            (self.old ++ entry_of pass.old.number told handed ∷ []) core.now.state }
+        requires step { (before : State T P W)
+            × IsHistory P.cmp W.is_clone J.capacity J.is_reserved self.old before
+            × Step P.cmp W.is_clone before (made_of told).0 (made_of told).1
+            (handed_told handed) core.now.state }
         ensures leads { IsHistory P.cmp W.is_clone J.capacity J.is_reserved self.new
             core.now.state }
-        ensures told { Tells P.cmp W.is_clone J.capacity J.is_reserved pass.old (call_of told)
-            (answer_of told) (handed_told handed) pass.new }
+        ensures told { Tells P.cmp W.is_clone J.capacity J.is_reserved pass.old
+            (made_of told).0 (made_of told).1 (handed_told handed) pass.new }
     {
         let who = pass.number();
         await_given(rt, who, self.next);

@@ -1,8 +1,15 @@
 //! What follows from the definitions alone.
-ghost use Rattle.std.specs.Prelude.{◌≡◌, ℕ, Bool, List, [], ◌∷◌, ◌++◌};
+ghost use Rattle.std.specs.Prelude.{◌≡◌, ◌<◌, ℕ, Bool, Option, List, [], ◌∷◌, ◌++◌};
+ghost use Rattle.priority_channel_core.specs.machine.State.{Handed};
+ghost use Rattle.priority_channel_core.specs.machine.Step.{Calls, Answers};
 ghost use Rattle.priority_channel_witnessed.specs.declared.entry.Entry.{Entry};
-ghost use Rattle.priority_channel_witnessed.specs.History.{IsLegal, IsNext};
+ghost use Rattle.priority_channel_witnessed.specs.History.{entry, IsLegal, IsNext};
 ghost use Rattle.priority_channel_witnessed.specs.Passes.{Carried, IsTold};
+ghost use Rattle.priority_channel_witnessed.specs.Waits.{Ending, ComesTo};
+
+use crate::attempt::Attempt;
+use priority_channel_chronicle::Recording;
+use std::alloc::Allocator;
 
 /// The last entry of a legal history is one step of the machine, from a state to which the entries
 /// before it lead. So a caller who was told of its call knows that it had its reply by one step from
@@ -16,4 +23,16 @@ pub fn last_law<T, P: Ord, W: Clone>()
         → IsTold P.cmp W.is_clone capacity is_reserved old last new
         → (between : List (Entry T P W))
         × IsNext P.cmp W.is_clone capacity is_reserved (old.seen ++ between) last }
+{}
+
+/// The calls of a wait are one or more, under the pass's number. What was seen then is a legal
+/// history that begins with all that had been seen, and ends with the last of these calls, which
+/// came to that end.
+pub fn wait_law<C: Attempt<T, P, W, J, A>, T, P: Ord, W: Clone, J: Recording, A: Allocator + Copy>()
+    ensures { (old new : Carried T P W) (call : C) (ticket : Option ℕ) (ending : Ending C.Reply C)
+        → ComesTo P.cmp W.is_clone J.capacity J.is_reserved C.calls old call ticket ending new
+        → (new.number ≡ old.number) × (old.count < new.count)
+        × ((own : C) × (given : Option ℕ) × (made : Calls T P W) × (reply : Answers T P)
+        × (handed : Handed W) × IsTold P.cmp W.is_clone J.capacity J.is_reserved old
+        (entry old.number made reply handed) new × C.calls own given made reply ending) }
 {}

@@ -5,12 +5,12 @@
 //! calls of the history: the first poll a try, and where that finds nothing, and at each later
 //! poll, one that lists the task's waker. So a future that is answered at once asks for no memory.
 //! Each message wakes all tasks that wait for one, and room all who wait for that.
-ghost use Rattle.std.specs.Prelude.{◌≡◌, ⊤, Some, None, IfOk, IfErr};
+ghost use Rattle.std.specs.Prelude.{◌≡◌, ⊤, Some, None, Ok, IfOk, IfErr};
 ghost use Rattle.futures.specs.Task.{Covers, Keeps};
 ghost use Rattle.futures.specs.Poll.{IfReady, OnPending};
-ghost use Rattle.priority_channel_witnessed.specs.Futures.{answered, listed, Gives, WaitsOn};
+ghost use Rattle.priority_channel_witnessed.specs.Waits.{ends, left, Makes, ComesTo, Gives, WaitsOn};
 
-use crate::attempt::{Attempt, Receive};
+use crate::attempt::Attempt;
 use crate::chronicle::Pass;
 use crate::entry::Pairs;
 use crate::witnessed::Witnessed;
@@ -25,7 +25,7 @@ use std::sync::Wait;
 /// Receives one pair once there is one, and gives the pass back. `Witnessed::recv` makes it.
 ///
 /// Its fault is `Closed`, where none can come any more, or `Memory`, where memory was refused.
-pub type Recv<'a, T, P, W, R, J, A = Global> = Waits<'a, Receive, T, P, W, R, J, A>;
+pub type Recv<'a, T, P, W, R, J, A = Global> = Waits<'a, (), T, P, W, R, J, A>;
 
 /// Sends one pair once there is room, and gives the pass back. `Witnessed::send` makes it.
 ///
@@ -71,9 +71,9 @@ impl<
     A: Allocator + Copy,
 > Model for Waits<'a, C, T, P, W, R, J, A> {
     ghost use Rattle.priority_channel_witnessed.specs.Passes.{Carried};
-    ghost use Rattle.priority_channel_witnessed.specs.Futures.{Underway};
+    ghost use Rattle.priority_channel_witnessed.specs.Waits.{Underway};
 
-    ghost Value = { Underway (Carried T P W × C) };
+    ghost Value = { Underway (Carried T P W) C };
 
     ghost view = { λ f. record {
       holds = f.holds;
@@ -94,10 +94,10 @@ impl<T: Drop, P: Ord + Drop, J: Recording, A: Allocator + Copy> Witnessed<T, P, 
         rt: &'a R,
         pass: Pass<T, P, Waiter<A>, J>,
     ) -> Recv<'a, T, P, Waiter<A>, R, J, A>
-        ensures holds { result.holds ≡ Some (pass, record {}) }
+        ensures holds { result.holds ≡ Some (pass, tt) }
         ensures fresh { result.ticket ≡ None }
     {
-        Waits::new(self, rt, pass, Receive)
+        Waits::new(self, rt, pass, ())
     }
 
     /// Sends a pair once there is room, as `send_blocking`, but as a future, which gives the pass
@@ -165,30 +165,19 @@ impl<
         }
     }
 
-    // A try, where the task is not listed.
-    fn try_first(&self, pass: &mut Pass<T, P, Waiter<A>, J>, call: C) -> Result<C::Reply, C>
-        ensures answered { IfOk result (λ reply. C.comes pass.old call (answered reply) pass.new) }
-        ensures goes_on { IfErr result (λ rest. (ending : _) (later : _)
-            → C.comes pass.new rest ending later → C.comes pass.old call ending later) }
-    {
-        if self.ticket.is_some() {
-            return Err(call);
-        }
-        call.now(self.channel, self.rt, pass)
-    }
-
     // Leaves the task's waker, and is answered or listed; or ends, for want of memory.
     fn list(
         &mut self,
         cx: &mut Context<'_>,
         pass: &mut Pass<T, P, Waiter<A>, J>,
         call: C,
-    ) -> Result<C::Reply, C>
-        ensures answered { IfOk result (λ reply. C.comes pass.old call (answered reply) pass.new) }
-        ensures listed { IfErr result (λ rest.
-            C.comes pass.old call (listed rest self.old.ticket self.new.ticket) pass.new) }
-        ensures goes_on { IfErr result (λ rest. (ending : _) (later : _)
-            → C.comes pass.new rest ending later → C.comes pass.old call ending later) }
+    ) -> Result<C::Reply, (C, u64)>
+        ensures answered { IfOk result (λ reply. ComesTo P.cmp ⟦<Waiter<A> as Clone>⟧.is_clone
+            J.capacity J.is_reserved C.calls pass.old call self.old.ticket (ends (Ok reply))
+            pass.new) }
+        ensures listed { IfErr result (λ rest. Makes P.cmp ⟦<Waiter<A> as Clone>⟧.is_clone
+            J.capacity J.is_reserved (C.calls call self.old.ticket) pass.old
+            (left rest.0 (Some rest.1)) pass.new) }
         ensures registered { IfErr result (λ _. Covers cx.new (λ source.
             source ≡ self.new.source)) }
         ensures kept { Keeps cx.old cx.new }
@@ -197,20 +186,11 @@ impl<
     {
         let channel = self.channel;
         let rt = self.rt;
-        let party = &mut self.waiter;
-        let Some(waiter) = Waiter::register(rt, channel.alloc, cx, C::source(channel), party) else {
-            return match channel.last(rt, pass, call, self.ticket) {
-                Ok(reply) => Ok(reply),
-                Err(rest) => Ok(rest.refuse()),
-            };
+        let kept = &mut self.waiter;
+        let Some(waiter) = Waiter::register(rt, channel.alloc, cx, C::source(channel), kept) else {
+            return Ok(channel.refuse_wait(rt, pass, call, self.ticket));
         };
-        match call.or_list(channel, rt, pass, self.ticket, waiter) {
-            Ok(reply) => Ok(reply),
-            Err((rest, given)) => {
-                self.ticket = Some(given);
-                Err(rest)
-            }
-        }
+        call.or_list(channel, rt, pass, self.ticket, waiter)
     }
 }
 
@@ -226,29 +206,36 @@ impl<
 
     ghost needs = { λ f source. source ≡ f.source };
 
-    ghost gives = { λ f given. Gives C.comes f.holds given };
+    ghost gives = { Gives P.cmp ⟦<Waiter<A> as Clone>⟧.is_clone J.capacity J.is_reserved C.calls };
 
     fn poll(&mut self, cx: &mut Context<'_>) -> Poll<Self::Output>
-        ensures value { IfReady result (Gives C.comes self.old.holds) }
+        ensures value { IfReady result (Gives P.cmp ⟦<Waiter<A> as Clone>⟧.is_clone J.capacity
+            J.is_reserved C.calls self.old) }
         ensures again { OnPending result ⊤ }
         ensures same { OnPending result ((x : _)
-            → Gives C.comes self.new.holds x → Gives C.comes self.old.holds x) }
+            → Gives P.cmp ⟦<Waiter<A> as Clone>⟧.is_clone J.capacity J.is_reserved C.calls
+            self.new x
+            → Gives P.cmp ⟦<Waiter<A> as Clone>⟧.is_clone J.capacity J.is_reserved C.calls
+            self.old x) }
         ensures registered { OnPending result (Covers cx.new (λ source.
             source ≡ self.new.source)) }
         ensures kept { Keeps cx.old cx.new }
         ensures answered { IfReady result (λ _. self.new.holds ≡ None) }
-        ensures waits { OnPending result (WaitsOn C.comes self.old self.new) }
+        ensures waits { OnPending result (WaitsOn P.cmp ⟦<Waiter<A> as Clone>⟧.is_clone J.capacity
+            J.is_reserved C.calls self.old self.new) }
         ensures done { self.old.holds ≡ None → (result ≡ Poll.Pending) × (self.new ≡ self.old) }
     {
         let Some((mut pass, call)) = self.holds.take() else {
             return cx.yield_now();
         };
-        match self.try_first(&mut pass, call) {
+        let channel = self.channel;
+        match channel.try_first(self.rt, &mut pass, call, self.ticket) {
             Ok(reply) => Poll::Ready((reply, pass)),
             Err(rest) => match self.list(cx, &mut pass, rest) {
                 Ok(reply) => Poll::Ready((reply, pass)),
-                Err(rest) => {
+                Err((rest, given)) => {
                     self.holds = Some((pass, rest));
+                    self.ticket = Some(given);
                     Poll::Pending
                 }
             },

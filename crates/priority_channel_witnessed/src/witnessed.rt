@@ -7,6 +7,7 @@ ghost use Rattle.priority_channel_witnessed.specs.Log.{names};
 ghost use Rattle.priority_channel_witnessed.specs.Passes.{calls_of, calls_made, calls_of_others, AreNew, AreApart, Accounts, Tells};
 
 use crate::chronicle::{Fresh, Log, Pass, Seen};
+use crate::entry::Told;
 use crate::journal::Journal;
 use crate::kept::Kept;
 use crate::numbers::first_numbers;
@@ -17,10 +18,24 @@ use priority_channel_core::calls::{Answer, Call};
 use priority_channel_core::channel::PriorityQueueChannel;
 use priority_channel_core::errors::{TryRecvError, TrySendError};
 use std::alloc::{AllocError, Allocator, Global};
+use std::snapshot::Snapshot;
 use std::sync::{Mutex, Wait};
 
+// A call of the core and its entry, in one hold of the lock. The entry tells what the call was
+// given, as `$kept`, and what it answered.
+macro_rules! call {
+    ($channel:ident, $rt:ident, $pass:ident; $call:ident($($given:expr),*)
+        => $told:ident($($kept:expr),*)) => {{
+        let kept = &mut *$channel.kept.lock($rt);
+        let (answer, wakes) = kept.core.$call($($given),*);
+        let told = Told::$told($($kept,)* Snapshot::of(&answer));
+        let handed = Some(Snapshot::of(&wakes));
+        kept.journal.enter($rt, &$channel.log, &kept.core, $pass, told, handed);
+        (answer, wakes)
+    }};
+}
+
 mod bulk;
-mod evicting;
 mod looks;
 mod polls;
 mod waits;
@@ -133,9 +148,27 @@ impl<T, P: Ord, W: Clone, J: Recording, A: Allocator + Copy> Witnessed<T, P, W, 
         ensures { Tells P.cmp W.is_clone J.capacity J.is_reserved pass.old
             (Call.TrySend msg priority) (Answer.TrySend result.0) result.1 pass.new }
     {
-        self.kept
-            .lock(rt)
-            .try_send(rt, &self.log, pass, msg, priority)
+        let (kept_msg, kept_priority) = (Snapshot::of(&msg), Snapshot::of(&priority));
+        call!(self, rt, pass; try_send(msg, priority) => TrySend(kept_msg, kept_priority))
+    }
+
+    /// Sends a pair, and into a full channel in place of the last accepted of the least urgent
+    /// pairs, if the new one is more urgent: then that comes back. Else the new one does, as
+    /// `Full`.
+    pub fn try_send_evicting<R: Wait>(
+        &self,
+        rt: &R,
+        pass: &mut Pass<T, P, W, J>,
+        msg: T,
+        priority: P,
+    ) -> (Result<Option<(T, P)>, TrySendError<(T, P)>>, Wakes<W, A>)
+        ensures { Tells P.cmp W.is_clone J.capacity J.is_reserved pass.old
+            (Call.TrySendEvicting msg priority)
+            (Answer.TrySendEvicting result.0) result.1 pass.new }
+    {
+        let (kept_msg, kept_priority) = (Snapshot::of(&msg), Snapshot::of(&priority));
+        call!(self, rt, pass; try_send_evicting(msg, priority)
+            => TrySendEvicting(kept_msg, kept_priority))
     }
 
     /// Receives the first pending pair among those that no other exceeds in priority, also from a
@@ -148,7 +181,7 @@ impl<T, P: Ord, W: Clone, J: Recording, A: Allocator + Copy> Witnessed<T, P, W, 
         ensures { Tells P.cmp W.is_clone J.capacity J.is_reserved pass.old
             Call.TryRecv (Answer.TryRecv result.0) result.1 pass.new }
     {
-        self.kept.lock(rt).try_recv(rt, &self.log, pass)
+        call!(self, rt, pass; try_recv() => TryRecv())
     }
 
     /// Closes the channel for good, and answers whether it was open. What is pending can still be
@@ -157,7 +190,7 @@ impl<T, P: Ord, W: Clone, J: Recording, A: Allocator + Copy> Witnessed<T, P, W, 
         ensures { Tells P.cmp W.is_clone J.capacity J.is_reserved pass.old
             Call.Close (Answer.Close result.0) result.1 pass.new }
     {
-        self.kept.lock(rt).close(rt, &self.log, pass)
+        call!(self, rt, pass; close() => Close())
     }
 
     /// Lets both passes see what either has seen, and the history as it is. It takes no lock and
@@ -211,7 +244,7 @@ impl<T, P: Ord, W: Clone, J: Recording, A: Allocator + Copy> Witnessed<T, P, W, 
         ensures legal { IfSome result
             (λ pass. IsLegal P.cmp W.is_clone J.capacity J.is_reserved pass.seen) }
     {
-        self.kept.lock(rt).admit()
+        self.kept.lock(rt).journal.admit()
     }
 
     /// A new pass, as `admit` gives, whose holder has seen all that the holder of this one has.
@@ -236,7 +269,7 @@ impl<T, P: Ord, W: Clone, J: Recording, A: Allocator + Copy> Witnessed<T, P, W, 
     /// Takes a pass back whose holder makes no more calls. Its part is free for another pass, and
     /// its calls stay in the history. It takes the longer the more passes are out.
     pub fn leave<R: Wait>(&self, rt: &R, pass: Pass<T, P, W, J>) {
-        self.kept.lock(rt).leave(rt, &self.log, pass);
+        self.kept.lock(rt).journal.leave(rt, &self.log, pass);
     }
 
     /// Ends the channel, where these are all passes that are out: then it gives the core back, and

@@ -3,18 +3,19 @@ ghost use Rattle.priority_channel_witnessed.specs.Items.{list_in, listed, listed
 ghost use Rattle.priority_channel_witnessed.specs.Passes.{Tells};
 
 use crate::chronicle::Pass;
-use crate::entry::Pairs;
+use crate::entry::{Pairs, Told};
 use crate::witnessed::Witnessed;
 use priority_channel_chronicle::Recording;
 use priority_channel_core::awaitable_atomics::Wakes;
 use priority_channel_core::calls::{Answer, Call, CorePoll};
 use priority_channel_core::errors::{SendFault, TrySendError};
 use std::alloc::Allocator;
+use std::snapshot::Snapshot;
 use std::sync::Wait;
 
 impl<T: Drop, P: Ord + Drop, W: Clone, J: Recording, A: Allocator + Copy> Witnessed<T, P, W, J, A> {
-    /// Sends the pairs of a vector, in order, as far as there is room, in one step. What was accepted
-    /// stays, and what was not comes back, to be sent again.
+    /// Sends the pairs of a vector, in order, as far as there is room, in one step. What was
+    /// accepted stays, and what was not comes back, to be sent again.
     ///
     /// ```
     /// let (sent, wakes) = channel.try_sendv(rt, pass, jobs.into_iter().peekable());
@@ -28,12 +29,13 @@ impl<T: Drop, P: Ord + Drop, W: Clone, J: Recording, A: Allocator + Copy> Witnes
         ensures { Tells P.cmp W.is_clone J.capacity J.is_reserved pass.old
             (Call.TrySendv (list_in msgs)) (Answer.TrySendv (listed result.0)) result.1 pass.new }
     {
-        self.kept.lock(rt).try_sendv(rt, &self.log, pass, msgs)
+        let kept_msgs = Snapshot::of(&msgs);
+        call!(self, rt, pass; try_sendv(msgs) => TrySendv(kept_msgs))
     }
 
     /// Sends what there is room for, and waits for room with the rest, which is handed back for the
-    /// next poll. What was sent stays sent, also where the answer is `Memory`. Tickets and wakers are
-    /// treated as by `poll_recv`.
+    /// next poll. What was sent stays sent, also where the answer is `Memory`. Tickets and wakers
+    /// are treated as by `poll_recv`.
     pub fn poll_sendv<R: Wait>(
         &self,
         rt: &R,
@@ -49,8 +51,8 @@ impl<T: Drop, P: Ord + Drop, W: Clone, J: Recording, A: Allocator + Copy> Witnes
             (Call.PollSendv (list_in msgs) ticket waker.now)
             (Answer.PollSendv (listed_poll result.0)) result.1 pass.new }
     {
-        self.kept
-            .lock(rt)
-            .poll_sendv(rt, &self.log, pass, msgs, ticket, waker)
+        let kept_msgs = Snapshot::of(&msgs);
+        call!(self, rt, pass; poll_sendv(msgs, ticket, waker)
+            => PollSendv(kept_msgs, ticket, Snapshot::of(waker)))
     }
 }

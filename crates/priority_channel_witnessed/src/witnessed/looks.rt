@@ -3,11 +3,23 @@ ghost use Rattle.priority_channel_core.specs.machine.State.{nobody};
 ghost use Rattle.priority_channel_witnessed.specs.Passes.{Tells};
 
 use crate::chronicle::Pass;
+use crate::entry::Told;
 use crate::witnessed::Witnessed;
 use priority_channel_chronicle::Recording;
 use priority_channel_core::calls::{Answer, Call};
 use std::alloc::Allocator;
 use std::sync::Wait;
+
+// Asks the core, and enters the call.
+macro_rules! look {
+    ($channel:ident, $rt:ident, $pass:ident, $ask:ident, $told:ident) => {{
+        let kept = &mut *$channel.kept.lock($rt);
+        let answer = kept.core.$ask();
+        let told = Told::$told(answer);
+        kept.journal.enter($rt, &$channel.log, &kept.core, $pass, told, None);
+        answer
+    }};
+}
 
 impl<T, P: Ord, W: Clone, J: Recording, A: Allocator + Copy> Witnessed<T, P, W, J, A> {
     /// Whether the channel is closed.
@@ -15,7 +27,7 @@ impl<T, P: Ord, W: Clone, J: Recording, A: Allocator + Copy> Witnessed<T, P, W, 
         ensures { Tells P.cmp W.is_clone J.capacity J.is_reserved pass.old
             Call.IsClosed (Answer.IsClosed result) nobody pass.new }
     {
-        self.kept.lock(rt).is_closed(rt, &self.log, pass)
+        look!(self, rt, pass, is_closed, IsClosed)
     }
 
     /// Whether no pair is pending.
@@ -23,7 +35,7 @@ impl<T, P: Ord, W: Clone, J: Recording, A: Allocator + Copy> Witnessed<T, P, W, 
         ensures { Tells P.cmp W.is_clone J.capacity J.is_reserved pass.old
             Call.IsEmpty (Answer.IsEmpty result) nobody pass.new }
     {
-        self.kept.lock(rt).is_empty(rt, &self.log, pass)
+        look!(self, rt, pass, is_empty, IsEmpty)
     }
 
     /// Whether there is no room.
@@ -31,7 +43,7 @@ impl<T, P: Ord, W: Clone, J: Recording, A: Allocator + Copy> Witnessed<T, P, W, 
         ensures { Tells P.cmp W.is_clone J.capacity J.is_reserved pass.old
             Call.IsFull (Answer.IsFull result) nobody pass.new }
     {
-        self.kept.lock(rt).is_full(rt, &self.log, pass)
+        look!(self, rt, pass, is_full, IsFull)
     }
 
     /// How many pairs are pending.
@@ -39,7 +51,7 @@ impl<T, P: Ord, W: Clone, J: Recording, A: Allocator + Copy> Witnessed<T, P, W, 
         ensures { Tells P.cmp W.is_clone J.capacity J.is_reserved pass.old
             Call.Len (Answer.Len result) nobody pass.new }
     {
-        self.kept.lock(rt).len(rt, &self.log, pass)
+        look!(self, rt, pass, len, Len)
     }
 
     /// How many pairs may be pending at a time; None where the capacity is `u64::MAX`.
@@ -47,7 +59,7 @@ impl<T, P: Ord, W: Clone, J: Recording, A: Allocator + Copy> Witnessed<T, P, W, 
         ensures { Tells P.cmp W.is_clone J.capacity J.is_reserved pass.old
             Call.Capacity (Answer.Capacity result) nobody pass.new }
     {
-        self.kept.lock(rt).capacity(rt, &self.log, pass)
+        look!(self, rt, pass, capacity, Capacity)
     }
 
     /// How many senders the core counts: one, as passes are not counted.
@@ -55,7 +67,7 @@ impl<T, P: Ord, W: Clone, J: Recording, A: Allocator + Copy> Witnessed<T, P, W, 
         ensures { Tells P.cmp W.is_clone J.capacity J.is_reserved pass.old
             Call.SenderCount (Answer.SenderCount result) nobody pass.new }
     {
-        self.kept.lock(rt).sender_count(rt, &self.log, pass)
+        look!(self, rt, pass, sender_count, SenderCount)
     }
 
     /// How many receivers the core counts: one, as passes are not counted.
@@ -63,6 +75,6 @@ impl<T, P: Ord, W: Clone, J: Recording, A: Allocator + Copy> Witnessed<T, P, W, 
         ensures { Tells P.cmp W.is_clone J.capacity J.is_reserved pass.old
             Call.ReceiverCount (Answer.ReceiverCount result) nobody pass.new }
     {
-        self.kept.lock(rt).receiver_count(rt, &self.log, pass)
+        look!(self, rt, pass, receiver_count, ReceiverCount)
     }
 }

@@ -3,12 +3,14 @@ ghost use Rattle.priority_channel_core.specs.machine.State.{nobody};
 ghost use Rattle.priority_channel_witnessed.specs.Passes.{Tells};
 
 use crate::chronicle::Pass;
+use crate::entry::Told;
 use crate::witnessed::Witnessed;
 use priority_channel_chronicle::Recording;
 use priority_channel_core::awaitable_atomics::Wakes;
 use priority_channel_core::calls::{Answer, Call, CorePoll};
 use priority_channel_core::errors::{RecvFault, SendFault};
 use std::alloc::Allocator;
+use std::snapshot::Snapshot;
 use std::sync::Wait;
 
 impl<T, P: Ord, W: Clone, J: Recording, A: Allocator + Copy> Witnessed<T, P, W, J, A> {
@@ -25,9 +27,7 @@ impl<T, P: Ord, W: Clone, J: Recording, A: Allocator + Copy> Witnessed<T, P, W, 
         ensures { Tells P.cmp W.is_clone J.capacity J.is_reserved pass.old
             (Call.PollRecv ticket waker.now) (Answer.PollRecv result.0) result.1 pass.new }
     {
-        self.kept
-            .lock(rt)
-            .poll_recv(rt, &self.log, pass, ticket, waker)
+        call!(self, rt, pass; poll_recv(ticket, waker) => PollRecv(ticket, Snapshot::of(waker)))
     }
 
     /// Sends a pair, or waits for room under the answered ticket and hands the pair back for the
@@ -45,9 +45,9 @@ impl<T, P: Ord, W: Clone, J: Recording, A: Allocator + Copy> Witnessed<T, P, W, 
             (Call.PollSend msg priority ticket waker.now)
             (Answer.PollSend result.0) result.1 pass.new }
     {
-        self.kept
-            .lock(rt)
-            .poll_send(rt, &self.log, pass, msg, priority, ticket, waker)
+        let (kept_msg, kept_priority) = (Snapshot::of(&msg), Snapshot::of(&priority));
+        call!(self, rt, pass; poll_send(msg, priority, ticket, waker)
+            => PollSend(kept_msg, kept_priority, ticket, Snapshot::of(waker)))
     }
 
     /// The party of this ticket waits no more. A ticket that is not listed changes nothing.
@@ -55,6 +55,8 @@ impl<T, P: Ord, W: Clone, J: Recording, A: Allocator + Copy> Witnessed<T, P, W, 
         ensures { Tells P.cmp W.is_clone J.capacity J.is_reserved pass.old
             (Call.GiveUp ticket) Answer.GiveUp nobody pass.new }
     {
-        self.kept.lock(rt).give_up(rt, &self.log, pass, ticket);
+        let kept = &mut *self.kept.lock(rt);
+        kept.core.give_up(ticket);
+        kept.journal.enter(rt, &self.log, &kept.core, pass, Told::GiveUp(ticket), None);
     }
 }

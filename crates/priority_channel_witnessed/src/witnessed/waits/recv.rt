@@ -1,10 +1,14 @@
 //! Receiving a pair on a thread that waits for it.
-ghost use Rattle.priority_channel_witnessed.specs.Waits.{IsAnswered, AnswersRecv, recv_in_time};
+ghost use Rattle.std.specs.Prelude.{◌≡◌, Ok, None};
+ghost use Rattle.std.specs.Duration.{as_nanos};
+ghost use Rattle.priority_channel_witnessed.specs.Passes.{Tells};
+ghost use Rattle.priority_channel_witnessed.specs.Waits.{ends, recv_result, ComesTo, RecvCalls};
 
-use crate::attempt::Receive;
 use crate::chronicle::Pass;
 use crate::witnessed::Witnessed;
+use crate::witnessed::waits::received_in_time;
 use priority_channel_chronicle::Recording;
+use priority_channel_core::calls::Call;
 use priority_channel_core::errors::RecvFault;
 use priority_channel_waiting::timeouts::RecvTimeoutError;
 use priority_channel_waiting::until::{Deadline, Endless};
@@ -19,7 +23,8 @@ impl<T, P: Ord, J: Recording, A: Allocator + Copy> Witnessed<T, P, Waiter<A>, J,
     /// that is refused.
     ///
     /// What the pass sees then ends with the call that received the pair, or was refused; where
-    /// there was no memory for a waiter, with the try that found nothing.
+    /// there was no memory for a waiter, with the try that found nothing. All its calls before that
+    /// found nothing.
     ///
     /// ```
     /// let (msg, priority) = channel.recv_blocking(rt, pass)?;
@@ -29,12 +34,12 @@ impl<T, P: Ord, J: Recording, A: Allocator + Copy> Witnessed<T, P, Waiter<A>, J,
         rt: &R,
         pass: &mut Pass<T, P, Waiter<A>, J>,
     ) -> Result<(T, P), RecvFault>
-        ensures { IsAnswered P.cmp ⟦<Waiter<A> as Clone>⟧.is_clone J.capacity J.is_reserved
-            pass.old (AnswersRecv (recv_in_time result)) pass.new }
+        ensures { ComesTo P.cmp ⟦<Waiter<A> as Clone>⟧.is_clone J.capacity J.is_reserved RecvCalls
+            pass.old tt None (ends (Ok result)) pass.new }
     {
-        match self.wait(rt, pass, Receive, &Endless) {
+        match self.wait(rt, pass, (), &Endless) {
             Ok(received) => received,
-            Err((_receive, never)) => match never {},
+            Err(((), never)) => match never {},
         }
     }
 
@@ -59,14 +64,17 @@ impl<T, P: Ord, J: Recording, A: Allocator + Copy> Witnessed<T, P, Waiter<A>, J,
         pass: &mut Pass<T, P, Waiter<A>, J>,
         timeout: Duration,
     ) -> Result<(T, P), RecvTimeoutError>
-        ensures { IsAnswered P.cmp ⟦<Waiter<A> as Clone>⟧.is_clone J.capacity J.is_reserved
-            pass.old (AnswersRecv result) pass.new }
+        ensures told { (end : _) × (result ≡ recv_result end) × ComesTo P.cmp
+            ⟦<Waiter<A> as Clone>⟧.is_clone J.capacity J.is_reserved RecvCalls
+            pass.old tt None (ends end) pass.new }
+        ensures at_once { as_nanos timeout ≡ 0 → (reply : _) × (handed : _) × Tells P.cmp
+            ⟦<Waiter<A> as Clone>⟧.is_clone J.capacity J.is_reserved pass.old
+            Call.TryRecv reply handed pass.new }
     {
-        let deadline = Deadline::after(rt, timeout);
-        match self.wait(rt, pass, Receive, &deadline) {
-            Ok(received) => Ok(received?),
-            Err((_receive, _overdue)) => Err(RecvTimeoutError::Timeout),
+        if timeout.is_zero() {
+            return received_in_time(self.at_once(rt, pass, ()));
         }
+        received_in_time(self.wait(rt, pass, (), &Deadline::after(rt, timeout)))
     }
 
     /// As `recv_timeout`, but waits no longer than until then.
@@ -76,13 +84,10 @@ impl<T, P: Ord, J: Recording, A: Allocator + Copy> Witnessed<T, P, Waiter<A>, J,
         pass: &mut Pass<T, P, Waiter<A>, J>,
         deadline: Instant,
     ) -> Result<(T, P), RecvTimeoutError>
-        ensures { IsAnswered P.cmp ⟦<Waiter<A> as Clone>⟧.is_clone J.capacity J.is_reserved
-            pass.old (AnswersRecv result) pass.new }
+        ensures { (end : _) × (result ≡ recv_result end) × ComesTo P.cmp
+            ⟦<Waiter<A> as Clone>⟧.is_clone J.capacity J.is_reserved RecvCalls
+            pass.old tt None (ends end) pass.new }
     {
-        let deadline = Deadline::at(rt, deadline);
-        match self.wait(rt, pass, Receive, &deadline) {
-            Ok(received) => Ok(received?),
-            Err((_receive, _overdue)) => Err(RecvTimeoutError::Timeout),
-        }
+        received_in_time(self.wait(rt, pass, (), &Deadline::at(rt, deadline)))
     }
 }

@@ -1,13 +1,15 @@
 //! Sending a pair on a thread that waits for room.
-ghost use Rattle.std.specs.Prelude.{◌≡◌, IfErr, IfSome};
+ghost use Rattle.std.specs.Prelude.{◌≡◌, Ok, None, IfErr, IfSome};
+ghost use Rattle.std.specs.Duration.{as_nanos};
 ghost use Rattle.priority_channel_core.specs.Errors.{rest_of, unsent};
 ghost use Rattle.priority_channel_core.specs.code.Replies.{kept_by};
 ghost use Rattle.priority_channel_waiting.specs.Waits.{unsent_in_time};
 ghost use Rattle.priority_channel_witnessed.specs.Passes.{Tells};
-ghost use Rattle.priority_channel_witnessed.specs.Waits.{IsAnswered, AnswersSend, send_in_time};
+ghost use Rattle.priority_channel_witnessed.specs.Waits.{ends, send_result, ComesTo, SendCalls};
 
 use crate::chronicle::Pass;
 use crate::witnessed::Witnessed;
+use crate::witnessed::waits::sent_in_time;
 use priority_channel_chronicle::Recording;
 use priority_channel_core::calls::{Answer, Call, CorePoll};
 use priority_channel_core::errors::{SendFault, TrySendError};
@@ -36,8 +38,8 @@ impl<T, P: Ord, J: Recording, A: Allocator + Copy> Witnessed<T, P, Waiter<A>, J,
         msg: T,
         priority: P,
     ) -> Result<(), SendFault<(T, P)>>
-        ensures told { IsAnswered P.cmp ⟦<Waiter<A> as Clone>⟧.is_clone J.capacity J.is_reserved
-            pass.old (AnswersSend msg priority (send_in_time result)) pass.new }
+        ensures told { ComesTo P.cmp ⟦<Waiter<A> as Clone>⟧.is_clone J.capacity J.is_reserved
+            SendCalls pass.old (msg, priority) None (ends (Ok result)) pass.new }
         ensures unsent { IfErr result (λ fault. unsent fault ≡ (msg, priority)) }
     {
         match self.wait(rt, pass, (msg, priority), &Endless) {
@@ -61,15 +63,18 @@ impl<T, P: Ord, J: Recording, A: Allocator + Copy> Witnessed<T, P, Waiter<A>, J,
         priority: P,
         timeout: Duration,
     ) -> Result<(), SendTimeoutError<(T, P)>>
-        ensures told { IsAnswered P.cmp ⟦<Waiter<A> as Clone>⟧.is_clone J.capacity J.is_reserved
-            pass.old (AnswersSend msg priority result) pass.new }
+        ensures told { (end : _) × (result ≡ send_result end) × ComesTo P.cmp
+            ⟦<Waiter<A> as Clone>⟧.is_clone J.capacity J.is_reserved SendCalls
+            pass.old (msg, priority) None (ends end) pass.new }
         ensures unsent { IfErr result (λ error. unsent_in_time error ≡ (msg, priority)) }
+        ensures at_once { as_nanos timeout ≡ 0 → (reply : _) × (handed : _) × Tells P.cmp
+            ⟦<Waiter<A> as Clone>⟧.is_clone J.capacity J.is_reserved pass.old
+            (Call.TrySend msg priority) reply handed pass.new }
     {
-        let deadline = Deadline::after(rt, timeout);
-        match self.wait(rt, pass, (msg, priority), &deadline) {
-            Ok(sent) => Ok(sent?),
-            Err((unsent, _overdue)) => Err(SendTimeoutError::Timeout(unsent)),
+        if timeout.is_zero() {
+            return sent_in_time(self.at_once(rt, pass, (msg, priority)));
         }
+        sent_in_time(self.wait(rt, pass, (msg, priority), &Deadline::after(rt, timeout)))
     }
 
     /// As `send_timeout`, but waits no longer than until then.
@@ -81,15 +86,12 @@ impl<T, P: Ord, J: Recording, A: Allocator + Copy> Witnessed<T, P, Waiter<A>, J,
         priority: P,
         deadline: Instant,
     ) -> Result<(), SendTimeoutError<(T, P)>>
-        ensures told { IsAnswered P.cmp ⟦<Waiter<A> as Clone>⟧.is_clone J.capacity J.is_reserved
-            pass.old (AnswersSend msg priority result) pass.new }
+        ensures told { (end : _) × (result ≡ send_result end) × ComesTo P.cmp
+            ⟦<Waiter<A> as Clone>⟧.is_clone J.capacity J.is_reserved SendCalls
+            pass.old (msg, priority) None (ends end) pass.new }
         ensures unsent { IfErr result (λ error. unsent_in_time error ≡ (msg, priority)) }
     {
-        let deadline = Deadline::at(rt, deadline);
-        match self.wait(rt, pass, (msg, priority), &deadline) {
-            Ok(sent) => Ok(sent?),
-            Err((unsent, _overdue)) => Err(SendTimeoutError::Timeout(unsent)),
-        }
+        sent_in_time(self.wait(rt, pass, (msg, priority), &Deadline::at(rt, deadline)))
     }
 
     // `try_send`, and wakes whom it hands out.

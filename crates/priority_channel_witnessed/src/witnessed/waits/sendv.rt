@@ -1,35 +1,23 @@
 //! Sending many pairs on a thread that waits for room.
-ghost use Rattle.std.specs.Prelude.{◌≡◌, Err, IfOk, IfErr};
-ghost use Rattle.priority_channel_waiting.specs.declared.timeouts.SendTimeoutError.TheVariants.{Timeout};
+ghost use Rattle.std.specs.Prelude.{◌≡◌, Ok, None};
+ghost use Rattle.std.specs.Duration.{as_nanos};
 ghost use Rattle.priority_channel_witnessed.specs.Items.{list_in};
-ghost use Rattle.priority_channel_witnessed.specs.Waits.{HasCalled, IsSentOn, send_in_time, listed_in_time};
+ghost use Rattle.priority_channel_witnessed.specs.Passes.{Tells};
+ghost use Rattle.priority_channel_witnessed.specs.Waits.{ends, send_result, ComesTo, SendvCalls};
 
 use crate::chronicle::Pass;
 use crate::entry::Pairs;
 use crate::witnessed::Witnessed;
+use crate::witnessed::waits::sent_in_time;
 use priority_channel_chronicle::Recording;
-use priority_channel_core::errors::{SendError, SendFault};
+use priority_channel_core::calls::Call;
+use priority_channel_core::errors::SendFault;
 use priority_channel_waiting::timeouts::SendTimeoutError;
 use priority_channel_waiting::until::{Deadline, Endless};
 use priority_channel_waiting::waiter::Waiter;
 use std::alloc::Allocator;
 use std::sync::Wait;
 use std::time::{Clock, Duration, Instant};
-
-// What a call with a limit returns.
-fn in_time<C, O: Drop>(
-    waited: Result<Result<(), SendFault<C>>, (C, O)>,
-) -> Result<(), SendTimeoutError<C>>
-    ensures sent { IfOk waited (λ sent. send_in_time sent ≡ result) }
-    ensures over { IfErr waited (λ rest. result ≡ Err (Timeout rest.0)) }
-{
-    match waited {
-        Ok(Ok(())) => Ok(()),
-        Ok(Err(SendFault::Closed(SendError(rest)))) => Err(SendTimeoutError::Closed(rest)),
-        Ok(Err(SendFault::Memory(rest))) => Err(SendTimeoutError::Memory(rest)),
-        Err((rest, _over)) => Err(SendTimeoutError::Timeout(rest)),
-    }
-}
 
 impl<T: Drop, P: Ord + Drop, J: Recording, A: Allocator + Copy> Witnessed<T, P, Waiter<A>, J, A> {
     /// Sends all pairs of a vector, in order, and waits for room on this thread, which sleeps
@@ -45,9 +33,8 @@ impl<T: Drop, P: Ord + Drop, J: Recording, A: Allocator + Copy> Witnessed<T, P, 
         pass: &mut Pass<T, P, Waiter<A>, J>,
         msgs: Pairs<T, P, A>,
     ) -> Result<(), SendFault<Pairs<T, P, A>>>
-        ensures { HasCalled pass.old pass.new (IsSentOn P.cmp ⟦<Waiter<A> as Clone>⟧.is_clone
-            J.capacity J.is_reserved pass.old (list_in msgs)
-            (listed_in_time (send_in_time result)) pass.new) }
+        ensures { ComesTo P.cmp ⟦<Waiter<A> as Clone>⟧.is_clone J.capacity J.is_reserved SendvCalls
+            pass.old msgs None (ends (Ok result)) pass.new }
     {
         match self.wait(rt, pass, msgs, &Endless) {
             Ok(sent) => sent,
@@ -72,12 +59,17 @@ impl<T: Drop, P: Ord + Drop, J: Recording, A: Allocator + Copy> Witnessed<T, P, 
         msgs: Pairs<T, P, A>,
         timeout: Duration,
     ) -> Result<(), SendTimeoutError<Pairs<T, P, A>>>
-        ensures { HasCalled pass.old pass.new (IsSentOn P.cmp ⟦<Waiter<A> as Clone>⟧.is_clone
-            J.capacity J.is_reserved pass.old (list_in msgs)
-            (listed_in_time result) pass.new) }
+        ensures told { (end : _) × (result ≡ send_result end) × ComesTo P.cmp
+            ⟦<Waiter<A> as Clone>⟧.is_clone J.capacity J.is_reserved SendvCalls
+            pass.old msgs None (ends end) pass.new }
+        ensures at_once { as_nanos timeout ≡ 0 → (reply : _) × (handed : _) × Tells P.cmp
+            ⟦<Waiter<A> as Clone>⟧.is_clone J.capacity J.is_reserved pass.old
+            (Call.TrySendv (list_in msgs)) reply handed pass.new }
     {
-        let deadline = Deadline::after(rt, timeout);
-        in_time(self.wait(rt, pass, msgs, &deadline))
+        if timeout.is_zero() {
+            return sent_in_time(self.at_once(rt, pass, msgs));
+        }
+        sent_in_time(self.wait(rt, pass, msgs, &Deadline::after(rt, timeout)))
     }
 
     /// As `sendv_timeout`, but waits no longer than until then.
@@ -88,11 +80,10 @@ impl<T: Drop, P: Ord + Drop, J: Recording, A: Allocator + Copy> Witnessed<T, P, 
         msgs: Pairs<T, P, A>,
         deadline: Instant,
     ) -> Result<(), SendTimeoutError<Pairs<T, P, A>>>
-        ensures { HasCalled pass.old pass.new (IsSentOn P.cmp ⟦<Waiter<A> as Clone>⟧.is_clone
-            J.capacity J.is_reserved pass.old (list_in msgs)
-            (listed_in_time result) pass.new) }
+        ensures { (end : _) × (result ≡ send_result end) × ComesTo P.cmp
+            ⟦<Waiter<A> as Clone>⟧.is_clone J.capacity J.is_reserved SendvCalls
+            pass.old msgs None (ends end) pass.new }
     {
-        let deadline = Deadline::at(rt, deadline);
-        in_time(self.wait(rt, pass, msgs, &deadline))
+        sent_in_time(self.wait(rt, pass, msgs, &Deadline::at(rt, deadline)))
     }
 }
