@@ -51,7 +51,7 @@ module _ {X : Type 0} (R : X → X → Ordering) (o : IsTotalOrder R) where
       climbs_above : ComparesAt R xs g h true → (b : ℕ) → IsOver g b → b < length ys → ComparesAt R ys g b false
       climbs_above t b r p = settled (flipped lt IsOver) (Under lt IsOver) (flips lt IsOver ranks) never_both' xs ys (length xs) h g gh gn sw (flips_but lt IsOver xs (length xs) h (to_but xs h w)) t b r (omega arith)
 
-    -- a step of `rise_among_highs`
+    -- a step of `rise` at a high
     pub rises_high : h % 2 ≡ 0 → 1 < h → g ≡ (h - 2) / 4 * 2 → ComparesAt R xs g h true → AtMostTooGreat R xs h → AtMostTooGreat R ys g
     rises_high e more is t w =
         let gh : IsOver g h = subst (λ m. IsOver m h) (sym is) (parent_high h more) in record {
@@ -59,7 +59,7 @@ module _ {X : Type 0} (R : X → X → Ordering) (o : IsTotalOrder R) where
           under = climbs_above gh w.others t;
         }
 
-    -- a step of `rise_among_lows`
+    -- a step of `rise` at a low
     pub rises_low : h % 2 ≡ 1 → 1 < h → g ≡ (h - 2) / 4 * 2 + 1 → ComparesAt R xs h g true → AtMostTooSmall R xs h → AtMostTooSmall R ys g
     rises_low e more is t w =
         let hg : IsOver h g = subst (λ m. IsOver h m) (sym is) (parent_low h more) in record {

@@ -4,6 +4,7 @@
 -- the high at h and the low at l are two pairs, from h * 2 + 2 on, which is l * 2.
 use Rattle.std.specs.Prelude.{◌≡◌, ℕ, ◌+◌, ◌*◌, ◌%◌, ◌<◌, ◌≤◌, ◌≢◌, false, List, length}
 use Rattle.std.specs.BinaryHeap.Sift.{ComparesAt}
+use Rattle.std.specs.List.{SwappedAt}
 use Rattle.std.specs.declared.cmp.Ordering.{Ordering}
 
 -- a high is over its low, and each item of the two pairs below is between both
@@ -29,6 +30,10 @@ module _ {X : Type 0} (R : X → X → Ordering) where
         → ComparesAt R xs a b false
     pub across : (a b : ℕ) → IsOver a h → IsOver h b → a < length xs → b < length xs
         → ComparesAt R xs a b false
+
+  -- once the items at h and c have changed places, only the item at c may be out of order
+  abbrev pub FallsTo : List X → ℕ → ℕ → Type 0
+  FallsTo xs h c = (ys : List X) → length ys ≡ length xs → SwappedAt xs ys h c → InOrderBut xs h → InOrderBut ys c
 
   -- the item at h may be greater than the items over it
   pub record AtMostTooGreat (xs : List X) (h : ℕ) : Type 0 where

@@ -3,8 +3,9 @@ use super::{expect_equal, expect_equal_at};
 use priority_channel_core::errors::{TryRecvError, TrySendError};
 use priority_channel_recorded::{Book, Call, Entry, NoMemory, Reply};
 use refusing::Refusing;
+use std::process::Abort;
 
-type Row = (Call<u64, u64>, Reply<u64, u64>);
+pub type Row = (Call<u64, u64>, Reply<u64, u64>);
 
 /// Seven calls on a channel for two, and what they answer.
 pub const SEVEN: [Row; 7] = [
@@ -59,6 +60,19 @@ const EVICTING: [Row; 6] = [
     (Call::TryRecv, Reply::Received(Ok((1, 2)))),
 ];
 
+/// The history of these calls by that caller.
+pub fn expect_entries(rt: &impl Abort, history: &[Entry<u64, u64>], who: u64, rows: &[Row]) {
+    expect_equal(rt, history.len(), rows.len());
+    for ((call, reply), entry) in rows.iter().zip(history) {
+        let wanted = Entry {
+            who,
+            call: *call,
+            reply: *reply,
+        };
+        expect_equal(rt, *entry, wanted);
+    }
+}
+
 #[test]
 fn a_book_enters_what_was_answered(rt: HostRuntime) {
     for rows in [SEVEN.as_slice(), LOOKS.as_slice(), EVICTING.as_slice()] {
@@ -66,15 +80,7 @@ fn a_book_enters_what_was_answered(rt: HostRuntime) {
         for (call, reply) in rows {
             expect_equal_at(&rt, *call, book.record(7, *call), Ok(*reply));
         }
-        expect_equal(&rt, book.history().len(), rows.len());
-        for ((call, reply), entry) in rows.iter().zip(book.history()) {
-            let wanted = Entry {
-                who: 7,
-                call: *call,
-                reply: *reply,
-            };
-            expect_equal(&rt, *entry, wanted);
-        }
+        expect_entries(&rt, book.history(), 7, rows);
     }
 }
 

@@ -1,29 +1,98 @@
 //! Recorded channels, with one pass and with several.
-ghost use Rattle.std.specs.Prelude.{◌≡◌};
+ghost use Rattle.std.specs.Prelude.{◌≡◌, ◌<◌, ◌^◌};
 ghost use Rattle.priority_channel_recorded.specs.Log.{names};
 
-use super::books::SEVEN;
+use super::books::{SEVEN, expect_entries};
+use super::scenes::Host;
 use super::{expect_equal, expect_equal_at};
+use four::{Heard, call_on_four_threads};
 use priority_channel_core::errors::TrySendError;
-use priority_channel_recorded::{Call, Entry, Fresh, NoMemory, Recorded, Recording, Reply};
+use priority_channel_recorded::{Call, Fresh, History, NoMemory, Pass, Recorded, Recording, Reply};
 use refusing::Refusing;
-use std::alloc::{AllocGlobal, Global};
+use std::alloc::{AllocError, Global};
 use std::marker::Brand;
-use std::process::Abort;
-use std::sync::Wait;
-use std::thread::{self, Threads};
+use std::thread;
 
 mod four;
 
-// With one pass, for whose calls no more memory is asked.
-fn record_seven<J: Recording, R: Wait + Abort + AllocGlobal>(rt: &R, fresh: Fresh<u64, u64>)
-    requires names { fresh ≡ names J.log J.capacity J.is_reserved J.name J.parts }
-    requires capacity { fresh.capacity ≡ 2 }
-    requires passes { fresh.passes ≡ 1 }
+type Alloc<'a> = &'a Refusing<Global>;
+
+type Recorder<'a, J> = Recorded<u64, u64, J, Alloc<'a>>;
+
+type Passes<'a, J> = Vec<Pass<u64, u64, J>, Alloc<'a>>;
+
+type Told<'a> = History<u64, u64, Alloc<'a>>;
+
+/// What is played on a recorder.
+#[derive(Clone, Copy)]
+enum Scene<'a> {
+    Nothing,
+    Seven,
+    WithoutMemory,
+    Meeting,
+    Closing,
+    FourThreads(&'a Heard),
+}
+
+// Plays a scene on a recorder for so many pairs, entries and passes, and tells its history. The
+// error is that memory was refused for the recorder.
+fn record<'a, R: Host>(
+    rt: &R,
+    alloc: Alloc<'a>,
+    scene: Scene<'_>,
+    cap: u64,
+    entries: usize,
+    passes: usize,
+) -> Result<Told<'a>, AllocError>
+    requires positive { 0 < cap }
+    requires fits { cap < 2 ^ 63 }
 {
-    let alloc = Refusing::new(rt.alloc());
-    let made = Recorded::<u64, u64, J, _>::new(&alloc, fresh, 2, 8, 1);
-    let (recorder, mut passes) = made.expect(rt, "a recorder");
+    record_as::<Brand, R>(
+        rt,
+        alloc,
+        scene,
+        Fresh::new(cap, passes),
+        (cap, entries, passes),
+    )
+}
+
+fn record_as<'a, J: Recording + Send + Sync, R: Host>(
+    rt: &R,
+    alloc: Alloc<'a>,
+    scene: Scene<'_>,
+    fresh: Fresh<u64, u64>,
+    sizes: (u64, usize, usize),
+) -> Result<Told<'a>, AllocError>
+    requires positive { 0 < sizes.0 }
+    requires fits { sizes.0 < 2 ^ 63 }
+    requires names { fresh ≡ names J.log J.capacity J.is_reserved J.name J.parts }
+    requires capacity { fresh.capacity ≡ sizes.0 }
+    requires passes { fresh.passes ≡ sizes.2 }
+{
+    let (cap, entries, count) = sizes;
+    let made = Recorder::<J>::new(alloc, fresh, cap, entries, count);
+    let (recorder, mut passes) = made?;
+    match scene {
+        Scene::Nothing => {}
+        Scene::Seven => record_seven(rt, alloc, &recorder, &mut passes),
+        Scene::WithoutMemory => call_without_memory(rt, alloc, &recorder, &mut passes),
+        Scene::Meeting => meet(rt, &recorder, &mut passes),
+        Scene::Closing => close_on_a_thread(rt, &recorder, &mut passes),
+        Scene::FourThreads(heard) => call_on_four_threads(rt, alloc, &recorder, &mut passes, heard),
+    }
+    if passes.len() != count {
+        panic!(rt; "a pass is missing");
+    }
+    Ok(recorder.end(rt, passes))
+}
+
+// For the calls of one pass no more memory is asked.
+fn record_seven<'a, J: Recording, R: Host>(
+    rt: &R,
+    alloc: Alloc<'a>,
+    recorder: &Recorder<'a, J>,
+    passes: &mut Passes<'a, J>,
+) {
     alloc.refuse_all();
     let mut pass = passes.pop().expect(rt, "a pass");
     for (call, reply) in SEVEN {
@@ -32,52 +101,37 @@ fn record_seven<J: Recording, R: Wait + Abort + AllocGlobal>(rt: &R, fresh: Fres
     }
     expect_equal(rt, pass.count(), 7);
     passes.push(pass).expect(rt, "its own place");
-    let history = recorder.end(rt, passes);
-    expect_equal(rt, history.entries().len(), 7);
-    for ((call, reply), entry) in SEVEN.iter().zip(history.entries()) {
-        let wanted = Entry {
-            who: 0,
-            call: *call,
-            reply: *reply,
-        };
-        expect_equal(rt, *entry, wanted);
-    }
 }
 
 #[test]
 fn a_pass_records(rt: HostRuntime) {
-    record_seven::<Brand, _>(&rt, Fresh::new(2, 1));
+    let alloc = Refusing::new(rt.alloc());
+    let told = record(&rt, &alloc, Scene::Seven, 2, 8, 1).expect(&rt, "a recorder");
+    expect_entries(&rt, told.entries(), 0, SEVEN.as_slice());
 }
 
-fn is_made<J: Recording>(alloc: &Refusing<Global>, fresh: Fresh<u64, u64>) -> bool
-    requires names { fresh ≡ names J.log J.capacity J.is_reserved J.name J.parts }
-    requires capacity { fresh.capacity ≡ 2 }
-    requires passes { fresh.passes ≡ 2 }
-{
-    Recorded::<u64, u64, J, _>::new(alloc, fresh, 2, 8, 2).is_ok()
-}
-
-// A request for the passes, one for the channel and one for its history.
+// A request for the passes, one for the channel and one for its history, which ends without an
+// entry.
 #[test]
 fn a_recorder_may_be_refused_memory(rt: HostRuntime) {
     let alloc = Refusing::new(rt.alloc());
     for n in 1..=4u64 {
         alloc.refuse_nth(n);
-        let made = is_made::<Brand>(&alloc, Fresh::new(2, 2));
+        let told = record(&rt, &alloc, Scene::Nothing, 2, 8, 2);
+        let entries = told.ok().map(|history| history.entries().len());
         let met_none = alloc.refuse_none();
-        expect_equal_at(&rt, n, (met_none, made), (n == 4, n == 4));
+        let wanted = if n == 4 { Some(0) } else { None };
+        expect_equal_at(&rt, n, (met_none, entries), (n == 4, wanted));
     }
 }
 
 // Without memory for an entry a call is not made, and may be made again.
-fn call_without_memory<J: Recording, R: Wait + Abort + AllocGlobal>(rt: &R, fresh: Fresh<u64, u64>)
-    requires names { fresh ≡ names J.log J.capacity J.is_reserved J.name J.parts }
-    requires capacity { fresh.capacity ≡ 1 }
-    requires passes { fresh.passes ≡ 1 }
-{
-    let alloc = Refusing::new(rt.alloc());
-    let made = Recorded::<u64, u64, J, _>::new(&alloc, fresh, 1, 0, 1);
-    let (recorder, mut passes) = made.expect(rt, "a recorder");
+fn call_without_memory<'a, J: Recording, R: Host>(
+    rt: &R,
+    alloc: Alloc<'a>,
+    recorder: &Recorder<'a, J>,
+    passes: &mut Passes<'a, J>,
+) {
     let mut pass = passes.pop().expect(rt, "a pass");
     alloc.refuse_all();
     let refused = recorder.call(rt, &mut pass, Call::TrySend(1, 1));
@@ -88,30 +142,32 @@ fn call_without_memory<J: Recording, R: Wait + Abort + AllocGlobal>(rt: &R, fres
     // And as many more as there is memory for.
     for count in 2..=6_000u64 {
         let length = recorder.call(rt, &mut pass, Call::Len);
-        expect_equal_at(
-            rt,
-            count,
-            (length, pass.count()),
-            (Ok(Reply::Len(1)), count),
-        );
+        let told = (length, pass.count());
+        expect_equal_at(rt, count, told, (Ok(Reply::Len(1)), count));
     }
     passes.push(pass).expect(rt, "its own place");
-    expect_equal(rt, recorder.end(rt, passes).entries().len(), 6_000);
 }
 
 #[test]
 fn a_call_without_memory_is_not_made(rt: HostRuntime) {
-    call_without_memory::<Brand, _>(&rt, Fresh::new(1, 1));
+    let alloc = Refusing::new(rt.alloc());
+    let told = record(&rt, &alloc, Scene::WithoutMemory, 1, 0, 1).expect(&rt, "a recorder");
+    expect_equal(&rt, told.entries().len(), 6_000);
+}
+
+// Who made which call, where two passes play a scene.
+fn expect_callers<R: Host>(rt: &R, scene: Scene<'_>, cap: u64, callers: &[u64])
+    requires positive { 0 < cap }
+    requires fits { cap < 2 ^ 63 }
+{
+    let alloc = Refusing::new(rt.alloc());
+    let told = record(rt, &alloc, scene, cap, callers.len(), 2).expect(rt, "a recorder");
+    let made = told.entries().iter().map(|entry| entry.who);
+    expect_equal(rt, made.eq(callers.iter().copied()), true);
 }
 
 // The second pass receives what the first has sent, and each knows of the other.
-fn meet<J: Recording, R: Wait + Abort + AllocGlobal>(rt: &R, fresh: Fresh<u64, u64>)
-    requires names { fresh ≡ names J.log J.capacity J.is_reserved J.name J.parts }
-    requires capacity { fresh.capacity ≡ 2 }
-    requires passes { fresh.passes ≡ 2 }
-{
-    let made = Recorded::<u64, u64, J>::new(rt.alloc(), fresh, 2, 8, 2);
-    let (recorder, mut passes) = made.expect(rt, "a recorder");
+fn meet<'a, J: Recording, R: Host>(rt: &R, recorder: &Recorder<'a, J>, passes: &mut Passes<'a, J>) {
     let mut one = passes.pop().expect(rt, "a pass");
     let mut zero = passes.pop().expect(rt, "a pass");
     let sent = recorder.call(rt, &mut zero, Call::TrySend(1, 5));
@@ -125,27 +181,19 @@ fn meet<J: Recording, R: Wait + Abort + AllocGlobal>(rt: &R, fresh: Fresh<u64, u
     expect_equal(rt, (one.number(), one.count()), (1, 1));
     passes.push(zero).expect(rt, "its own place");
     passes.push(one).expect(rt, "its own place");
-    let history = recorder.end(rt, passes);
-    let mut callers = history.entries().iter().map(|entry| entry.who);
-    expect_equal(rt, callers.eq([0, 1, 0]), true);
 }
 
 #[test]
 fn two_passes_meet(rt: HostRuntime) {
-    meet::<Brand, _>(&rt, Fresh::new(2, 2));
+    expect_callers(&rt, Scene::Meeting, 2, &[0, 1, 0]);
 }
 
 // The second pass closes on a thread of its own, and meets the first.
-fn close_on_a_thread<J: Recording + Send + Sync, R: Threads + Wait + Sync + Abort + AllocGlobal>(
+fn close_on_a_thread<'a, J: Recording + Send + Sync, R: Host>(
     rt: &R,
-    fresh: Fresh<u64, u64>,
-)
-    requires names { fresh ≡ names J.log J.capacity J.is_reserved J.name J.parts }
-    requires capacity { fresh.capacity ≡ 1 }
-    requires passes { fresh.passes ≡ 2 }
-{
-    let made = Recorded::<u64, u64, J>::new(rt.alloc(), fresh, 1, 2, 2);
-    let (recorder, mut passes) = made.expect(rt, "a recorder");
+    recorder: &Recorder<'a, J>,
+    passes: &mut Passes<'a, J>,
+) {
     let mut one = passes.pop().expect(rt, "a pass");
     let mut zero = passes.pop().expect(rt, "a pass");
     let (closed, ()) = thread::join(rt, || recorder.call(rt, &mut one, Call::Close), || ());
@@ -156,28 +204,16 @@ fn close_on_a_thread<J: Recording + Send + Sync, R: Threads + Wait + Sync + Abor
     expect_equal(rt, refused, Ok(wanted));
     passes.push(zero).expect(rt, "its own place");
     passes.push(one).expect(rt, "its own place");
-    let history = recorder.end(rt, passes);
-    let mut callers = history.entries().iter().map(|entry| entry.who);
-    expect_equal(rt, callers.eq([1, 0]), true);
 }
 
 #[test]
 fn a_close_on_another_thread_is_seen(rt: HostRuntime) {
-    close_on_a_thread::<Brand, _>(&rt, Fresh::new(1, 2));
-}
-
-// It ends with what was entered: nothing.
-fn end_at_once<J: Recording, R: Wait + Abort + AllocGlobal>(rt: &R, fresh: Fresh<u64, u64>)
-    requires names { fresh ≡ names J.log J.capacity J.is_reserved J.name J.parts }
-    requires capacity { fresh.capacity ≡ 1 }
-    requires passes { fresh.passes ≡ 1 }
-{
-    let made = Recorded::<u64, u64, J>::new(rt.alloc(), fresh, 1, 1, 1);
-    let (recorder, passes) = made.expect(rt, "a recorder");
-    expect_equal(rt, recorder.end(rt, passes).entries().len(), 0);
+    expect_callers(&rt, Scene::Closing, 1, &[1, 0]);
 }
 
 #[test]
 fn a_recorder_ends_without_a_call(rt: HostRuntime) {
-    end_at_once::<Brand, _>(&rt, Fresh::new(1, 1));
+    let alloc = Refusing::new(rt.alloc());
+    let told = record(&rt, &alloc, Scene::Nothing, 1, 1, 1).expect(&rt, "a recorder");
+    expect_equal(&rt, told.entries().len(), 0);
 }

@@ -1,22 +1,16 @@
 //! Calls on four threads, waits among them, which a plain channel explains in some order.
-ghost use Rattle.std.specs.Prelude.{◌≡◌, false};
-ghost use Rattle.priority_channel_witnessed.specs.Log.{names};
-
+use super::scenes::Host;
+use super::witnessed::{Caller, Channel, Passes, Scene, play};
 use super::{expect_equal, expect_equal_at};
 use mix::{Mix, make};
 use model::CAPACITY;
 use notes::{Call, Noted, Pair, Refusal, Reply, Way};
 use order::is_explained;
-use priority_channel_core::channel::PriorityQueueChannel;
-use priority_channel_waiting::waiter::Waiter;
-use priority_channel_witnessed::{Fresh, Pass, Recording, Witnessed};
-use std::alloc::{AllocGlobal, Global};
-use std::marker::Brand;
+use priority_channel_witnessed::Recording;
 use std::process::Abort;
+use std::sync::Mutex;
 use std::sync::atomic::{AtomicU64, Ordering};
-use std::sync::{Mutex, Wait};
-use std::thread::{self, Threads};
-use std::time::Clock;
+use std::{mem, thread};
 
 mod mix;
 mod model;
@@ -26,17 +20,16 @@ mod order;
 const CALLS: u64 = 1000;
 
 // The calls of one pass. That of thread 0 closes the channel at last.
-fn thousand<J: Recording, R: Wait + Clock>(
+fn thousand<J: Recording, R: Host>(
     rt: &R,
-    alloc: Global,
-    channel: &Witnessed<u64, u64, Waiter<Global>, J>,
+    channel: &Channel<J>,
     stamps: &AtomicU64,
     threads: &Mutex<Vec<Vec<Noted>>>,
-    mut pass: Pass<u64, u64, Waiter<Global>, J>,
-) -> Pass<u64, u64, Waiter<Global>, J> {
+    mut pass: Caller<J>,
+) -> Caller<J> {
     let who = pass.number();
     let mut mix = Mix::new(who);
-    let mut notes = Vec::new(alloc);
+    let mut notes = Vec::new(rt.alloc());
     for i in 1..=CALLS {
         let call = if who == 0 && i == CALLS {
             Call::Close
@@ -44,7 +37,7 @@ fn thousand<J: Recording, R: Wait + Clock>(
             mix.draw()
         };
         let begin = stamps.fetch_add(1, Ordering::SeqCst);
-        let reply = make(rt, alloc, channel, &mut pass, call);
+        let reply = make(rt, channel, &mut pass, call);
         let end = stamps.fetch_add(1, Ordering::SeqCst);
         let _ = notes.push(Noted {
             begin,
@@ -57,31 +50,20 @@ fn thousand<J: Recording, R: Wait + Clock>(
     pass
 }
 
-fn call_on_four_threads<
-    J: Recording + Send + Sync,
-    R: Threads + Wait + Clock + Sync + Abort + AllocGlobal,
->(rt: &R, fresh: Fresh<u64, u64, Waiter<Global>>)
-    requires names { fresh ≡ names J.log J.capacity J.is_reserved J.name J.parts }
-    requires capacity { fresh.capacity ≡ 3 }
-    requires reserved { fresh.is_reserved ≡ false }
-    requires passes { fresh.passes ≡ 4 }
-{
-    let alloc = rt.alloc();
-    let core = PriorityQueueChannel::bounded(alloc, CAPACITY);
-    let made = Witnessed::<u64, u64, Waiter<Global>, J>::new(alloc, fresh, core, 4);
-    let (channel, passes) = made.expect(rt, "a channel");
-    let stamps = AtomicU64::new(0);
-    let threads = Mutex::new(Vec::new(alloc));
-    let shared = &channel;
-    let stamped = &stamps;
+/// Four threads make their calls, which some order explains.
+pub fn explain_four_threads<J: Recording + Send + Sync, R: Host>(
+    rt: &R,
+    channel: &Channel<J>,
+    passes: &mut Passes<J>,
+) {
+    let stamps = &AtomicU64::new(0);
+    let threads = Mutex::new(Vec::new(rt.alloc()));
     let noted = &threads;
-    let passes = thread::map_vec(
+    let all = mem::replace(passes, Vec::new(rt.alloc()));
+    *passes = thread::map_vec(rt, all, &|pass| thousand(rt, channel, stamps, noted, pass)).expect(
         rt,
-        passes,
-        &|pass| thousand(rt, alloc, shared, stamped, noted, pass),
-    )
-    .expect(rt, "memory for the passes");
-    channel.end(rt, passes);
+        "memory for the passes",
+    );
     let mut threads = threads.into_inner();
     let threads = [
         threads.pop().expect(rt, "a thread"),
@@ -92,13 +74,13 @@ fn call_on_four_threads<
     for notes in &threads {
         expect_equal(rt, notes.len() as u64, CALLS);
     }
-    let is_explained = is_explained(rt, alloc, &threads).expect(rt, "memory for the search");
-    expect_equal(rt, is_explained, true);
+    let is_explained = is_explained(rt, rt.alloc(), &threads);
+    expect_equal(rt, is_explained.expect(rt, "memory for the search"), true);
 }
 
 #[test]
 fn an_order_explains_four_threads(rt: HostRuntime) {
-    call_on_four_threads::<Brand, _>(&rt, Fresh::new(CAPACITY, false, 4));
+    play(&rt, Scene::MixedThreads, CAPACITY, 4, 4);
 }
 
 fn sent(begin: u64, end: u64, pair: Pair) -> Noted {
@@ -120,13 +102,13 @@ fn received(begin: u64, end: u64, reply: Result<Pair, Refusal>) -> Noted {
 }
 
 // Whether two threads' calls are explained.
-fn are_explained<R: Wait + Abort + AllocGlobal>(rt: &R, one: &[Noted], two: &[Noted]) -> bool {
+fn are_explained<R: Host>(rt: &R, one: &[Noted], two: &[Noted]) -> bool {
     let alloc = rt.alloc();
     let threads = [
         Vec::from_slice(alloc, one).expect(rt, "memory"),
         Vec::from_slice(alloc, two).expect(rt, "memory"),
-        Vec::new(alloc),
-        Vec::new(alloc),
+        Vec::new(rt.alloc()),
+        Vec::new(rt.alloc()),
     ];
     is_explained(rt, alloc, &threads).expect(rt, "memory for the search")
 }

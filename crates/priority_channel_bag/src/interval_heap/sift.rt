@@ -5,7 +5,7 @@ ghost use Rattle.std.specs.BinaryHeap.Sift.{ComparesAt};
 ghost use Rattle.std.specs.List.Sorted.{IsPermutation};
 ghost use Rattle.priority_channel_bag.specs.Digits.{digits};
 ghost use Rattle.priority_channel_bag.specs.Heap.{item_cmp};
-ghost use Rattle.priority_channel_bag.specs.IntervalHeap.{IsOver, IsIntervalHeap, InOrderBut, AtMostTooGreat, AtMostTooSmall};
+ghost use Rattle.priority_channel_bag.specs.IntervalHeap.{IsOver, IsIntervalHeap, InOrderBut, FallsTo, AtMostTooGreat, AtMostTooSmall};
 
 use crate::comparisons::Comparisons;
 use crate::item::Item;
@@ -45,9 +45,9 @@ fn settle_low<T, P: Ord>(items: &mut [Item<T, P>], comparisons: &mut Comparisons
     let high = low - 1;
     if comparisons.compare(&items[high], &items[low]).is_lt() {
         items.swap(low, high);
-        rise_among_highs(items, comparisons, high);
+        rise(items, comparisons, high);
     } else {
-        rise_among_lows(items, comparisons, low);
+        rise(items, comparisons, low);
     }
 }
 
@@ -69,24 +69,26 @@ fn settle_high<T, P: Ord>(
 {
     if comparisons.compare(&items[high], &items[low]).is_lt() {
         items.swap(high, low);
-        rise_among_lows(items, comparisons, low);
+        rise(items, comparisons, low);
     } else {
-        rise_among_highs(items, comparisons, high);
+        rise(items, comparisons, high);
     }
 }
 
-fn rise_among_highs<T, P: Ord>(items: &mut [Item<T, P>], comparisons: &mut Comparisons, at: usize)
-    requires side { at % 2 ≡ 0 }
-    requires within { at < length items.old }
+// Lets the item at `at` go up its side.
+fn rise<T, P: Ord>(items: &mut [Item<T, P>], comparisons: &mut Comparisons, at: usize)
+    requires { at < length items.old }
     ensures moves { IsPermutation items.old items.new }
-    ensures order { AtMostTooGreat (item_cmp P.cmp) items.old at
+    ensures high { at % 2 ≡ 0 → AtMostTooGreat (item_cmp P.cmp) items.old at
+        → IsIntervalHeap (item_cmp P.cmp) items.new }
+    ensures low { at % 2 ≡ 1 → AtMostTooSmall (item_cmp P.cmp) items.old at
         → IsIntervalHeap (item_cmp P.cmp) items.new }
     ensures cost { comparisons.new.count + 1 ≤ comparisons.old.count + digits (at / 2 + 1) }
 {
     let mut at = at;
     while 1 < at {
-        let parent = high_of_parent(at);
-        if !comparisons.compare(&items[parent], &items[at]).is_lt() {
+        let parent = high_of_parent(at) + at % 2;
+        if !is_beyond(items, comparisons, at, parent) {
             return;
         }
         items.swap(at, parent);
@@ -94,22 +96,23 @@ fn rise_among_highs<T, P: Ord>(items: &mut [Item<T, P>], comparisons: &mut Compa
     }
 }
 
-fn rise_among_lows<T, P: Ord>(items: &mut [Item<T, P>], comparisons: &mut Comparisons, at: usize)
-    requires side { at % 2 ≡ 1 }
-    requires within { at < length items.old }
-    ensures moves { IsPermutation items.old items.new }
-    ensures order { AtMostTooSmall (item_cmp P.cmp) items.old at
-        → IsIntervalHeap (item_cmp P.cmp) items.new }
-    ensures cost { comparisons.new.count + 1 ≤ comparisons.old.count + digits (at / 2 + 1) }
+// Whether the item at `at` is greater than that at `other`, if it is a high, or less, if it is a
+// low.
+fn is_beyond<T, P: Ord>(
+    items: &[Item<T, P>],
+    comparisons: &mut Comparisons,
+    at: usize,
+    other: usize,
+) -> bool
+    requires { (at < length items.now) × (other < length items.now) }
+    ensures high { at % 2 ≡ 0 → ComparesAt (item_cmp P.cmp) items.now other at result }
+    ensures low { at % 2 ≡ 1 → ComparesAt (item_cmp P.cmp) items.now at other result }
+    ensures cost { comparisons.new.count ≡ comparisons.old.count + 1 }
 {
-    let mut at = at;
-    while 1 < at {
-        let parent = high_of_parent(at) + 1;
-        if !comparisons.compare(&items[at], &items[parent]).is_lt() {
-            return;
-        }
-        items.swap(at, parent);
-        at = parent;
+    if at % 2 == 0 {
+        comparisons.compare(&items[other], &items[at]).is_lt()
+    } else {
+        comparisons.compare(&items[at], &items[other]).is_lt()
     }
 }
 
@@ -121,7 +124,8 @@ fn high_of_parent(at: usize) -> usize
     (at - 2) / 4 * 2
 }
 
-/// Moves the item at `at` down its side to a place with no pair below, and returns that place.
+/// Moves the item at `at` down its side to a place with no pair below, or to the last high, which
+/// stands for a low. Returns that place.
 pub(crate) fn fall<T, P: Ord>(
     items: &mut [Item<T, P>],
     comparisons: &mut Comparisons,
@@ -135,60 +139,28 @@ pub(crate) fn fall<T, P: Ord>(
         → InOrderBut (item_cmp P.cmp) items.new result }
     ensures cost { comparisons.new.count + 1 ≤ comparisons.old.count + digits (result / 2 + 1) }
 {
+    let mut at = at;
+    while at / 2 * 4 + 2 < items.len() {
+        let child = child_of(items, comparisons, at);
+        items.swap(at, child);
+        at = child;
+    }
+    at
+}
+
+// The place to which the item at `at` falls by one pair.
+fn child_of<T, P: Ord>(items: &[Item<T, P>], comparisons: &mut Comparisons, at: usize) -> usize
+    requires { at / 2 * 4 + 2 < length items.now }
+    ensures below { (result - 2) / 4 ≡ at / 2 }
+    ensures within { (1 < result) × (result < length items.now) }
+    ensures order { FallsTo (item_cmp P.cmp) items.now at result }
+    ensures cost { comparisons.new.count ≤ comparisons.old.count + 1 }
+{
     if at % 2 == 0 {
-        fall_among_highs(items, comparisons, at)
+        greater_child(items, comparisons, at)
     } else {
-        fall_among_lows(items, comparisons, at)
+        lesser_child(items, comparisons, at)
     }
-}
-
-// Moves the high at `at` down to a high with no pair below, and returns that place.
-fn fall_among_highs<T, P: Ord>(
-    items: &mut [Item<T, P>],
-    comparisons: &mut Comparisons,
-    at: usize,
-) -> usize
-    requires side { at % 2 ≡ 0 }
-    requires within { at < length items.old }
-    ensures within { result < length items.new }
-    ensures bottom { length items.new ≤ result / 2 * 4 + 2 }
-    ensures moves { IsPermutation items.old items.new }
-    ensures order { InOrderBut (item_cmp P.cmp) items.old at
-        → InOrderBut (item_cmp P.cmp) items.new result }
-    ensures cost { comparisons.new.count + 1 ≤ comparisons.old.count + digits (result / 2 + 1) }
-{
-    let mut at = at;
-    while at * 2 + 2 < items.len() {
-        let child = greater_child(items, comparisons, at);
-        items.swap(at, child);
-        at = child;
-    }
-    at
-}
-
-// Moves the low at `at` down to a low with no pair below, or to the last high, and returns that
-// place.
-fn fall_among_lows<T, P: Ord>(
-    items: &mut [Item<T, P>],
-    comparisons: &mut Comparisons,
-    at: usize,
-) -> usize
-    requires side { at % 2 ≡ 1 }
-    requires within { at < length items.old }
-    ensures within { result < length items.new }
-    ensures bottom { length items.new ≤ result / 2 * 4 + 2 }
-    ensures moves { IsPermutation items.old items.new }
-    ensures order { InOrderBut (item_cmp P.cmp) items.old at
-        → InOrderBut (item_cmp P.cmp) items.new result }
-    ensures cost { comparisons.new.count + 1 ≤ comparisons.old.count + digits (result / 2 + 1) }
-{
-    let mut at = at;
-    while at * 2 < items.len() {
-        let child = lesser_child(items, comparisons, at);
-        items.swap(at, child);
-        at = child;
-    }
-    at
 }
 
 // The place of the greater high of the two pairs below the pair of `at`.

@@ -1,15 +1,16 @@
 //! Four threads with a pass each, whose history is replayed on a plain list.
-ghost use Rattle.std.specs.Prelude.{◌≡◌};
-ghost use Rattle.priority_channel_recorded.specs.Log.{names};
-
+use super::{Alloc, Passes, Recorder, Scene, record};
+use crate::tests::scenes::Host;
 use crate::tests::{expect_equal, expect_equal_at};
 use priority_channel_core::errors::{TryRecvError, TrySendError};
-use priority_channel_recorded::{Call, Entry, Fresh, Pass, Recorded, Recording, Reply};
-use std::alloc::{AllocGlobal, Global};
-use std::marker::Brand;
+use priority_channel_recorded::{Call, Entry, Pass, Recording, Reply};
+use refusing::Refusing;
 use std::process::Abort;
-use std::sync::{Mutex, Wait};
-use std::thread::{self, Threads};
+use std::sync::Mutex;
+use std::{mem, thread};
+
+/// The entries of each thread.
+pub(super) type Heard = Mutex<Vec<Vec<Entry<u64, u64>>>>;
 
 const CAPACITY: u64 = 3;
 
@@ -28,22 +29,21 @@ fn call(who: u64, i: u64) -> Call<u64, u64> {
 }
 
 // Makes the calls of one pass, and notes its entries.
-fn thousand<J: Recording, R: Wait>(
+fn thousand<'a, J: Recording, R: Host>(
     rt: &R,
-    recorder: &Recorded<u64, u64, J>,
-    alloc: Global,
-    told: &Mutex<Vec<Vec<Entry<u64, u64>>>>,
+    recorder: &Recorder<'a, J>,
+    heard: &Heard,
     mut pass: Pass<u64, u64, J>,
 ) -> Pass<u64, u64, J> {
     let who = pass.number();
-    let mut entries = Vec::new(alloc);
+    let mut entries = Vec::new(rt.alloc());
     for i in 0..CALLS {
         let call = call(who, i);
         if let Ok(reply) = recorder.call(rt, &mut pass, call) {
             let _ = entries.push(Entry { who, call, reply });
         }
     }
-    let _ = told.lock(rt).push(entries);
+    let _ = heard.lock(rt).push(entries);
     pass
 }
 
@@ -112,47 +112,43 @@ impl Plain {
     }
 }
 
-fn make_one_history<J: Recording + Send + Sync, R: Threads + Wait + Sync + Abort + AllocGlobal>(
+/// Four threads make their calls, and note what they were told.
+pub(super) fn call_on_four_threads<'a, J: Recording + Send + Sync, R: Host>(
     rt: &R,
-    fresh: Fresh<u64, u64>,
-)
-    requires names { fresh ≡ names J.log J.capacity J.is_reserved J.name J.parts }
-    requires capacity { fresh.capacity ≡ 3 }
-    requires passes { fresh.passes ≡ 4 }
-{
-    let alloc = rt.alloc();
-    let made = Recorded::<u64, u64, J>::new(alloc, fresh, CAPACITY, 4000, 4);
-    let (recorder, passes) = made.expect(rt, "a recorder");
-    let told = Mutex::new(Vec::new(alloc));
-    let shared = &recorder;
-    let heard = &told;
-    let passes = thread::map_vec(
+    alloc: Alloc<'a>,
+    recorder: &Recorder<'a, J>,
+    passes: &mut Passes<'a, J>,
+    heard: &Heard,
+) {
+    let all = mem::replace(passes, Vec::new(alloc));
+    *passes = thread::map_vec(rt, all, &|pass| thousand(rt, recorder, heard, pass)).expect(
         rt,
-        passes,
-        &|pass| thousand(rt, shared, alloc, heard, pass),
-    ).expect(rt, "memory for the passes");
-    let history = recorder.end(rt, passes);
-    let told = told.into_inner();
-    expect_equal(rt, (history.entries().len(), told.len()), (4000, 4));
+        "memory for the passes",
+    );
+}
+
+#[test]
+fn four_threads_make_one_history(rt: HostRuntime) {
+    let alloc = Refusing::new(rt.alloc());
+    let heard = Mutex::new(Vec::new(rt.alloc()));
+    let told = record(&rt, &alloc, Scene::FourThreads(&heard), CAPACITY, 4000, 4);
+    let history = told.expect(&rt, "a recorder");
+    let heard = heard.into_inner();
+    expect_equal(&rt, (history.entries().len(), heard.len()), (4000, 4));
     // Each thread finds its own calls and replies there, in its order.
-    for entries in told {
+    for entries in heard {
         let who = entries.get(0).map(|entry| entry.who);
         let own = history
             .entries()
             .iter()
             .filter(|entry| Some(entry.who) == who);
-        expect_equal(rt, (entries.len(), own.eq(entries.iter())), (1000, true));
+        expect_equal(&rt, (entries.len(), own.eq(entries.iter())), (1000, true));
     }
     let mut plain = Plain {
-        pending: Vec::new(alloc),
+        pending: Vec::new(rt.alloc()),
     };
     for entry in history.entries() {
-        let wanted = plain.answer(rt, entry.call);
-        expect_equal_at(rt, entry.call, Some(entry.reply), wanted);
+        let wanted = plain.answer(&rt, entry.call);
+        expect_equal_at(&rt, entry.call, Some(entry.reply), wanted);
     }
-}
-
-#[test]
-fn four_threads_make_one_history(rt: HostRuntime) {
-    make_one_history::<Brand, _>(&rt, Fresh::new(CAPACITY, 4));
 }

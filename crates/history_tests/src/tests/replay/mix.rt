@@ -1,14 +1,13 @@
 //! A thread's calls, drawn and made.
 use super::notes::{Call, Pair, Refusal, Refused, Reply, Way};
+use crate::tests::scenes::Host;
+use crate::tests::witnessed::{Caller, Channel};
 use priority_channel_core::errors::{RecvFault, SendError, SendFault, TryRecvError, TrySendError};
 use priority_channel_waiting::timeouts::{RecvTimeoutError, SendTimeoutError};
-use priority_channel_waiting::waiter::{Waiter, wake_all};
-use priority_channel_witnessed::{Pass, Recording, Witnessed};
+use priority_channel_witnessed::{Recording, wake_all};
 use rand_core::{Rng, SeedableRng};
 use rand_xoshiro::Xoshiro256PlusPlus;
-use std::alloc::Global;
-use std::sync::Wait;
-use std::time::{Clock, Duration};
+use std::time::Duration;
 
 /// What a thread will call, the same each time.
 #[derive(Drop)]
@@ -66,17 +65,16 @@ impl Mix {
 const LIMIT_MICROS: u64 = 200;
 
 /// Makes a call on a channel.
-pub(super) fn make<J: Recording, R: Wait + Clock>(
+pub(super) fn make<J: Recording, R: Host>(
     rt: &R,
-    alloc: Global,
-    channel: &Witnessed<u64, u64, Waiter<Global>, J>,
-    pass: &mut Pass<u64, u64, Waiter<Global>, J>,
+    channel: &Channel<J>,
+    pass: &mut Caller<J>,
     call: Call,
 ) -> Reply {
     match call {
         Call::Send(way, pair) => Reply::Sent(send(rt, channel, pass, way, pair)),
         Call::SendEvicting(pair) => Reply::Displaced(send_evicting(rt, channel, pass, pair)),
-        Call::Sendv(pairs) => Reply::SentMany(send_many(rt, alloc, channel, pass, pairs)),
+        Call::Sendv(pairs) => Reply::SentMany(send_many(rt, channel, pass, pairs)),
         Call::Recv(way) => Reply::Received(receive(rt, channel, pass, way)),
         Call::Len => Reply::Number(channel.len(rt, pass)),
         Call::IsEmpty => Reply::Bool(channel.is_empty(rt, pass)),
@@ -90,10 +88,10 @@ pub(super) fn make<J: Recording, R: Wait + Clock>(
     }
 }
 
-fn send<J: Recording, R: Wait + Clock>(
+fn send<J: Recording, R: Host>(
     rt: &R,
-    channel: &Witnessed<u64, u64, Waiter<Global>, J>,
-    pass: &mut Pass<u64, u64, Waiter<Global>, J>,
+    channel: &Channel<J>,
+    pass: &mut Caller<J>,
     way: Way,
     pair: Pair,
 ) -> Result<(), Refused> {
@@ -120,10 +118,10 @@ fn send<J: Recording, R: Wait + Clock>(
     }
 }
 
-fn send_evicting<J: Recording, R: Wait>(
+fn send_evicting<J: Recording, R: Host>(
     rt: &R,
-    channel: &Witnessed<u64, u64, Waiter<Global>, J>,
-    pass: &mut Pass<u64, u64, Waiter<Global>, J>,
+    channel: &Channel<J>,
+    pass: &mut Caller<J>,
     pair: Pair,
 ) -> Result<Option<Pair>, Refused> {
     let (sent, wakes) = channel.try_send_evicting(rt, pass, pair.0, pair.1);
@@ -140,14 +138,13 @@ fn refused(error: TrySendError<Pair>) -> Refused {
 }
 
 // Where there is no memory for the vector, no call is made, and a reply noted that is none.
-fn send_many<J: Recording, R: Wait>(
+fn send_many<J: Recording, R: Host>(
     rt: &R,
-    alloc: Global,
-    channel: &Witnessed<u64, u64, Waiter<Global>, J>,
-    pass: &mut Pass<u64, u64, Waiter<Global>, J>,
+    channel: &Channel<J>,
+    pass: &mut Caller<J>,
     pairs: [Pair; 3],
 ) -> [Option<Refused>; 3] {
-    let Ok(vector) = Vec::from_array(alloc, pairs) else {
+    let Ok(vector) = Vec::from_array(rt.alloc(), pairs) else {
         return pairs.map(|pair| Some((Refusal::Memory, pair)));
     };
     let (sent, wakes) = channel.try_sendv(rt, pass, vector.into_iter().peekable());
@@ -166,10 +163,10 @@ fn send_many<J: Recording, R: Wait>(
     [rest.next(), rest.next(), rest.next()]
 }
 
-fn receive<J: Recording, R: Wait + Clock>(
+fn receive<J: Recording, R: Host>(
     rt: &R,
-    channel: &Witnessed<u64, u64, Waiter<Global>, J>,
-    pass: &mut Pass<u64, u64, Waiter<Global>, J>,
+    channel: &Channel<J>,
+    pass: &mut Caller<J>,
     way: Way,
 ) -> Result<Pair, Refusal> {
     match way {

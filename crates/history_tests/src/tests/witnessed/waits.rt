@@ -1,38 +1,24 @@
 //! Waits on a thread: limits, what an ended wait leaves, and threads that wait for each other.
-ghost use Rattle.std.specs.Prelude.{◌≡◌, false, true};
-ghost use Rattle.priority_channel_witnessed.specs.Log.{names};
-
+use super::{Caller, Channel, NOBODY, Passes, Scene, close, play, tickets};
+use crate::tests::scenes::Host;
 use crate::tests::{expect_equal, expect_equal_at};
-use priority_channel_core::channel::PriorityQueueChannel;
 use priority_channel_core::errors::{RecvError, RecvFault, SendError, SendFault};
 use priority_channel_waiting::timeouts::{RecvTimeoutError, SendTimeoutError};
-use priority_channel_waiting::waiter::{Waiter, wake_all};
-use priority_channel_witnessed::{Fresh, Pass, Recording, Witnessed};
-use refusing::Refusing;
-use std::alloc::{AllocGlobal, Global};
-use std::marker::Brand;
-use std::process::Abort;
-use std::sync::{Mutex, Wait, WaitMethods};
-use std::thread::{self, Threads};
-use std::time::{Clock, Duration, Instant};
+use priority_channel_witnessed::Recording;
+use std::sync::{Mutex, WaitMethods};
+use std::time::{Duration, Instant};
+use std::{mem, thread};
 
 fn limit() -> Duration {
     Duration::from_millis(20)
 }
 
-// From an empty channel, from one with a message, and from a closed one.
-fn receive_in_time<J: Recording, R: Wait + Clock + Abort + AllocGlobal>(
+/// From an empty channel, from one with a message, and from a closed one.
+pub(super) fn receive_in_time<J: Recording, R: Host>(
     rt: &R,
-    fresh: Fresh<u64, u64, Waiter<Global>>,
-)
-    requires names { fresh ≡ names J.log J.capacity J.is_reserved J.name J.parts }
-    requires capacity { fresh.capacity ≡ 1 }
-    requires reserved { fresh.is_reserved ≡ false }
-    requires passes { fresh.passes ≡ 1 }
-{
-    let core = PriorityQueueChannel::bounded(rt.alloc(), 1);
-    let made = Witnessed::<u64, u64, Waiter<Global>, J>::new(rt.alloc(), fresh, core, 1);
-    let (channel, mut passes) = made.expect(rt, "a channel");
+    channel: &Channel<J>,
+    passes: &mut Passes<J>,
+) {
     let mut pass = passes.pop().expect(rt, "a pass");
     let begun = Instant::now(rt).expect(rt, "a clock");
     let late = channel.recv_timeout(rt, &mut pass, limit());
@@ -45,39 +31,29 @@ fn receive_in_time<J: Recording, R: Wait + Clock + Abort + AllocGlobal>(
     );
     // It waits no more.
     let (_, wakes) = channel.try_send(rt, &mut pass, 1, 5);
-    let (_, for_message) = wakes.into_lists();
-    expect_equal(rt, for_message.len(), 0);
+    expect_equal(rt, tickets(wakes), NOBODY);
     // What is there comes, also where the time is over.
     let received = channel.recv_deadline(rt, &mut pass, begun);
     expect_equal(rt, received, Ok((1, 5)));
-    let (_, wakes) = channel.close(rt, &mut pass);
-    wake_all(rt, wakes);
+    close(rt, channel, &mut pass);
     let closed = channel.recv_timeout(rt, &mut pass, limit());
     expect_equal(rt, closed, Err(RecvTimeoutError::Closed));
     let closed = channel.recv_blocking(rt, &mut pass);
     expect_equal(rt, closed, Err(RecvFault::Closed(RecvError)));
     passes.push(pass).expect(rt, "its own place");
-    channel.end(rt, passes);
 }
 
 #[test]
 fn receives_end_in_time(rt: HostRuntime) {
-    receive_in_time::<Brand, _>(&rt, Fresh::new(1, false, 1));
+    expect_equal(&rt, play(&rt, Scene::ReceivesInTime, 1, 1, 1), 0);
 }
 
-// The same of sends, into a channel for one. Of three by one call one is sent.
-fn send_in_time<J: Recording, R: Wait + Clock + Abort + AllocGlobal>(
+/// The same of sends, into a channel for one. Of three by one call one is sent.
+pub(super) fn send_in_time<J: Recording, R: Host>(
     rt: &R,
-    fresh: Fresh<u64, u64, Waiter<Global>>,
-)
-    requires names { fresh ≡ names J.log J.capacity J.is_reserved J.name J.parts }
-    requires capacity { fresh.capacity ≡ 1 }
-    requires reserved { fresh.is_reserved ≡ false }
-    requires passes { fresh.passes ≡ 1 }
-{
-    let core = PriorityQueueChannel::bounded(rt.alloc(), 1);
-    let made = Witnessed::<u64, u64, Waiter<Global>, J>::new(rt.alloc(), fresh, core, 1);
-    let (channel, mut passes) = made.expect(rt, "a channel");
+    channel: &Channel<J>,
+    passes: &mut Passes<J>,
+) {
     let mut pass = passes.pop().expect(rt, "a pass");
     let begun = Instant::now(rt).expect(rt, "a clock");
     let pairs = Vec::from_array(rt.alloc(), [(7u64, 1u64), (8, 1), (9, 1)]).expect(rt, "memory");
@@ -93,72 +69,31 @@ fn send_in_time<J: Recording, R: Wait + Clock + Abort + AllocGlobal>(
     let late = channel.send_timeout(rt, &mut pass, 1, 5, limit());
     expect_equal(rt, late, Err(SendTimeoutError::Timeout((1, 5))));
     let (_, wakes) = channel.try_recv(rt, &mut pass);
-    let (for_room, _) = wakes.into_lists();
-    expect_equal(rt, for_room.len(), 0);
+    expect_equal(rt, tickets(wakes), NOBODY);
     let sent = channel.send_deadline(rt, &mut pass, 2, 6, begun);
     expect_equal(rt, sent, Ok(()));
-    let (_, wakes) = channel.close(rt, &mut pass);
-    wake_all(rt, wakes);
+    close(rt, channel, &mut pass);
     let closed = channel.send_timeout(rt, &mut pass, 3, 7, limit());
     expect_equal(rt, closed, Err(SendTimeoutError::Closed((3, 7))));
     let closed = channel.send_blocking(rt, &mut pass, 4, 8);
     expect_equal(rt, closed, Err(SendFault::Closed(SendError((4, 8)))));
     passes.push(pass).expect(rt, "its own place");
-    channel.end(rt, passes);
 }
 
 #[test]
 fn sends_end_in_time(rt: HostRuntime) {
-    send_in_time::<Brand, _>(&rt, Fresh::new(1, false, 1));
-}
-
-// A try needs no memory: the request that is to be refused never comes.
-fn call_without_time<'a, J: Recording, R: Wait + Clock + Abort>(
-    rt: &R,
-    alloc: &'a Refusing<Global>,
-    fresh: Fresh<u64, u64, Waiter<&'a Refusing<Global>>>,
-)
-    requires names { fresh ≡ names J.log J.capacity J.is_reserved J.name J.parts }
-    requires capacity { fresh.capacity ≡ 1 }
-    requires reserved { fresh.is_reserved ≡ true }
-    requires passes { fresh.passes ≡ 1 }
-{
-    let core = PriorityQueueChannel::bounded_reserved(alloc, 1).expect(rt, "a core");
-    let made = Witnessed::<u64, u64, Waiter<&'a Refusing<Global>>, J, _>::new(
-        alloc, fresh, core, 1,
-    );
-    let (channel, mut passes) = made.expect(rt, "a channel");
-    let mut pass = passes.pop().expect(rt, "a pass");
-    alloc.refuse_nth(1);
-    let late = channel.recv_timeout(rt, &mut pass, Duration::ZERO);
-    expect_equal(rt, late, Err(RecvTimeoutError::Timeout));
-    let sent = channel.send_timeout(rt, &mut pass, 1, 1, Duration::ZERO);
-    expect_equal(rt, sent, Ok(()));
-    let late = channel.send_timeout(rt, &mut pass, 2, 2, Duration::ZERO);
-    expect_equal(rt, late, Err(SendTimeoutError::Timeout((2, 2))));
-    let received = channel.recv_timeout(rt, &mut pass, Duration::ZERO);
-    expect_equal(rt, received, Ok((1, 1)));
-    expect_equal(rt, alloc.refuse_none(), true);
-    passes.push(pass).expect(rt, "its own place");
-    channel.end(rt, passes);
-}
-
-#[test]
-fn a_call_without_time_asks_for_no_memory(rt: HostRuntime) {
-    let alloc = Refusing::new(rt.alloc());
-    call_without_time::<Brand, _>(&rt, &alloc, Fresh::new(1, true, 1));
+    expect_equal(&rt, play(&rt, Scene::SendsInTime, 1, 1, 1), 1);
 }
 
 // Passes 0 and 1 send, one pair at a time or three, and the last that has sent closes the channel.
 // The others receive until it is closed. Counts what was sent and received.
-fn send_or_receive<J: Recording, R: Wait + Abort>(
+fn send_or_receive<J: Recording, R: Host>(
     rt: &R,
-    alloc: Global,
-    channel: &Witnessed<u64, u64, Waiter<Global>, J>,
     counts: &Mutex<(u64, u64)>,
     senders: &Mutex<u64>,
-    mut pass: Pass<u64, u64, Waiter<Global>, J>,
-) -> Pass<u64, u64, Waiter<Global>, J> {
+    channel: &Channel<J>,
+    mut pass: Caller<J>,
+) -> Caller<J> {
     if pass.number() >= 2 {
         let mut received = 0u64;
         for _ in rt.forever() {
@@ -175,7 +110,7 @@ fn send_or_receive<J: Recording, R: Wait + Abort>(
     for i in 0..200u64 {
         let answer = channel.send_blocking(rt, &mut pass, i, i % 7);
         sent = sent.wrapping_add(answer.is_ok() as u64);
-        let pairs = Vec::from_array(alloc, [(i, 1u64), (i, 2), (i, 3)]).expect(rt, "memory");
+        let pairs = Vec::from_array(rt.alloc(), [(i, 1u64), (i, 2), (i, 3)]).expect(rt, "memory");
         let answer = channel.sendv_blocking(rt, &mut pass, pairs.into_iter().peekable());
         sent = sent.wrapping_add(if answer.is_ok() { 3 } else { 0 });
     }
@@ -187,41 +122,31 @@ fn send_or_receive<J: Recording, R: Wait + Abort>(
     let is_last = *left == 0;
     drop(left);
     if is_last {
-        let (_, wakes) = channel.close(rt, &mut pass);
-        wake_all(rt, wakes);
+        close(rt, channel, &mut pass);
     }
     pass
 }
 
-fn block_on_four_threads<
-    J: Recording + Send + Sync,
-    R: Threads + Wait + Sync + Abort + AllocGlobal,
->(rt: &R, fresh: Fresh<u64, u64, Waiter<Global>>)
-    requires names { fresh ≡ names J.log J.capacity J.is_reserved J.name J.parts }
-    requires capacity { fresh.capacity ≡ 2 }
-    requires reserved { fresh.is_reserved ≡ false }
-    requires passes { fresh.passes ≡ 4 }
-{
-    let alloc = rt.alloc();
-    let core = PriorityQueueChannel::bounded(alloc, 2);
-    let made = Witnessed::<u64, u64, Waiter<Global>, J>::new(alloc, fresh, core, 4);
-    let (channel, passes) = made.expect(rt, "a channel");
+/// Two threads send, and two receive.
+pub(super) fn block_on_four_threads<J: Recording + Send + Sync, R: Host>(
+    rt: &R,
+    channel: &Channel<J>,
+    passes: &mut Passes<J>,
+) {
     let counts = Mutex::new((0u64, 0u64));
-    let senders = Mutex::new(2u64);
-    let shared = &channel;
     let counted = &counts;
-    let senders = &senders;
-    let passes = thread::map_vec(
+    let senders = &Mutex::new(2u64);
+    let all = mem::replace(passes, Vec::new(rt.alloc()));
+    *passes = thread::map_vec(
         rt,
-        passes,
-        &|pass| send_or_receive(rt, alloc, shared, counted, senders, pass),
+        all,
+        &|pass| send_or_receive(rt, counted, senders, channel, pass),
     )
     .expect(rt, "memory for the passes");
-    let (core, _seen) = channel.end(rt, passes);
-    expect_equal(rt, (counts.into_inner(), core.len()), ((1600, 1600), 0));
+    expect_equal(rt, counts.into_inner(), (1600, 1600));
 }
 
 #[test]
 fn threads_block_until_others_go_on(rt: HostRuntime) {
-    block_on_four_threads::<Brand, _>(&rt, Fresh::new(2, false, 4));
+    expect_equal(&rt, play(&rt, Scene::BlockingThreads, 2, 4, 4), 0);
 }

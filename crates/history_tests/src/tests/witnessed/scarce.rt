@@ -1,0 +1,149 @@
+//! Calls that need not wait, where memory to wait would be refused.
+ghost use Rattle.std.specs.Prelude.{◌≡◌, true};
+ghost use Rattle.priority_channel_witnessed.specs.Log.{names};
+
+use crate::tests::expect_equal;
+use crate::tests::scenes::{Host, end};
+use futures::executor::block_on;
+use priority_channel_core::channel::PriorityQueueChannel;
+use priority_channel_core::errors::{RecvError, RecvFault, SendError, SendFault};
+use priority_channel_waiting::timeouts::{RecvTimeoutError, SendTimeoutError};
+use priority_channel_witnessed::{Fresh, Pass, Recording, Waiter, Witnessed, wake_all};
+use refusing::Refusing;
+use std::alloc::{AllocGlobal, Global};
+use std::marker::Brand;
+use std::process::Abort;
+use std::time::Duration;
+
+type Alloc<'a> = &'a Refusing<Global>;
+
+type Channel<'a, J> = Witnessed<String, u64, Waiter<Alloc<'a>>, J, Alloc<'a>>;
+
+type Passes<'a, J> = Vec<Pass<String, u64, Waiter<Alloc<'a>>, J>, Alloc<'a>>;
+
+#[derive(Clone, Copy)]
+enum Scene {
+    FuturesAnswer,
+    WithoutTime,
+}
+
+// Messages are texts, which are no `Copy`.
+fn text<R: Abort + AllocGlobal>(rt: &R, text: &str) -> String {
+    String::from_str(rt.alloc(), text).expect(rt, "memory")
+}
+
+// Plays a scene with the one pass of a reserved channel for one pair, of which none is left.
+fn play<R: Host>(rt: &R, scene: Scene) {
+    let alloc = Refusing::new(rt.alloc());
+    play_as::<Brand, R>(rt, &alloc, scene, Fresh::new(1, true, 1));
+}
+
+fn play_as<'a, J: Recording, R: Host>(
+    rt: &R,
+    alloc: Alloc<'a>,
+    scene: Scene,
+    fresh: Fresh<String, u64, Waiter<Alloc<'a>>>,
+)
+    requires names { fresh ≡ names J.log J.capacity J.is_reserved J.name J.parts }
+    requires capacity { fresh.capacity ≡ 1 }
+    requires reserved { fresh.is_reserved ≡ true }
+    requires passes { fresh.passes ≡ 1 }
+{
+    let core = PriorityQueueChannel::bounded_reserved(alloc, 1).expect(rt, "a core");
+    let made = Channel::<'a, J>::new(alloc, fresh, core, 1);
+    let (channel, mut passes) = made.expect(rt, "a channel");
+    match scene {
+        Scene::FuturesAnswer => answer(rt, alloc, &channel, &mut passes),
+        Scene::WithoutTime => call_without_time(rt, alloc, &channel, &mut passes),
+    }
+    expect_equal(rt, end(rt, channel, passes, 1), 0);
+}
+
+// A send and a receive that need not wait, and each of the three futures after a close, of which
+// the bulk send gives back what was not sent. None of them asks for memory to wait.
+fn answer<'a, J: Recording, R: Host>(
+    rt: &R,
+    alloc: Alloc<'a>,
+    channel: &Channel<'a, J>,
+    passes: &mut Passes<'a, J>,
+) {
+    let pass = passes.pop().expect(rt, "a pass");
+    let pairs = Vec::from_array(alloc, [(text(rt, "nine"), 3u64), (text(rt, "ten"), 4)]).expect(
+        rt, "memory",
+    );
+    alloc.refuse_nth(1);
+    let (sent, pass) = block_on(rt, channel.send(rt, pass, text(rt, "seven"), 1)).expect(
+        rt,
+        "an executor",
+    );
+    expect_equal(rt, sent, Ok(()));
+    let (received, pass) = block_on(rt, channel.recv(rt, pass)).expect(rt, "an executor");
+    expect_equal(rt, received, Ok((text(rt, "seven"), 1)));
+    let mut pass = pass;
+    let (_, wakes) = channel.close(rt, &mut pass);
+    wake_all(rt, wakes);
+    let (unsent, pass) = block_on(rt, channel.send(rt, pass, text(rt, "eight"), 2)).expect(
+        rt,
+        "an executor",
+    );
+    expect_equal(
+        rt,
+        unsent,
+        Err(SendFault::Closed(SendError((text(rt, "eight"), 2)))),
+    );
+    let (closed, pass) = block_on(rt, channel.recv(rt, pass)).expect(rt, "an executor");
+    expect_equal(rt, closed, Err(RecvFault::Closed(RecvError)));
+    let sending = channel.sendv(rt, pass, pairs.into_iter().peekable());
+    let (unsent, pass) = block_on(rt, sending).expect(rt, "an executor");
+    let Err(fault) = unsent else {
+        panic!(rt; "a send into a closed channel");
+    };
+    let mut rest = fault.into_inner();
+    let rest = [rest.next(), rest.next(), rest.next()];
+    expect_equal(
+        rt,
+        rest,
+        [
+            Some((text(rt, "nine"), 3)),
+            Some((text(rt, "ten"), 4)),
+            None,
+        ],
+    );
+    expect_equal(rt, alloc.refuse_none(), true);
+    passes.push(pass).expect(rt, "its own place");
+}
+
+#[test]
+fn futures_answer(rt: HostRuntime) {
+    play(&rt, Scene::FuturesAnswer);
+}
+
+// A try needs no memory: the request that is to be refused never comes.
+fn call_without_time<'a, J: Recording, R: Host>(
+    rt: &R,
+    alloc: Alloc<'a>,
+    channel: &Channel<'a, J>,
+    passes: &mut Passes<'a, J>,
+) {
+    let mut pass = passes.pop().expect(rt, "a pass");
+    alloc.refuse_nth(1);
+    let late = channel.recv_timeout(rt, &mut pass, Duration::ZERO);
+    expect_equal(rt, late, Err(RecvTimeoutError::Timeout));
+    let sent = channel.send_timeout(rt, &mut pass, text(rt, "one"), 1, Duration::ZERO);
+    expect_equal(rt, sent, Ok(()));
+    let late = channel.send_timeout(rt, &mut pass, text(rt, "two"), 2, Duration::ZERO);
+    expect_equal(
+        rt,
+        late,
+        Err(SendTimeoutError::Timeout((text(rt, "two"), 2))),
+    );
+    let received = channel.recv_timeout(rt, &mut pass, Duration::ZERO);
+    expect_equal(rt, received, Ok((text(rt, "one"), 1)));
+    expect_equal(rt, alloc.refuse_none(), true);
+    passes.push(pass).expect(rt, "its own place");
+}
+
+#[test]
+fn a_call_without_time_asks_for_no_memory(rt: HostRuntime) {
+    play(&rt, Scene::WithoutTime);
+}
