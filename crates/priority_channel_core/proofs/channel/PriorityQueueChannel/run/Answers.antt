@@ -19,7 +19,7 @@ loop-done-init g c = record {
 pub make-requires : goal.make-requires
 make-requires g c = record {
   allowed = AllowsRun-first _ _ _ (rw (c.in-Some.ensures.items, reverse-append) at c.loop-done.invariant.allowed);
-  callable = All-head (MayCall (peekable_can g.I.Iterator.can_next)) _ _ (rw (c.in-Some.ensures.items, reverse-append) at c.loop-done.invariant.callable);
+  callable = All-head (MayCall (peekable_can g.I.Iterator.can_next) (goal.F-IsAlwaysCallable g)) _ _ (rw (c.in-Some.ensures.items, reverse-append) at c.loop-done.invariant.callable);
 }
 
 pub push_reserved-requires : goal.push_reserved-requires
@@ -29,7 +29,7 @@ push_reserved-requires g c =
 pub loop-done-preserved : goal.loop-done-preserved
 loop-done-preserved g c = record {
   allowed = AllowsRun-more _ _ _ _ c.make.ensures.handles (rw (c.in-Some.ensures.items, reverse-append) at c.loop-done.invariant.allowed);
-  callable = All-tail (MayCall (peekable_can g.I.Iterator.can_next)) _ _ (rw (c.in-Some.ensures.items, reverse-append) at c.loop-done.invariant.callable);
+  callable = All-tail (MayCall (peekable_can g.I.Iterator.can_next) (goal.F-IsAlwaysCallable g)) _ _ (rw (c.in-Some.ensures.items, reverse-append) at c.loop-done.invariant.callable);
   left = rw (c.push_reserved.ensures.items, c.reserve.ensures.items, length-append)
       (drop-past (length c.loop-done.done.items) c.args.calls.items _ _ (rw (c.in-Some.ensures.items, reverse-append) at c.loop-done.invariant.left));
   runs = rw (c.push_reserved.ensures.items, c.reserve.ensures.items)

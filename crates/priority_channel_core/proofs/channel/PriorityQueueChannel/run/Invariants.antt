@@ -10,7 +10,7 @@ use Rattle.priority_channel_core.proofs.channel.PriorityQueueChannel.run.Given a
 abbrev pub invariant-loop-done : goal.invariant-loop-done
 invariant-loop-done g l = record {
   allowed : AllowsRun l.self.state (reverse l.calls.items);
-  callable : All (MayCall (peekable_can g.I.Iterator.can_next)) (reverse l.calls.items);
+  callable : All (MayCall (peekable_can g.I.Iterator.can_next) (goal.F-IsAlwaysCallable g)) (reverse l.calls.items);
   left : reverse l.calls.items ≡ drop (length l.done.items) l.fn.calls.items;
   runs : RunsFront (HasList g.I.Iterator.next_gives) g.P.Ord.cmp g.W.Clone.is_clone l.fn.self.state l.fn.calls.items l.done.items (reverse l.calls.items) l.self.state;
 }
