@@ -1,6 +1,6 @@
 -- Runs of the code's calls, one more call at a time.
-use Rattle.std.proofs.Common.{◌≡◌, ℕ, ◌+◌, List, [], ◌∷◌, ◌++◌, map, drop, refl, sym, ap, ◌∙◌, append_assoc, drop-drop}
-use Rattle.std.specs.Prelude.{Bool, true, Option, is_ok, OnOk, Ok, Err}
+use Rattle.std.proofs.Common.{◌≡◌, ℕ, ◌+◌, List, [], ◌∷◌, ◌++◌, length, map, drop, refl, ap, ◌∙◌, append_assoc, drop-drop}
+use Rattle.std.specs.Prelude.{Bool, true, Option, None, Some, IfSome, is_ok, OnOk, Ok, Err}
 use Rattle.std.specs.declared.result.Result.{Result}
 use Rattle.std.specs.List.{AllZip}
 use Rattle.std.proofs.lemmas.List.{map-append}
@@ -13,6 +13,7 @@ use Rattle.priority_channel_core.specs.machine.State.{State, Handed}
 use Rattle.priority_channel_core.specs.machine.Step.{Step, Calls, Answers}
 use Rattle.priority_channel_core.specs.machine.Run.{Operation, Run}
 use Rattle.priority_channel_core.specs.code.Calls.{Response, AtSomePlace, SameButPlace, SameCall, SameOperation, Makes, Performs, RunsFront}
+use Rattle.priority_channel_core.specs.code.Tests.{MeetsTest, AllMeetTests}
 use Rattle.priority_channel_core.specs.code.Answers.{SameAnswer}
 
 pub zip_push : {A B : Type 0} (R : A → B → Type 0) (xs : List A) (ys : List B) (x : A) (y : B) → AllZip R xs ys → R x y → AllZip R (xs ++ x ∷ []) (ys ++ y ∷ [])
@@ -119,6 +120,21 @@ module _ {T P W M F : Type 0} (holds : M → List (T × P) → Type 0) (cmp : P 
             b.1,
             Run-more cmp is_clone old mid new run ran r moves,
           )
+
+pub made_meets : {T P W M F : Type 0} (meets : F → T × P → Type 0) (made : Call T P W M F) (reply : Answer T P M) (test : F) (taken : Option (T × P))
+    → made ≡ TakeWhere test → reply ≡ answer.TakeWhere taken → IfSome taken (meets test) → MeetsTest meets made reply
+made_meets meets made reply test None is told met other pair again back = absurd (cc)
+made_meets meets made reply test (Some taken) is told met other pair again back =
+    let same : test ≡ other = cc in
+    let given : taken ≡ pair = cc in
+    rw (same, given) at met
+
+pub meets_more : {T P W M F : Type 0} (meets : F → T × P → Type 0) (calls left : List (Call T P W M F)) (done : List (Response T P W M)) (next : Call T P W M F) (response : Response T P W M)
+    → next ∷ left ≡ drop (length done) calls → AllMeetTests meets calls done → MeetsTest meets next response.answer → AllMeetTests meets calls (done ++ response ∷ [])
+meets_more meets [] left [] next response is all one = absurd (cc)
+meets_more meets [] left (d ∷ done) next response is all one = absurd (cc)
+meets_more meets (c ∷ calls) left [] next response is all one = let same : next ≡ c = cc in ((rw same at one), tt)
+meets_more meets (c ∷ calls) left (d ∷ done) next response is all one = (all.0, meets_more meets calls left done next response is all.1 one)
 
 pub at_ok : {X E : Type 0} {P : Type 0} (r : Result X E) (b : Bool) → b ≡ is_ok r → b ≡ true → OnOk r P → P
 at_ok (Ok x) b e h p = p

@@ -1,10 +1,12 @@
 //! Many calls, one after another.
-ghost use Rattle.std.specs.Prelude.{◌≡◌, All, length, drop};
+ghost use Rattle.std.specs.Prelude.{◌≡◌, true, All, length, drop};
 ghost use Rattle.priority_channel_core.specs.machine.Good.{IsGood};
 ghost use Rattle.std.specs.Iterator.Adapters.{peekable_can};
 ghost use Rattle.priority_channel_core.specs.code.Lists.{HasList};
 ghost use Rattle.priority_channel_core.specs.code.Calls.{MayCall, Makes, RunsFront};
 ghost use Rattle.priority_channel_core.specs.code.Allowed.{IsAllowed, AllowsRun, ChangesHandles};
+ghost use Rattle.priority_channel_core.specs.code.Tests.{MeetsTest, AllMeetTests};
+ghost use Rattle.priority_channel_bag.specs.Least.{Tells};
 
 use crate::awaitable_atomics::Wakes;
 use crate::calls::{Answer, Call};
@@ -71,6 +73,8 @@ impl<T: Drop, P: Ord + Drop, W: Clone, A: Allocator + Copy> PriorityQueueChannel
         requires callable { All (MayCall (peekable_can I.can_next) F.IsAlwaysCallable) calls.items }
         ensures run { RunsFront (HasList I.next_gives) P.cmp W.is_clone self.old.state calls.items
             result.done.items result.left.items self.new.state }
+        ensures meets { AllMeetTests (λ test pair. Tells F.Fn test pair true) calls.items
+            result.done.items }
 
         // This holds whether or not each iterator has one list: the calls that were not made are
         // left, and can be run from here.
@@ -103,6 +107,7 @@ impl<T: Drop, P: Ord + Drop, W: Clone, A: Allocator + Copy> PriorityQueueChannel
         requires callable { MayCall (peekable_can I.can_next) F.IsAlwaysCallable call }
         ensures step { Makes (HasList I.next_gives) P.cmp W.is_clone self.old.state call
             result.answer result.handed self.new.state }
+        ensures meets { MeetsTest (λ test pair. Tells F.Fn test pair true) call result.answer }
         ensures handles { ChangesHandles self.old.state call self.new.state }
     {
         match call {
