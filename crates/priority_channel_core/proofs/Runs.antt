@@ -1,15 +1,20 @@
 -- Runs of the code's calls, one more call at a time.
-use Rattle.std.proofs.Common.{◌≡◌, ℕ, ◌+◌, List, [], ◌∷◌, ◌++◌, map, drop, refl, sym, ap, ◌∙◌, append_assoc, drop-drop}
-use Rattle.std.specs.Prelude.{Bool, true, is_ok, OnOk, Ok, Err}
+use Rattle.std.proofs.Common.{◌≡◌, ℕ, ◌+◌, List, [], ◌∷◌, ◌++◌, length, map, drop, refl, ap, ◌∙◌, append_assoc, drop-drop}
+use Rattle.std.specs.Prelude.{Bool, true, Option, None, Some, IfSome, is_ok, OnOk, Ok, Err}
 use Rattle.std.specs.declared.result.Result.{Result}
 use Rattle.std.specs.List.{AllZip}
 use Rattle.std.proofs.lemmas.List.{map-append}
 use Rattle.std.specs.declared.cmp.Ordering.{Ordering}
 use Rattle.priority_channel_core.specs.declared.calls.Call.{Call}
-use Rattle.priority_channel_core.specs.machine.State.{State}
-use Rattle.priority_channel_core.specs.machine.Step.{Step, Calls}
+use Rattle.priority_channel_core.specs.declared.calls.Call.TheVariants.{TakeWhere}
+use Rattle.priority_channel_core.specs.declared.calls.Answer.{Answer}
+use Rattle.priority_channel_core.specs.declared.calls.Answer.TheVariants as answer
+use Rattle.priority_channel_core.specs.machine.State.{State, Handed}
+use Rattle.priority_channel_core.specs.machine.Step.{Step, Calls, Answers}
 use Rattle.priority_channel_core.specs.machine.Run.{Operation, Run}
-use Rattle.priority_channel_core.specs.code.Calls.{Response, SameCall, SameOperation, Performs, RunsFront}
+use Rattle.priority_channel_core.specs.code.Calls.{Response, AtSomePlace, SameButPlace, SameCall, SameOperation, Makes, Performs, RunsFront}
+use Rattle.priority_channel_core.specs.code.Tests.{MeetsTest, AllMeetTests}
+use Rattle.priority_channel_core.specs.code.Answers.{SameAnswer}
 
 pub zip_push : {A B : Type 0} (R : A → B → Type 0) (xs : List A) (ys : List B) (x : A) (y : B) → AllZip R xs ys → R x y → AllZip R (xs ++ x ∷ []) (ys ++ y ∷ [])
 zip_push R [] [] x y a r = (r, tt)
@@ -23,33 +28,113 @@ module _ {T P W : Type 0} (cmp : P → P → Ordering) (is_clone : W → W → T
   Run-more old mid new [] made r s = (new, rw (← r) s, refl)
   Run-more old mid new (m ∷ run) made r s = (r.0, r.1, Run-more r.0 mid new run made r.2 s)
 
-module _ {T P W M : Type 0} (holds : M → List (T × P) → Type 0) (cmp : P → P → Ordering) (is_clone : W → W → Type 0) where
-  pub RunsFront-none : (old : State T P W) (calls : List (Call T P W M)) → RunsFront holds cmp is_clone old calls [] calls old
-  RunsFront-none old calls = record { at = λ meant same. ([], meant, refl, tt, same, refl) }
+module _ {T P W : Type 0} where
+  place_same : (made : Calls T P W) → SameButPlace made made
+  place_same (TakeWhere place) = (place, refl)
+  place_same made = refl
 
-  pub RunsFront-more : (old mid new : State T P W) (calls left : List (Call T P W M)) (dones : List (Response T P W M)) (next : Call T P W M) (done : Response T P W M)
-      → RunsFront holds cmp is_clone old calls dones (next ∷ left) mid
-      → Performs holds cmp is_clone mid next done.answer done.handed new
+  place_again : (one two three : Calls T P W) → SameButPlace one two → SameButPlace two three → SameButPlace one three
+  place_again (TakeWhere place) two three (other, is) then = rw (← is) at then
+  place_again one two three is then = rw (← is) at then
+
+  places_same : (calls : List (Calls T P W)) → AllZip SameButPlace calls calls
+  places_same [] = tt
+  places_same (made ∷ calls) = (place_same made, places_same calls)
+
+  -- one more call has found its place
+  places_more : (meant front : List (Calls T P W)) (one two : Calls T P W) (others : List (Calls T P W))
+      → AllZip SameButPlace meant (front ++ one ∷ others) → SameButPlace one two → AllZip SameButPlace meant (front ++ two ∷ others)
+  places_more [] [] one two others all again = absurd all
+  places_more [] (f ∷ front) one two others all again = absurd all
+  places_more (m ∷ meant) [] one two others all again = (place_again m one two all.0 again, all.1)
+  places_more (m ∷ meant) (f ∷ front) one two others all again = (all.0, places_more meant front one two others all.1 again)
+
+-- the call for which this holds
+found : {T P W M F : Type 0} (holds : M → List (T × P) → Type 0) (so : Calls T P W → Type 0) (made : Call T P W M F) (meant : Calls T P W)
+    → SameCall holds made meant → AtSomePlace made meant so → (other : Calls T P W) × SameButPlace meant other × so other
+found holds so (TakeWhere test) meant (given, is, any) (place, at) = (TakeWhere place, rw is (place, refl), at)
+found holds so made meant same at = (meant, place_same meant, at)
+
+at_meant : {T P W M F : Type 0} (holds : M → List (T × P) → Type 0) (so : Calls T P W → Type 0) (made : Call T P W M F) (meant : Calls T P W)
+    → SameCall holds made meant → so meant → AtSomePlace made meant so
+at_meant holds so (TakeWhere test) meant (place, is, any) at = (place, rw is at at)
+at_meant holds so made meant same at = at
+
+module _ {T P W M F : Type 0} (holds : M → List (T × P) → Type 0) (cmp : P → P → Ordering) (is_clone : W → W → Type 0)
+    (old new : State T P W) (made : Call T P W M F) (reply : Answer T P M) (handed : Handed W) where
+  pub makes_step : ((meant : Calls T P W) → SameCall holds made meant → (told : Answers T P) × SameAnswer holds reply told × Step cmp is_clone old meant told handed new)
+      → Makes holds cmp is_clone old made reply handed new
+  makes_step steps = record {
+    at = λ meant same.
+        let k = steps meant same in
+        (k.0, k.1, at_meant holds (λ c. Step cmp is_clone old c k.0 handed new) made meant same k.2);
+  }
+
+  pub makes_performed : (call : Call T P W M ⊥) → Performs holds cmp is_clone old call reply handed new
+      → ((meant : Calls T P W) → SameCall holds made meant → SameCall holds call meant)
+      → Makes holds cmp is_clone old made reply handed new
+  makes_performed call performs is = record {
+    at = λ meant same.
+        let k = performs.at meant (is meant same) in
+        (k.0, k.1, at_meant holds (λ c. Step cmp is_clone old c k.0 handed new) made meant same (performed call meant k.0 k.2));
+  }
+    where
+      performed : (call : Call T P W M ⊥) (meant : Calls T P W) (told : Answers T P) → AtSomePlace call meant (λ c. Step cmp is_clone old c told handed new)
+          → Step cmp is_clone old meant told handed new
+      performed (TakeWhere none) meant told at = absurd none
+      performed call meant told at = at
+
+  pub makes_taking : (test : F) (taken : Option (T × P)) → made ≡ TakeWhere test → reply ≡ answer.TakeWhere taken
+      → (place : ℕ) × Step cmp is_clone old (TakeWhere place) (answer.TakeWhere taken) handed new
+      → Makes holds cmp is_clone old made reply handed new
+  makes_taking test taken is answers found = rw (is, answers) (record { at = λ meant same. (answer.TakeWhere taken, refl, found) })
+
+module _ {T P W M F : Type 0} (holds : M → List (T × P) → Type 0) (cmp : P → P → Ordering) (is_clone : W → W → Type 0) where
+  pub RunsFront-none : (old : State T P W) (calls : List (Call T P W M F)) → RunsFront holds cmp is_clone old calls [] calls old
+  RunsFront-none old calls = record { at = λ meant same. ([], meant, places_same meant, tt, same, refl) }
+
+  pub RunsFront-more : (old mid new : State T P W) (calls left : List (Call T P W M F)) (dones : List (Response T P W M)) (next : Call T P W M F) (done : Response T P W M)
+      → RunsFront holds cmp is_clone old calls dones (next ∷ left) mid → Makes holds cmp is_clone mid next done.answer done.handed new
       → RunsFront holds cmp is_clone old calls (dones ++ done ∷ []) left new
   RunsFront-more old mid new calls left dones next done front step = record {
     at = λ meant same. let k = front.at meant same in more meant k.0 k.1 k.2 k.3 k.4 k.5;
   }
     where
-      more : (meant : List (Calls T P W)) (run : List (Operation T P W)) (others : List (Calls T P W)) → meant ≡ map (λ (made : Operation T P W). made.call) run ++ others
+      calls_of : List (Operation T P W) → List (Calls T P W)
+      calls_of = map (λ (made : Operation T P W). made.call)
+
+      more : (meant : List (Calls T P W)) (run : List (Operation T P W)) (others : List (Calls T P W)) → AllZip SameButPlace meant (calls_of run ++ others)
           → AllZip (SameOperation holds) dones run → AllZip (SameCall holds) (next ∷ left) others → Run cmp is_clone old run mid
-          → (run' : List (Operation T P W)) × (others' : List (Calls T P W)) × (meant ≡ map (λ (made : Operation T P W). made.call) run' ++ others')
+          → (run' : List (Operation T P W)) × (others' : List (Calls T P W)) × AllZip SameButPlace meant (calls_of run' ++ others')
           × AllZip (SameOperation holds) (dones ++ done ∷ []) run' × AllZip (SameCall holds) left others' × Run cmp is_clone old run' new
       more meant run [] e a b r = absurd b
       more meant run (c ∷ cs) e a b r =
-          let s = step.at c b.0 in
-          let made : Operation T P W = record { call = c; answer = s.0; handed = done.handed } in (
-            run ++ made ∷ [],
+          let (told, same, steps) = step.at c b.0 in
+          let (call, place, moves) = found holds (λ call. Step cmp is_clone mid call told done.handed new) next c b.0 steps in
+          let ran : Operation T P W = record { call = call; answer = told; handed = done.handed } in (
+            run ++ ran ∷ [],
             cs,
-            e ∙ (sym (append_assoc (map (λ (m : Operation T P W). m.call) run) (c ∷ []) cs) ∙ ap (λ (l : List (Calls T P W)). l ++ cs) (sym (map-append (λ (m : Operation T P W). m.call) run (made ∷ [])))),
-            zip_push (SameOperation holds) dones run done made a (s.1, refl),
+            rw (map-append (λ (made : Operation T P W). made.call) run (ran ∷ []), append_assoc (calls_of run) (call ∷ []) cs)
+                (places_more meant (calls_of run) c call cs e place),
+            zip_push (SameOperation holds) dones run done ran a (same, refl),
             b.1,
-            Run-more cmp is_clone old mid new run made r s.2,
+            Run-more cmp is_clone old mid new run ran r moves,
           )
+
+pub made_meets : {T P W M F : Type 0} (meets : F → T × P → Type 0) (made : Call T P W M F) (reply : Answer T P M) (test : F) (taken : Option (T × P))
+    → made ≡ TakeWhere test → reply ≡ answer.TakeWhere taken → IfSome taken (meets test) → MeetsTest meets made reply
+made_meets meets made reply test None is told met other pair again back = absurd (cc)
+made_meets meets made reply test (Some taken) is told met other pair again back =
+    let same : test ≡ other = cc in
+    let given : taken ≡ pair = cc in
+    rw (same, given) at met
+
+pub meets_more : {T P W M F : Type 0} (meets : F → T × P → Type 0) (calls left : List (Call T P W M F)) (done : List (Response T P W M)) (next : Call T P W M F) (response : Response T P W M)
+    → next ∷ left ≡ drop (length done) calls → AllMeetTests meets calls done → MeetsTest meets next response.answer → AllMeetTests meets calls (done ++ response ∷ [])
+meets_more meets [] left [] next response is all one = absurd (cc)
+meets_more meets [] left (d ∷ done) next response is all one = absurd (cc)
+meets_more meets (c ∷ calls) left [] next response is all one = let same : next ≡ c = cc in ((rw same at one), tt)
+meets_more meets (c ∷ calls) left (d ∷ done) next response is all one = (all.0, meets_more meets calls left done next response is all.1 one)
 
 pub at_ok : {X E : Type 0} {P : Type 0} (r : Result X E) (b : Bool) → b ≡ is_ok r → b ≡ true → OnOk r P → P
 at_ok (Ok x) b e h p = p

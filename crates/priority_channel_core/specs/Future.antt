@@ -37,12 +37,13 @@ ticket_of (Waiting ticket waker) = Some ticket
 ticket_of (Called ticket waker) = Some ticket
 ticket_of standing = None
 
-module _ {T P W M : Type 0} where
-  abbrev pub poll_of : Task T P M → Option ℕ → W → Call T P W M
+module _ {T P W M F : Type 0} where
+  abbrev pub poll_of : Task T P M → Option ℕ → W → Call T P W M F
   poll_of (Send msg priority) given waker = PollSend msg priority given waker
   poll_of (Sendv msgs) given waker = PollSendv msgs given waker
   poll_of Recv given waker = PollRecv given waker
 
+module _ {T P W M : Type 0} where
   -- waiting with what was not sent, or done
   abbrev pub future_after : Task T P M → W → Answer T P M → Future T P W M
   future_after task waker (answer.PollSend (Pending pair ticket)) =

@@ -8,3 +8,4 @@ pub mod Answers
 pub mod Calls
 pub mod Many
 pub mod Allowed
+pub mod Tests

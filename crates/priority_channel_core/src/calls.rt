@@ -2,17 +2,17 @@
 use crate::errors::{RecvFault, SendFault, TryRecvError, TrySendError};
 
 /// A call of the core. `M` is the type that holds the pairs of a bulk send: in the code an iterator
-/// that can be peeked, in the definitions a list.
+/// that can be peeked, in the definitions a list. `F` is what chooses the pair of a taking: in the
+/// code a test, in the definitions a place.
 #[derive(Drop)]
-pub enum Call<T, P, W, M> {
+pub enum Call<T, P, W, M, F = fn(&T, &P) -> bool> {
     TrySend(T, P),
     TrySendv(M),
     TrySendEvicting(T, P),
     TryRecv,
-    /// A `take_where` in definitions and histories. A test is no value, so the call carries which
-    /// pair it takes: the pair's place among the pending pairs, in the order of their acceptance.
-    /// `run` does not make it.
-    TakeWhere(u64),
+    /// In the definitions it carries which pair it takes: the pair's place among the pending pairs,
+    /// in the order of their acceptance.
+    TakeWhere(F),
     Close,
     IsClosed,
     IsEmpty,

@@ -43,7 +43,7 @@ unsent_kept Q (Ready (Ok sent)) h = h
 unsent_kept Q (Ready (Err fault)) h = h
 unsent_kept Q (Pending held ticket) h = tt
 
-module _ {T P W M K R : Type 0} (Performs : State T P W → Call T P W M → Answer T P M → Handed W → State T P W → Type 0)
+module _ {T P W M F K R : Type 0} (Performs : State T P W → Call T P W M F → Answer T P M → Handed W → State T P W → Type 0)
     (task_of : K → Task T P M) (as_answer : CorePoll R K → Answer T P M) where
   pub polls_kept : (holding left : Holding K) (kept : K) (given : Option ℕ) (waker : W) (old new : State T P W) (handed : Handed W)
       (reply : CorePoll R K) (told : Poll R) → holding ≡ record { kept = Some kept; ticket = given }

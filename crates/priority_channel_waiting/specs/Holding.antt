@@ -90,8 +90,8 @@ pub record IsKeptOf {T P W M K : Type 0} (task_of : K → Task T P M) (holding :
   pub ticket : holding.ticket ≡ ticket_of future.standing
 
 -- for one kind of future
-module _ {T P W M K R : Type 0}
-    (Performs : State T P W → Call T P W M → Answer T P M → Handed W → State T P W → Type 0)
+module _ {T P W M F K R : Type 0}
+    (Performs : State T P W → Call T P W M F → Answer T P M → Handed W → State T P W → Type 0)
     (task_of : K → Task T P M) (as_answer : CorePoll R K → Answer T P M) where
   -- this poll returns what the core answers, and leaves the state of the polled future
   pub record PollsKept (kept : K) (given : Option ℕ) (waker : W) (old : State T P W) (told : Poll R)

@@ -15,7 +15,7 @@ pub type Pairs<T, P, A> = Ahead<IntoIter<(T, P), A>, (T, P)>;
 /// entries: no value of this type is made.
 pub struct Entry<T, P, W> {
     pub who: u64,
-    pub call: Call<T, P, W, LinkedList<(T, P)>>,
+    pub call: Call<T, P, W, LinkedList<(T, P)>, u64>,
     pub answer: Answer<T, P, LinkedList<(T, P)>>,
     pub handed: Wakes<W>,
 }

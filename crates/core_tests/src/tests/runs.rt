@@ -15,6 +15,8 @@ fn told<R: Abort + AllocGlobal>(rt: &R, answer: Answer<char, u64, Pairs>) -> Str
         Answer::TrySend(sent) => said(rt, sent.map_err(Unsent::from)),
         Answer::TrySendv(sent) => said(rt, listed(rt, sent.map_err(Unsent::from))),
         Answer::TryRecv(received) => said(rt, received),
+        Answer::TakeWhere(taken) => said(rt, taken),
+        Answer::PollSend(polled) => said(rt, polled),
         Answer::PollRecv(polled) => said(rt, polled),
         Answer::Close(answer) | Answer::IsClosed(answer) | Answer::CloneSender(answer) => {
             said(rt, answer)
@@ -42,6 +44,10 @@ fn expect_answers<R: Abort + AllocGlobal, A: Allocator>(
     }
 }
 
+fn is_b(msg: &char, _: &u64) -> bool {
+    *msg == 'b'
+}
+
 #[test]
 fn a_run_makes_each_call_in_order(rt: HostRuntime) {
     let made: Result<Core<Global>, _> = Core::bounded_reserved(rt.alloc(), 2);
@@ -54,10 +60,18 @@ fn a_run_makes_each_call_in_order(rt: HostRuntime) {
         Call::PollRecv(None, 8),
         Call::GiveUp(0),
         Call::TrySend('b', 1),
+        Call::TrySend('c', 9),
+        Call::PollSend('d', 5, None, 6),
+        Call::TakeWhere(is_b),
+        Call::TakeWhere(is_b),
+        Call::TryRecv,
+        Call::TrySend('b', 2),
         Call::Close,
+        Call::TakeWhere(is_b),
+        Call::TryRecv,
     ];
     let Progress { done, left } = core.run(calls.expect(&rt, "calls"));
-    expect_true(&rt, left.is_empty() && done.len() == 8, "each call is made");
+    expect_true(&rt, left.is_empty() && done.len() == 16, "each call is made");
     expect_answers(
         &rt,
         done,
@@ -69,12 +83,20 @@ fn a_run_makes_each_call_in_order(rt: HostRuntime) {
             "Pending((), 1)",
             "()",
             "Ok(()), message [(1, 8)]",
+            "Ok(())",
+            "Pending(('d', 5), 2)",
+            "Some(('b', 1)), room [(2, 6)]",
+            "None",
+            "Ok(('c', 9))",
+            "Ok(())",
             "true",
+            "Some(('b', 2))",
+            "Err(Closed)",
         ],
     );
     let Progress { done, left } = core.run(Vec::<Call<char, u64, u64, Pairs>>::new(rt.alloc()));
     expect_true(&rt, done.is_empty() && left.is_empty(), "no call is made");
-    expect_true(&rt, core.is_closed() && core.len() == 1, "nothing changed");
+    expect_true(&rt, core.is_closed() && core.is_empty(), "nothing changed");
 }
 
 // Each growth of the answers is refused in turn; the calls that are left are then run with memory.

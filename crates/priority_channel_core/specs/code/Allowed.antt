@@ -5,25 +5,25 @@ use Rattle.priority_channel_core.specs.declared.calls.Call.{Call}
 use Rattle.priority_channel_core.specs.declared.calls.Call.TheVariants.{CloneSender, CloneReceiver, DropSender, DropReceiver}
 use Rattle.priority_channel_core.specs.machine.State.{State}
 
-abbrev pub IsAllowed : {T P W M : Type 0} → State T P W → Call T P W M → Type 0
+abbrev pub IsAllowed : {T P W M F : Type 0} → State T P W → Call T P W M F → Type 0
 IsAllowed s DropSender = 0 < s.sender_count
 IsAllowed s DropReceiver = 0 < s.receiver_count
 IsAllowed s made = ⊤
 
-module _ {T P W M : Type 0} where
-  abbrev pub is_sender_clone : Call T P W M → Bool
+module _ {T P W M F : Type 0} where
+  abbrev pub is_sender_clone : Call T P W M F → Bool
   is_sender_clone CloneSender = true
   is_sender_clone made = false
 
-  abbrev pub is_sender_drop : Call T P W M → Bool
+  abbrev pub is_sender_drop : Call T P W M F → Bool
   is_sender_drop DropSender = true
   is_sender_drop made = false
 
-  abbrev pub is_receiver_clone : Call T P W M → Bool
+  abbrev pub is_receiver_clone : Call T P W M F → Bool
   is_receiver_clone CloneReceiver = true
   is_receiver_clone made = false
 
-  abbrev pub is_receiver_drop : Call T P W M → Bool
+  abbrev pub is_receiver_drop : Call T P W M F → Bool
   is_receiver_drop DropReceiver = true
   is_receiver_drop made = false
 
@@ -49,13 +49,13 @@ module _ {C : Type 0} (is_clone is_drop : C → Bool) where
     pub drops : DropsFindHandles count calls
     pub clones : list_any is_drop calls ≡ true → count + count_by is_clone calls < 2 ^ 63
 
-module _ {T P W M : Type 0} where
-  pub record ChangesHandles (old : State T P W) (made : Call T P W M)
+module _ {T P W M F : Type 0} where
+  pub record ChangesHandles (old : State T P W) (made : Call T P W M F)
       (new : State T P W) : Type 0 where
     pub senders : ChangesCount is_sender_clone is_sender_drop old.sender_count made new.sender_count
     pub receivers : ChangesCount is_receiver_clone is_receiver_drop old.receiver_count made
         new.receiver_count
 
-  pub record AllowsRun (s : State T P W) (calls : List (Call T P W M)) : Type 0 where
+  pub record AllowsRun (s : State T P W) (calls : List (Call T P W M F)) : Type 0 where
     pub senders : AllowsSide is_sender_clone is_sender_drop s.sender_count calls
     pub receivers : AllowsSide is_receiver_clone is_receiver_drop s.receiver_count calls

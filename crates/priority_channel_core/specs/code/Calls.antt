@@ -1,5 +1,5 @@
--- The calls of the code, where a bulk send is given what holds a list.
-use Rattle.std.specs.Prelude.{◌≡◌, List, ◌++◌, map, ⊤}
+-- The calls of the code: a bulk send is given what holds a list, and a taking a test.
+use Rattle.std.specs.Prelude.{◌≡◌, ℕ, List, ◌++◌, map, ⊤}
 use Rattle.std.specs.List.{AllZip}
 use Rattle.std.specs.declared.cmp.Ordering.{Ordering}
 use Rattle.priority_channel_core.specs.declared.calls.Call.{Call}
@@ -15,22 +15,32 @@ pub record Response (T P W M : Type 0) : Type 0 where
   pub answer : Answer T P M
   pub handed : Handed W
 
--- a bulk send may be called; a `take_where` of the code has no place
-abbrev pub MayCall : {T P W M : Type 0} → (M → Type 0) → Call T P W M → Type 0
-MayCall can (TrySendv msgs) = can msgs
-MayCall can (PollSendv msgs given waker) = can msgs
-MayCall can (TakeWhere place) = ⊥
-MayCall can made = ⊤
+-- what the call is given may be called
+abbrev pub MayCall : {T P W M F : Type 0} → (M → Type 0) → (F → Type 0) → Call T P W M F → Type 0
+MayCall may_send may_test (TrySendv msgs) = may_send msgs
+MayCall may_send may_test (PollSendv msgs given waker) = may_send msgs
+MayCall may_send may_test (TakeWhere test) = may_test test
+MayCall may_send may_test made = ⊤
 
-module _ {T P W M : Type 0} (holds : M → List (T × P) → Type 0) where
-  abbrev pub SameCall : Call T P W M → Calls T P W → Type 0
+-- `so` holds of the call that is meant; if the call is a taking, of one at some place
+abbrev pub AtSomePlace : {T P W M F : Type 0} → Call T P W M F → Calls T P W
+    → (Calls T P W → Type 0) → Type 0
+AtSomePlace (TakeWhere test) meant so = (place : ℕ) × so (TakeWhere place)
+AtSomePlace made meant so = so meant
+
+abbrev pub SameButPlace : {T P W : Type 0} → Calls T P W → Calls T P W → Type 0
+SameButPlace made other = AtSomePlace made made (Is other)
+
+module _ {T P W M F : Type 0} (holds : M → List (T × P) → Type 0) where
+  -- a taking is one at any place
+  abbrev pub SameCall : Call T P W M F → Calls T P W → Type 0
   SameCall (TrySendv msgs) = IsMade (holds msgs) TrySendv
   SameCall (PollSendv msgs given waker) =
       IsMade (holds msgs) (λ pairs. PollSendv pairs given waker)
   SameCall (TrySend msg priority) = Is (TrySend msg priority)
   SameCall (TrySendEvicting msg priority) = Is (TrySendEvicting msg priority)
   SameCall TryRecv = Is TryRecv
-  SameCall (TakeWhere place) = Is (TakeWhere place)
+  SameCall (TakeWhere test) = IsMade (λ place. ⊤) TakeWhere
   SameCall Close = Is Close
   SameCall IsClosed = Is IsClosed
   SameCall IsEmpty = Is IsEmpty
@@ -47,23 +57,31 @@ module _ {T P W M : Type 0} (holds : M → List (T × P) → Type 0) where
   SameCall (PollRecv given waker) = Is (PollRecv given waker)
   SameCall (GiveUp ticket) = Is (GiveUp ticket)
 
+module _ {T P W M : Type 0} (holds : M → List (T × P) → Type 0) where
   abbrev pub SameOperation : Response T P W M → Operation T P W → Type 0
   SameOperation done made = SameAnswer holds done.answer made.answer × (made.handed ≡ done.handed)
 
-  module _ (cmp : P → P → Ordering) (is_clone : W → W → Type 0) where
-    -- a call of the code is a step, for every list that a bulk send holds
-    pub record Performs (old : State T P W) (made : Call T P W M) (reply : Answer T P M)
-        (handed : Handed W) (new : State T P W) : Type 0 where
-      pub at : (meant : Calls T P W) → SameCall made meant
-          → (told : Answers T P) × SameAnswer holds reply told
-          × Step cmp is_clone old meant told handed new
+module _ {T P W M F : Type 0} (holds : M → List (T × P) → Type 0) (cmp : P → P → Ordering)
+    (is_clone : W → W → Type 0) where
+  -- a call of the code is a step, for every list that a bulk send holds
+  pub record Makes (old : State T P W) (made : Call T P W M F) (reply : Answer T P M)
+      (handed : Handed W) (new : State T P W) : Type 0 where
+    pub at : (meant : Calls T P W) → SameCall holds made meant
+        → (told : Answers T P) × SameAnswer holds reply told
+        × AtSomePlace made meant (λ call. Step cmp is_clone old call told handed new)
 
-    -- a prefix of the calls was made, in a run, and the others are left
-    pub record RunsFront (old : State T P W) (calls : List (Call T P W M))
-        (done : List (Response T P W M)) (left : List (Call T P W M))
-        (new : State T P W) : Type 0 where
-      pub at : (meant : List (Calls T P W)) → AllZip SameCall calls meant
-          → (run : List (Operation T P W)) × (others : List (Calls T P W))
-          × (meant ≡ map (λ made. made.call) run ++ others)
-          × AllZip SameOperation done run × AllZip SameCall left others
-          × Run cmp is_clone old run new
+  -- a prefix of the calls was made, in a run, and the others are left
+  pub record RunsFront (old : State T P W) (calls : List (Call T P W M F))
+      (done : List (Response T P W M)) (left : List (Call T P W M F))
+      (new : State T P W) : Type 0 where
+    pub at : (meant : List (Calls T P W)) → AllZip (SameCall holds) calls meant
+        → (run : List (Operation T P W)) × (others : List (Calls T P W))
+        × AllZip SameButPlace meant (map (λ made. made.call) run ++ others)
+        × AllZip (SameOperation holds) done run × AllZip (SameCall holds) left others
+        × Run cmp is_clone old run new
+
+-- of a call that is no taking
+abbrev pub Performs : {T P W M : Type 0} → (M → List (T × P) → Type 0) → (P → P → Ordering)
+    → (W → W → Type 0) → State T P W → Call T P W M ⊥ → Answer T P M → Handed W → State T P W
+    → Type 0
+Performs holds cmp is_clone = Makes holds cmp is_clone

@@ -1,5 +1,5 @@
 -- One step: a call, its answer, whom it wakes, and the state after it.
-use Rattle.std.specs.Prelude.{◌+◌, ◌-◌, ◌==◌, List, [], ◌∷◌, length, Some}
+use Rattle.std.specs.Prelude.{ℕ, ◌+◌, ◌-◌, ◌==◌, List, [], ◌∷◌, length, Some}
 use Rattle.std.specs.declared.cmp.Ordering.{Ordering}
 use Rattle.priority_channel_core.specs.declared.calls.Call.{Call}
 use Rattle.priority_channel_core.specs.declared.calls.Call.TheVariants.{TrySend, TrySendv, TrySendEvicting, TryRecv, TakeWhere, Close, IsClosed, IsEmpty, IsFull, Len, Capacity, SenderCount, ReceiverCount, CloneSender, CloneReceiver, DropSender, DropReceiver, PollSend, PollSendv, PollRecv, GiveUp}
@@ -14,9 +14,9 @@ use Rattle.priority_channel_core.specs.Waiters.{unlist}
 use Rattle.priority_channel_core.specs.machine.Polls.{send_answer, recv_answer, Polls}
 use Rattle.priority_channel_core.specs.declared.side.Side.TheVariants.{Room, Message}
 
--- with a list for a bulk send
+-- with a list for a bulk send, and a place for a taking
 abbrev pub Calls : (T P W : Type 0) → Type 0
-Calls T P W = Call T P W (List (T × P))
+Calls T P W = Call T P W (List (T × P)) ℕ
 
 abbrev pub Answers : (T P : Type 0) → Type 0
 Answers T P = Answer T P (List (T × P))

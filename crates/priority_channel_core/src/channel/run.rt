@@ -1,10 +1,12 @@
 //! Many calls, one after another.
-ghost use Rattle.std.specs.Prelude.{◌≡◌, All, length, drop};
+ghost use Rattle.std.specs.Prelude.{◌≡◌, true, All, length, drop};
 ghost use Rattle.priority_channel_core.specs.machine.Good.{IsGood};
 ghost use Rattle.std.specs.Iterator.Adapters.{peekable_can};
 ghost use Rattle.priority_channel_core.specs.code.Lists.{HasList};
-ghost use Rattle.priority_channel_core.specs.code.Calls.{MayCall, Performs, RunsFront};
+ghost use Rattle.priority_channel_core.specs.code.Calls.{MayCall, Makes, RunsFront};
 ghost use Rattle.priority_channel_core.specs.code.Allowed.{IsAllowed, AllowsRun, ChangesHandles};
+ghost use Rattle.priority_channel_core.specs.code.Tests.{MeetsTest, AllMeetTests};
+ghost use Rattle.priority_channel_bag.specs.Least.{Tells};
 
 use crate::awaitable_atomics::Wakes;
 use crate::calls::{Answer, Call};
@@ -49,9 +51,9 @@ impl<T, P, W, M, A: Allocator> Response<T, P, W, M, A> {
 /// The result of a run: the responses to the calls that it made, and the calls that it did not
 /// make, both in order.
 #[derive(Drop)]
-pub struct Progress<T, P, W, M, A: Allocator = Global> {
+pub struct Progress<T, P, W, M, F, A: Allocator = Global> {
     pub done: Vec<Response<T, P, W, M, A>, A>,
-    pub left: Vec<Call<T, P, W, M>, A>,
+    pub left: Vec<Call<T, P, W, M, F>, A>,
 }
 
 impl<T: Drop, P: Ord + Drop, W: Clone, A: Allocator + Copy> PriorityQueueChannel<T, P, W, A> {
@@ -61,23 +63,26 @@ impl<T: Drop, P: Ord + Drop, W: Clone, A: Allocator + Copy> PriorityQueueChannel
     ///
     /// ```
     /// type Pairs = array::IntoIter<(&str, i64), 2>;
-    /// let ran = channel.run::<Pairs>(vec![in alloc; Call::TrySend("build", 3), Call::TryRecv]?);
+    /// let ran = channel.run::<Pairs, _>(vec![in alloc; Call::TrySend("build", 3), Call::TryRecv]?);
     /// ```
-    pub fn run<I: Iterator<Item = (T, P)>>(
+    pub fn run<I: Iterator<Item = (T, P)>, F: Fn(&T, &P) -> bool + Drop>(
         &mut self,
-        mut calls: Vec<Call<T, P, W, Peekable<I>>, A>,
-    ) -> Progress<T, P, W, Peekable<I>, A>
+        mut calls: Vec<Call<T, P, W, Peekable<I>, F>, A>,
+    ) -> Progress<T, P, W, Peekable<I>, F, A>
         requires allowed { AllowsRun self.old.state calls.items }
-        requires callable { All (MayCall (peekable_can I.can_next)) calls.items }
+        requires callable { All (MayCall (peekable_can I.can_next) F.IsAlwaysCallable) calls.items }
         ensures run { RunsFront (HasList I.next_gives) P.cmp W.is_clone self.old.state calls.items
             result.done.items result.left.items self.new.state }
+        ensures meets { AllMeetTests (λ test pair. Tells F.Fn test pair true) calls.items
+            result.done.items }
 
         // This holds whether or not each iterator has one list: the calls that were not made are
         // left, and can be run from here.
         ensures left { result.left.items ≡ drop (length result.done.items) calls.items }
         ensures good { IsGood self.new.state }
         ensures allowed { AllowsRun self.new.state result.left.items }
-        ensures callable { All (MayCall (peekable_can I.can_next)) result.left.items }
+        ensures callable { All (MayCall (peekable_can I.can_next) F.IsAlwaysCallable)
+            result.left.items }
     {
         calls.reverse();
         let mut done = Vec::new(self.alloc);
@@ -93,14 +98,16 @@ impl<T: Drop, P: Ord + Drop, W: Clone, A: Allocator + Copy> PriorityQueueChannel
         Progress { done, left: calls }
     }
 
-    fn make<I: Iterator<Item = (T, P)>>(
+    #[tactic(auto, using(crate::proofs::Runs::makes_step, crate::proofs::Runs::makes_performed))]
+    fn make<I: Iterator<Item = (T, P)>, F: Fn(&T, &P) -> bool + Drop>(
         &mut self,
-        call: Call<T, P, W, Peekable<I>>,
+        call: Call<T, P, W, Peekable<I>, F>,
     ) -> Response<T, P, W, Peekable<I>, A>
         requires allowed { IsAllowed self.old.state call }
-        requires callable { MayCall (peekable_can I.can_next) call }
-        ensures step { Performs (HasList I.next_gives) P.cmp W.is_clone self.old.state call
+        requires callable { MayCall (peekable_can I.can_next) F.IsAlwaysCallable call }
+        ensures step { Makes (HasList I.next_gives) P.cmp W.is_clone self.old.state call
             result.answer result.handed self.new.state }
+        ensures meets { MeetsTest (λ test pair. Tells F.Fn test pair true) call result.answer }
         ensures handles { ChangesHandles self.old.state call self.new.state }
     {
         match call {
@@ -120,7 +127,10 @@ impl<T: Drop, P: Ord + Drop, W: Clone, A: Allocator + Copy> PriorityQueueChannel
                 let (reply, wakes) = self.try_recv();
                 Response::new(Answer::TryRecv(reply), wakes)
             }
-            Call::TakeWhere(_) => unreachable!(),
+            Call::TakeWhere(test) => {
+                let (taken, wakes) = self.take_where(&test);
+                Response::new(Answer::TakeWhere(taken), wakes)
+            }
             Call::Close => {
                 let (was_open, wakes) = self.close();
                 Response::new(Answer::Close(was_open), wakes)

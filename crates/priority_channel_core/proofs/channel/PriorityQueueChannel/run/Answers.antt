@@ -1,10 +1,11 @@
-use Rattle.std.proofs.Common.{arith, length, length-append}
+use Rattle.std.proofs.Common.{arith, true, length, length-append}
 use Rattle.std.specs.Iterator.Adapters.{peekable_can}
 use Rattle.std.proofs.lemmas.List.{reverse-append, reverse-reverse}
 use Rattle.std.proofs.lemmas.List.Elements.{All-head, All-tail}
+use Rattle.priority_channel_bag.specs.Least.{Tells}
 use Rattle.priority_channel_core.specs.code.Calls.{MayCall}
 use Rattle.priority_channel_core.proofs.Handles.{AllowsRun-first, AllowsRun-more}
-use Rattle.priority_channel_core.proofs.Runs.{RunsFront-none, RunsFront-more, at_ok, drop-past}
+use Rattle.priority_channel_core.proofs.Runs.{RunsFront-none, RunsFront-more, meets_more, at_ok, drop-past}
 use Rattle.priority_channel_core.proofs.channel.PriorityQueueChannel.run.Goals as goal
 use Rattle.priority_channel_core.proofs.channel.PriorityQueueChannel.run.Goals.{then-loop-done-test+else-is_ok, else-loop-done-test}
 
@@ -12,6 +13,7 @@ pub loop-done-init : goal.loop-done-init
 loop-done-init g c = record {
   allowed = rw (c.reverse.ensures.items, reverse-reverse) c.requires.allowed;
   callable = rw (c.reverse.ensures.items, reverse-reverse) c.requires.callable;
+  meets = rw c.new-done.ensures.items tt;
   left = rw (c.new-done.ensures.items, c.reverse.ensures.items) (reverse-reverse _);
   runs = rw (c.new-done.ensures.items, c.reverse.ensures.items, reverse-reverse) (RunsFront-none _ _ _ _ _);
 }
@@ -19,7 +21,7 @@ loop-done-init g c = record {
 pub make-requires : goal.make-requires
 make-requires g c = record {
   allowed = AllowsRun-first _ _ _ (rw (c.in-Some.ensures.items, reverse-append) at c.loop-done.invariant.allowed);
-  callable = All-head (MayCall (peekable_can g.I.Iterator.can_next)) _ _ (rw (c.in-Some.ensures.items, reverse-append) at c.loop-done.invariant.callable);
+  callable = All-head (MayCall (peekable_can g.I.Iterator.can_next) (goal.F-IsAlwaysCallable g)) _ _ (rw (c.in-Some.ensures.items, reverse-append) at c.loop-done.invariant.callable);
 }
 
 pub push_reserved-requires : goal.push_reserved-requires
@@ -29,7 +31,10 @@ push_reserved-requires g c =
 pub loop-done-preserved : goal.loop-done-preserved
 loop-done-preserved g c = record {
   allowed = AllowsRun-more _ _ _ _ c.make.ensures.handles (rw (c.in-Some.ensures.items, reverse-append) at c.loop-done.invariant.allowed);
-  callable = All-tail (MayCall (peekable_can g.I.Iterator.can_next)) _ _ (rw (c.in-Some.ensures.items, reverse-append) at c.loop-done.invariant.callable);
+  callable = All-tail (MayCall (peekable_can g.I.Iterator.can_next) (goal.F-IsAlwaysCallable g)) _ _ (rw (c.in-Some.ensures.items, reverse-append) at c.loop-done.invariant.callable);
+  meets = rw (c.push_reserved.ensures.items, c.reserve.ensures.items)
+      (meets_more (λ test pair. Tells g.F.Fn test pair true) c.args.calls.items _ c.loop-done.done.items _ c.make.result
+      (rw (c.in-Some.ensures.items, reverse-append) at c.loop-done.invariant.left) c.loop-done.invariant.meets c.make.ensures.meets);
   left = rw (c.push_reserved.ensures.items, c.reserve.ensures.items, length-append)
       (drop-past (length c.loop-done.done.items) c.args.calls.items _ _ (rw (c.in-Some.ensures.items, reverse-append) at c.loop-done.invariant.left));
   runs = rw (c.push_reserved.ensures.items, c.reserve.ensures.items)
@@ -43,6 +48,13 @@ returns-clause-run g c =
       | then-loop-done-test+else-is_ok w ↦ rw (w.done-is, w.reserve.ensures.items) c.loop-done.invariant.runs
       | else-loop-done-test w ↦ rw w.done-is c.loop-done.invariant.runs
     ])
+
+pub returns-clause-meets : goal.returns-clause-meets
+returns-clause-meets g c =
+    elim c.loop-done-test.branch [
+      | then-loop-done-test+else-is_ok w ↦ rw (w.done-is, w.reserve.ensures.items) c.loop-done.invariant.meets
+      | else-loop-done-test w ↦ rw w.done-is c.loop-done.invariant.meets
+    ]
 
 pub returns-clause-left : goal.returns-clause-left
 returns-clause-left g c =

@@ -1,16 +1,19 @@
-use Rattle.std.proofs.Common.{◌≡◌, vec_len, reverse, length, drop}
+use Rattle.std.proofs.Common.{◌≡◌, true, vec_len, reverse, length, drop}
 use Rattle.std.specs.List.{All}
 use Rattle.std.specs.Iterator.Adapters.{peekable_can}
 use Rattle.priority_channel_core.specs.code.Lists.{HasList}
 use Rattle.priority_channel_core.specs.code.Allowed.{AllowsRun}
 use Rattle.priority_channel_core.specs.code.Calls.{MayCall, RunsFront}
+use Rattle.priority_channel_core.specs.code.Tests.{AllMeetTests}
+use Rattle.priority_channel_bag.specs.Least.{Tells}
 use Rattle.priority_channel_core.proofs.channel.PriorityQueueChannel.run.Given as goal
 
 -- the calls are kept in reverse, so that the next call is at the end
 abbrev pub invariant-loop-done : goal.invariant-loop-done
 invariant-loop-done g l = record {
   allowed : AllowsRun l.self.state (reverse l.calls.items);
-  callable : All (MayCall (peekable_can g.I.Iterator.can_next)) (reverse l.calls.items);
+  callable : All (MayCall (peekable_can g.I.Iterator.can_next) (goal.F-IsAlwaysCallable g)) (reverse l.calls.items);
+  meets : AllMeetTests (λ test pair. Tells g.F.Fn test pair true) l.fn.calls.items l.done.items;
   left : reverse l.calls.items ≡ drop (length l.done.items) l.fn.calls.items;
   runs : RunsFront (HasList g.I.Iterator.next_gives) g.P.Ord.cmp g.W.Clone.is_clone l.fn.self.state l.fn.calls.items l.done.items (reverse l.calls.items) l.self.state;
 }

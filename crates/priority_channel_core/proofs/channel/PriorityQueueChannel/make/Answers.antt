@@ -1,0 +1,14 @@
+use Rattle.std.specs.Prelude.{true}
+use Rattle.priority_channel_bag.specs.Least.{Tells}
+use Rattle.priority_channel_core.proofs.Runs.{makes_taking, made_meets}
+use Rattle.priority_channel_core.proofs.channel.PriorityQueueChannel.make.Goals as goal
+
+pub returns-in-TakeWhere-clause-step : goal.returns-in-TakeWhere-clause-step
+returns-in-TakeWhere-clause-step g c =
+    makes_taking _ _ _ _ _ _ _ _ c.in-TakeWhere.test c.take_where-taken.result.0 c.in-TakeWhere.is c.new-in-TakeWhere.ensures.answer
+    (rw c.new-in-TakeWhere.ensures.handed c.take_where-taken.ensures.step)
+
+pub returns-in-TakeWhere-clause-meets : goal.returns-in-TakeWhere-clause-meets
+returns-in-TakeWhere-clause-meets g c =
+    made_meets (λ test pair. Tells g.F.Fn test pair true) _ _ c.in-TakeWhere.test c.take_where-taken.result.0 c.in-TakeWhere.is c.new-in-TakeWhere.ensures.answer
+    c.take_where-taken.ensures.meets
