@@ -5,6 +5,7 @@ use std::process::Abort;
 mod books;
 mod recorded;
 mod replay;
+mod watch;
 mod witnessed;
 
 /// `assert_eq!`, proved once: each one in place takes seconds of the check.

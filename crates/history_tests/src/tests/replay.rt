@@ -2,6 +2,7 @@
 ghost use Rattle.std.specs.Prelude.{◌≡◌, false};
 ghost use Rattle.priority_channel_witnessed.specs.Log.{names};
 
+use super::watch::Watch;
 use super::{expect_equal, expect_equal_at};
 use mix::{Mix, make};
 use model::CAPACITY;
@@ -98,7 +99,9 @@ fn call_on_four_threads<
 
 #[test]
 fn an_order_explains_four_threads(rt: HostRuntime) {
+    let watch = Watch::begin(&rt, "the calls of four threads");
     call_on_four_threads::<Brand, _>(&rt, Fresh::new(CAPACITY, false, 4));
+    watch.end(&rt);
 }
 
 fn sent(begin: u64, end: u64, pair: Pair) -> Noted {

@@ -3,6 +3,7 @@ ghost use Rattle.std.specs.Prelude.{◌≡◌, false, true};
 ghost use Rattle.priority_channel_witnessed.specs.Log.{names};
 
 use crate::tests::expect_equal;
+use crate::tests::watch::Watch;
 use futures::executor::block_on;
 use futures::future::poll_immediate;
 use priority_channel_core::errors::{RecvError, RecvFault, SendError, SendFault};
@@ -10,7 +11,7 @@ use priority_channel_witnessed::{
     Fresh, Pass, PriorityQueueChannel, Recording, Waiter, Witnessed, wake_all,
 };
 use refusing::Refusing;
-use std::alloc::{AllocGlobal, Global};
+use std::alloc::{AllocGlobal, Allocator, Global};
 use std::marker::Brand;
 use std::process::Abort;
 use std::random::RandomSource;
@@ -113,6 +114,57 @@ fn a_dropped_future_gives_up_and_leaves(rt: HostRuntime) {
     drop_those_that_wait::<Brand, _>(&rt, Fresh::new(1, false, 3));
 }
 
+// A receive is refused memory to wait, and a message comes after its first try. Its last try
+// receives the message.
+fn receive_late<
+    J: Recording + Send + Sync,
+    A: Allocator + Copy + Send + Sync,
+    R: Threads + Wait + RandomSource + AllocGlobal + Sync + Abort,
+>(rt: &R, alloc: A, memory: &Refusing<Global>, fresh: Fresh<u64, u64, Waiter<A>>)
+    requires names { fresh ≡ names J.log J.capacity J.is_reserved J.name J.parts }
+    requires capacity { fresh.capacity ≡ 1 }
+    requires reserved { fresh.is_reserved ≡ true }
+    requires passes { fresh.passes ≡ 2 }
+{
+    let core = PriorityQueueChannel::bounded_reserved(alloc, 1).expect(rt, "a core");
+    let made = Witnessed::<u64, u64, Waiter<A>, J, A>::new(alloc, fresh, core, 2);
+    let (channel, mut passes) = made.expect(rt, "a channel");
+    let receiver = passes.pop().expect(rt, "a pass");
+    let mut sender = passes.pop().expect(rt, "a pass");
+    memory.refuse_nth(1);
+    memory.hold_nth(1);
+    let shared = &channel;
+    let ((received, receiver), sent) = thread::join(
+        rt,
+        || block_on(rt, shared.recv(rt, receiver)).expect(rt, "an executor"),
+        || {
+            for _ in 0..u64::MAX {
+                if memory.is_holding() {
+                    break;
+                }
+                thread::yield_now();
+            }
+            let (sent, wakes) = shared.try_send(rt, &mut sender, 7, 1);
+            wake_all(rt, wakes);
+            memory.let_go();
+            sent
+        },
+    );
+    expect_equal(rt, (sent, received), (Ok(()), Ok((7, 1))));
+    expect_equal(rt, memory.refuse_none(), false);
+    passes.push(sender).expect(rt, "its own place");
+    passes.push(receiver).expect(rt, "its own place");
+    channel.end(rt, passes);
+}
+
+#[test]
+fn a_receive_without_memory_finds_what_has_come(rt: HostRuntime) {
+    let alloc = Refusing::new(rt.alloc());
+    let watch = Watch::begin(&rt, "a receive that asks for memory");
+    receive_late::<Brand, _, _>(&rt, &alloc, &alloc, Fresh::new(1, true, 2));
+    watch.end(&rt);
+}
+
 // Sends by futures, a pair and then three at a time, and closes. Tells how many were sent.
 fn send_many<J: Recording, R: Wait + RandomSource + AllocGlobal + Abort>(
     rt: &R,
@@ -184,5 +236,7 @@ fn relay<J: Recording + Send + Sync, R: Threads + Wait + RandomSource + AllocGlo
 
 #[test]
 fn tasks_wait_for_each_other(rt: HostRuntime) {
+    let watch = Watch::begin(&rt, "tasks that wait for each other");
     relay::<Brand, _>(&rt, Fresh::new(2, false, 2));
+    watch.end(&rt);
 }

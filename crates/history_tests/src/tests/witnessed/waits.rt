@@ -2,6 +2,7 @@
 ghost use Rattle.std.specs.Prelude.{◌≡◌, false, true};
 ghost use Rattle.priority_channel_witnessed.specs.Log.{names};
 
+use crate::tests::watch::Watch;
 use crate::tests::{expect_equal, expect_equal_at};
 use priority_channel_core::channel::PriorityQueueChannel;
 use priority_channel_core::errors::{RecvError, RecvFault, SendError, SendFault};
@@ -10,6 +11,8 @@ use priority_channel_waiting::waiter::{Waiter, wake_all};
 use priority_channel_witnessed::{Fresh, Pass, Recording, Witnessed};
 use refusing::Refusing;
 use std::alloc::{AllocGlobal, Global};
+use std::cell::Cell;
+use std::io;
 use std::marker::Brand;
 use std::process::Abort;
 use std::sync::{Mutex, Wait, WaitMethods};
@@ -18,6 +21,26 @@ use std::time::{Clock, Duration, Instant};
 
 fn limit() -> Duration {
     Duration::from_millis(20)
+}
+
+/// A clock that counts how often it is read: a wait reads it as it begins, and before each sleep.
+#[derive(Drop)]
+struct Counting<'a, R> {
+    rt: &'a R,
+    readings: Cell<u64>,
+}
+
+impl<R: Wait> Wait for Counting<'_, R> {}
+
+impl<R: Clock> Clock for Counting<'_, R> {
+    fn monotonic(&self) -> io::Result<Duration> {
+        self.readings.set(self.readings.get().wrapping_add(1));
+        self.rt.monotonic()
+    }
+
+    fn since_1970(&self) -> io::Result<Duration> {
+        self.rt.since_1970()
+    }
 }
 
 // From an empty channel, from one with a message, and from a closed one.
@@ -35,8 +58,14 @@ fn receive_in_time<J: Recording, R: Wait + Clock + Abort + AllocGlobal>(
     let (channel, mut passes) = made.expect(rt, "a channel");
     let mut pass = passes.pop().expect(rt, "a pass");
     let begun = Instant::now(rt).expect(rt, "a clock");
-    let late = channel.recv_timeout(rt, &mut pass, limit());
+    let counting = Counting {
+        rt,
+        readings: Cell::new(0),
+    };
+    let late = channel.recv_timeout(&counting, &mut pass, limit());
     let took = begun.elapsed(rt).expect(rt, "a clock");
+    let readings = counting.readings.get();
+    expect_equal_at(rt, readings, readings < 20, true);
     expect_equal_at(
         rt,
         took,
@@ -62,7 +91,9 @@ fn receive_in_time<J: Recording, R: Wait + Clock + Abort + AllocGlobal>(
 
 #[test]
 fn receives_end_in_time(rt: HostRuntime) {
+    let watch = Watch::begin(&rt, "receives with limits");
     receive_in_time::<Brand, _>(&rt, Fresh::new(1, false, 1));
+    watch.end(&rt);
 }
 
 // The same of sends, into a channel for one. Of three by one call one is sent.
@@ -109,7 +140,9 @@ fn send_in_time<J: Recording, R: Wait + Clock + Abort + AllocGlobal>(
 
 #[test]
 fn sends_end_in_time(rt: HostRuntime) {
+    let watch = Watch::begin(&rt, "sends with limits");
     send_in_time::<Brand, _>(&rt, Fresh::new(1, false, 1));
+    watch.end(&rt);
 }
 
 // A try needs no memory: the request that is to be refused never comes.
@@ -223,5 +256,7 @@ fn block_on_four_threads<
 
 #[test]
 fn threads_block_until_others_go_on(rt: HostRuntime) {
+    let watch = Watch::begin(&rt, "threads that wait for each other");
     block_on_four_threads::<Brand, _>(&rt, Fresh::new(2, false, 4));
+    watch.end(&rt);
 }
