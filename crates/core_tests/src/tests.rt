@@ -14,6 +14,7 @@ mod random;
 mod rows;
 mod runs;
 mod script;
+mod spins;
 mod states;
 mod waits;
 mod word;

@@ -6,6 +6,7 @@ mod books;
 mod recorded;
 mod replay;
 mod scenes;
+mod watch;
 mod witnessed;
 
 /// `assert_eq!`, proved once: each one in place takes seconds of the check.

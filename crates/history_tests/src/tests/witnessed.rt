@@ -6,6 +6,7 @@ ghost use Rattle.priority_channel_witnessed.specs.Log.{names};
 use super::expect_equal;
 use super::replay::explain_four_threads;
 use super::scenes::{Host, end};
+use super::watch::Watch;
 use calls::{call_all, give_up};
 use passes::{call_on_four_threads, come_and_go, come_late};
 use priority_channel_core::awaitable_atomics::Wakes;
@@ -18,6 +19,7 @@ use tasks::{drop_those_that_wait, relay};
 use waits::{block_on_four_threads, receive_in_time, send_in_time};
 
 mod calls;
+mod late;
 mod passes;
 mod scarce;
 mod tasks;
@@ -50,12 +52,17 @@ pub enum Scene {
 
 /// Plays a scene on a channel for so many pairs, with so many passes at first of so many parts.
 /// Tells how many pairs are left.
-pub fn play<R: Host>(rt: &R, scene: Scene, cap: u64, passes: usize, parts: usize) -> u64
+pub fn play<R>(rt: &R, scene: Scene, cap: u64, passes: usize, parts: usize) -> u64
+where
+    R: Host + Copy + Send + 'static,
     requires positive { 0 < cap }
     requires passes { passes ≤ parts }
 {
     let core = PriorityQueueChannel::bounded(rt.alloc(), cap);
-    play_as::<Brand, R>(rt, scene, core, Fresh::new(cap, false, parts), passes)
+    let watch = Watch::begin(rt, "the end of a scene");
+    let left = play_as::<Brand, R>(rt, scene, core, Fresh::new(cap, false, parts), passes);
+    watch.end(rt);
+    left
 }
 
 fn play_as<J: Recording + Send + Sync, R: Host>(

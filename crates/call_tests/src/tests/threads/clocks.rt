@@ -53,6 +53,11 @@ impl Times {
         self.millis.store(1000, Ordering::SeqCst);
     }
 
+    /// How often it was read.
+    pub fn readings(&self) -> u64 {
+        self.readings.load(Ordering::SeqCst)
+    }
+
     fn read(&self) -> io::Result<Duration> {
         let reading = self.readings.fetch_add(1, Ordering::SeqCst);
         match self.plan {

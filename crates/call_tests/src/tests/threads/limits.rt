@@ -101,32 +101,63 @@ fn without_a_clock_a_limit_is_over(rt: HostRuntime) {
     }
 }
 
-// Just before its deadline a call waits on, and at the deadline itself it ends.
+// The call is the first that waits, or behind another one, which needs no clock.
+fn wait_for_the_deadline<R: Threaded>(rt: &R, call: Call, is_second: bool) {
+    let times = Times::new(Plan::StandsStill);
+    let paced = Paced::new(rt, &times);
+    let (party, other) = block(&paced, rt.alloc(), call);
+    let before = call_of(call.side(), Way::Blocking);
+    let is_over = AtomicBool::new(false);
+    let round = (call, is_second);
+    let watch = Watch::begin(rt, "a deadline that is reached", round);
+    let begun = Instant::now(rt).expect(rt, "a clock");
+    let ((), (answer, was_over)) = thread::join(
+        rt,
+        || {
+            if is_second {
+                party.make(&paced, rt.alloc(), before, long());
+            }
+        },
+        || {
+            let_others_wait(rt);
+            let ended = thread::join(
+                rt,
+                || {
+                    let answer = party.make(&paced, rt.alloc(), call, second());
+                    is_over.store(true, Ordering::SeqCst);
+                    answer
+                },
+                || {
+                    let_others_wait(rt);
+                    let was_over = is_over.load(Ordering::SeqCst);
+                    times.pass_the_second();
+                    was_over
+                },
+            );
+            // The first may not wait on.
+            other.close();
+            ended
+        },
+    );
+    let took = begun.elapsed(rt).expect(rt, "a clock");
+    watch.end(rt);
+    let wanted = (refused(call, Outcome::Timeout), false);
+    expect_equal_at(rt, round, (answer, was_over), wanted);
+    let readings = times.readings();
+    let least = Duration::from_millis(readings.saturating_sub(20));
+    expect_equal_at(rt, (round, readings, took), least <= took, true);
+}
+
+// Just before its deadline a call waits on, and at the deadline itself it ends. Meanwhile it sleeps
+// for a millisecond at a time, and reads the clock before each sleep.
 #[test]
 fn a_limit_is_over_at_its_deadline(rt: HostRuntime) {
     for call in TIMED {
-        let times = Times::new(Plan::StandsStill);
-        let paced = Paced::new(&rt, &times);
-        let (party, _other) = block(&paced, rt.alloc(), call);
-        let is_over = AtomicBool::new(false);
-        let watch = Watch::begin(&rt, "a deadline that is reached", call);
-        let (answer, was_over) = thread::join(
-            &rt,
-            || {
-                let answer = party.make(&paced, rt.alloc(), call, second());
-                is_over.store(true, Ordering::SeqCst);
-                answer
-            },
-            || {
-                let_others_wait(&rt);
-                let was_over = is_over.load(Ordering::SeqCst);
-                times.pass_the_second();
-                was_over
-            },
-        );
-        watch.end(&rt);
-        let wanted = (refused(call, Outcome::Timeout), false);
-        expect_equal_at(&rt, call, (answer, was_over), wanted);
+        wait_for_the_deadline(&rt, call, false);
+        // A bulk send leaves no other send blocked.
+        if !is_bulk(call) {
+            wait_for_the_deadline(&rt, call, true);
+        }
     }
 }
 

@@ -235,7 +235,7 @@ fn a_call_that_looks_again_wakes_the_other_side(rt: HostRuntime) {
     }
 }
 
-// What comes in one step comes at once, the greatest first.
+// What comes in one step comes at once, the greatest first, up to the limit.
 #[test]
 fn a_batch_that_was_waited_for_is_all_of_one_step(rt: HostRuntime) {
     let (tx, rx) = unbounded(&rt, rt.alloc()).expect(&rt, "a channel");
@@ -243,14 +243,15 @@ fn a_batch_that_was_waited_for_is_all_of_one_step(rt: HostRuntime) {
     let watch = Watch::begin(&rt, "a batch that a send has to bring", ());
     let (received, is_sent) = thread::join(
         &rt,
-        || rx.recv_many_blocking(&mut batch, 4),
+        || rx.recv_many_blocking(&mut batch, 2),
         || {
             let_others_wait(&rt);
-            tx.try_sendv([('a', 1u64), ('b', 2)].into_iter().peekable())
+            tx.try_sendv([('a', 1u64), ('b', 2), ('c', 3)].into_iter().peekable())
                 .is_ok()
         },
     );
     watch.end(&rt);
     expect_equal(&rt, (is_sent, received), (true, Ok(2)));
-    expect_equal(&rt, batch.as_slice(), [('b', 2), ('a', 1)].as_slice());
+    expect_equal(&rt, batch.as_slice(), [('c', 3), ('b', 2)].as_slice());
+    expect_equal(&rt, rx.try_recv(), Ok(('a', 1)));
 }

@@ -5,12 +5,33 @@ use crate::tests::{expect_equal, expect_equal_at};
 use priority_channel_core::errors::{RecvError, RecvFault, SendError, SendFault};
 use priority_channel_waiting::timeouts::{RecvTimeoutError, SendTimeoutError};
 use priority_channel_witnessed::Recording;
-use std::sync::{Mutex, WaitMethods};
-use std::time::{Duration, Instant};
-use std::{mem, thread};
+use std::cell::Cell;
+use std::sync::{Mutex, Wait, WaitMethods};
+use std::time::{Clock, Duration, Instant};
+use std::{io, mem, thread};
 
 fn limit() -> Duration {
     Duration::from_millis(20)
+}
+
+/// A clock that counts how often it is read: a wait reads it as it begins, and before each sleep.
+#[derive(Drop)]
+struct Counting<'a, R> {
+    rt: &'a R,
+    readings: Cell<u64>,
+}
+
+impl<R: Wait> Wait for Counting<'_, R> {}
+
+impl<R: Clock> Clock for Counting<'_, R> {
+    fn monotonic(&self) -> io::Result<Duration> {
+        self.readings.set(self.readings.get().wrapping_add(1));
+        self.rt.monotonic()
+    }
+
+    fn since_1970(&self) -> io::Result<Duration> {
+        self.rt.since_1970()
+    }
 }
 
 /// From an empty channel, from one with a message, and from a closed one.
@@ -21,8 +42,14 @@ pub(super) fn receive_in_time<J: Recording, R: Host>(
 ) {
     let mut pass = passes.pop().expect(rt, "a pass");
     let begun = Instant::now(rt).expect(rt, "a clock");
-    let late = channel.recv_timeout(rt, &mut pass, limit());
+    let counting = Counting {
+        rt,
+        readings: Cell::new(0),
+    };
+    let late = channel.recv_timeout(&counting, &mut pass, limit());
     let took = begun.elapsed(rt).expect(rt, "a clock");
+    let readings = counting.readings.get();
+    expect_equal_at(rt, readings, readings < 20, true);
     expect_equal_at(
         rt,
         took,
