@@ -71,7 +71,11 @@ fn a_run_makes_each_call_in_order(rt: HostRuntime) {
         Call::TryRecv,
     ];
     let Progress { done, left } = core.run(calls.expect(&rt, "calls"));
-    expect_true(&rt, left.is_empty() && done.len() == 16, "each call is made");
+    expect_true(
+        &rt,
+        left.is_empty() && done.len() == 16,
+        "each call is made",
+    );
     expect_answers(
         &rt,
         done,
