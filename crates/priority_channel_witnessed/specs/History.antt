@@ -1,4 +1,4 @@
--- Histories of calls: who called, what, what was answered, and who was handed out. They exist in
+-- Histories of calls: who called, what, the answer, and the waiters that it woke. They exist in
 -- contracts alone.
 use Rattle.std.specs.Prelude.{ℕ, Bool, List, [], map, refl}
 use Rattle.std.specs.declared.cmp.Ordering.{Ordering}

@@ -11,7 +11,7 @@ use std::vec::IntoIter;
 /// The pairs of a bulk send and what comes back of them: the `Peekable` of a vector.
 pub type Pairs<T, P, A> = Ahead<IntoIter<(T, P), A>, (T, P)>;
 
-/// A call that was made: by whom, what it answered, and whom it handed out. Only contracts have
+/// A call that was made: by whom, what it answered, and which waiters it woke. Only contracts have
 /// entries: no value of this type is made.
 pub struct Entry<T, P, W> {
     pub who: u64,
@@ -56,7 +56,7 @@ pub enum Told<T, P, W, A: Allocator> {
     GiveUp(u64),
 }
 
-/// Who made a call, what is told of it, and whom it handed out, where it is of those that hand out.
+/// Who made a call, what is told of it, and which waiters it woke, if it is of those that wake.
 #[derive(Drop)]
 pub struct Telling<T, P, W, A: Allocator> {
     pub who: u64,

@@ -47,7 +47,7 @@ where
     // `send_blocking` would wait for ever here.
     let late = tx.send_timeout(7, 7, Duration::from_millis(10));
     let is_late = late.is_err_and(|error| error.is_timeout());
-    println!(rt; "own_queue: a wait for room was in vain: {is_late}")?;
+    println!(rt; "own_queue: a wait for room ended without room: {is_late}")?;
     let mut ones = 0u64;
     // There is one worker, and it is here: once nothing is pending, all is done.
     for (size, _) in rx.try_iter() {

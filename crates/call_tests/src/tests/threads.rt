@@ -4,9 +4,9 @@ use std::thread::{self, Threads};
 use std::time::{Clock, Duration};
 
 mod clocks;
+mod either;
 mod gate;
 mod limits;
-mod parties;
 mod queue;
 mod refusals;
 mod relays;

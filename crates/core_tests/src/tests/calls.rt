@@ -2,7 +2,7 @@
 //!
 //! A message is one character, and a pair is written with its priority behind it, as `x5`. An answer
 //! is as `{:?}` prints it, but that the error of a send shows what came back. Behind it stand those
-//! whom the call handed out, by what they waited for, each with its ticket and its waker.
+//! the waiters that the call woke, by what they waited for, each with its ticket and its waker.
 use priority_channel_core::awaitable_atomics::Wakes;
 use priority_channel_core::calls::CorePoll;
 use priority_channel_core::channel::PriorityQueueChannel;
@@ -128,7 +128,7 @@ pub fn said<R: Abort + AllocGlobal>(rt: &R, answer: impl Debug + Drop) -> String
     format!(in rt.alloc(); "{answer:?}").expect(rt, "memory")
 }
 
-/// An answer with those whom its call handed out.
+/// An answer with the waiters that its call woke.
 pub fn said_to<R: Abort + AllocGlobal, W: Debug + Drop, A: Allocator>(
     rt: &R,
     answer: String,

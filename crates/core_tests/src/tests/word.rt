@@ -4,7 +4,7 @@ use priority_channel_core::awaitable_atomics::{AwaitableAtomicCounterAndBit, Wak
 
 type Word = AwaitableAtomicCounterAndBit<u64>;
 
-// What was before, and how many were handed out.
+// What was before, and how many waiters were woken.
 fn before<X>((before, wakes): (X, Wakes<u64>)) -> (X, usize) {
     let (room, message) = wakes.into_lists();
     (before, room.len().wrapping_add(message.len()))

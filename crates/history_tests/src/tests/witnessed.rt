@@ -96,7 +96,7 @@ fn play_as<J: Recording + Send + Sync, R: Host>(
     end(rt, channel, passes, parts)
 }
 
-/// Whom a call has handed out: the tickets of those who waited for room, and for a message.
+/// The tickets of the first waiters that a call has woken: for room, and for a message.
 pub type Tickets = (Option<u64>, Option<u64>);
 
 pub const NOBODY: Tickets = (None, None);

@@ -50,7 +50,7 @@ impl<T, P: Ord, W: Clone, J: Recording, A: Allocator + Copy> Witnessed<T, P, W, 
             => PollSend(kept_msg, kept_priority, ticket, Snapshot::of(waker)))
     }
 
-    /// The party of this ticket waits no more. A ticket that is not listed changes nothing.
+    /// The waiter of this ticket waits no more. A ticket that is not listed changes nothing.
     pub fn give_up<R: Wait>(&self, rt: &R, pass: &mut Pass<T, P, W, J>, ticket: u64)
         ensures { Tells P.cmp W.is_clone J.capacity J.is_reserved pass.old
             (Call.GiveUp ticket) Answer.GiveUp nobody pass.new }

@@ -1,8 +1,8 @@
 //! Limits: of no time and without an end, by clocks that cannot be read, what is done at the last
 //! moment, and how long a limit takes.
 use super::clocks::{Paced, Plan, Times, second};
-use super::parties::{
-    Party, TIMED, block, call_of, closed, done, is_batch, is_bulk, long, refused,
+use super::either::{
+    Either, TIMED, block, call_of, closed, done, is_batch, is_bulk, long, refused,
 };
 use super::watch::Watch;
 use super::{Threaded, let_others_wait};
@@ -23,21 +23,21 @@ fn a_call_without_time_is_a_try(rt: HostRuntime) {
         let limit = Duration::from_nanos(nanos);
         for call in TIMED {
             let alloc = Refusing::new(rt.alloc());
-            let (party, other) = block(&rt, &alloc, call);
+            let (blocked, other) = block(&rt, &alloc, call);
             let needs_none = nanos == 0 && !is_batch(call);
             alloc.refuse_nth(if needs_none { 1 } else { 0 });
             let watch = Watch::begin(&rt, "calls without time", (call, nanos));
-            let late = party.make(&rt, &alloc, call, limit);
+            let late = blocked.make(&rt, &alloc, call, limit);
             expect_equal_at(&rt, (call, nanos), late, refused(call, Outcome::Timeout));
             expect_true(&rt, other.help() && other.help(), "the channel is open");
-            let sent = party.make(&rt, &alloc, call, limit);
+            let sent = blocked.make(&rt, &alloc, call, limit);
             expect_equal_at(&rt, (call, nanos), sent, done(call));
             expect_equal_at(&rt, call, alloc.refuse_none(), needs_none);
             // What is pending comes, of a closed channel too.
             expect_true(&rt, other.close(), "it was open");
-            let mut last = party.make(&rt, &alloc, call, limit);
+            let mut last = blocked.make(&rt, &alloc, call, limit);
             if last == done(call) {
-                last = party.make(&rt, &alloc, call, limit);
+                last = blocked.make(&rt, &alloc, call, limit);
             }
             expect_equal_at(&rt, (call, nanos), last.0, Outcome::Closed);
             watch.end(&rt);
@@ -54,11 +54,11 @@ const WITH_TIMEOUT: [Call; 3] = [
 #[test]
 fn a_limit_past_the_range_of_the_clock_is_none(rt: HostRuntime) {
     for call in WITH_TIMEOUT {
-        let (party, other) = block(&rt, rt.alloc(), call);
+        let (blocked, other) = block(&rt, rt.alloc(), call);
         let watch = Watch::begin(&rt, "what comes within the limit", call);
         let (answer, could) = thread::join(
             &rt,
-            || party.make(&rt, rt.alloc(), call, Duration::MAX),
+            || blocked.make(&rt, rt.alloc(), call, Duration::MAX),
             || {
                 let_others_wait(&rt);
                 other.help()
@@ -73,15 +73,15 @@ fn a_limit_past_the_range_of_the_clock_is_none(rt: HostRuntime) {
 fn wait_without_a_clock<R: Threaded>(rt: &R, call: Call, first: u64, limit: Duration) {
     let times = Times::new(Plan::FailsFrom(first));
     let paced = Paced::new(rt, &times);
-    let (party, other) = block(&paced, rt.alloc(), call);
+    let (blocked, other) = block(&paced, rt.alloc(), call);
     let watch = Watch::begin(rt, "a limit without a clock", (call, first, limit));
-    let late = party.make(&paced, rt.alloc(), call, limit);
+    let late = blocked.make(&paced, rt.alloc(), call, limit);
     watch.end(rt);
     expect_equal_at(rt, (call, first), late, refused(call, Outcome::Timeout));
     if first == 0 {
         // What can be done at once is done.
         expect_true(rt, other.help() && other.help(), "the channel is open");
-        let sent = party.make(&paced, rt.alloc(), call, limit);
+        let sent = blocked.make(&paced, rt.alloc(), call, limit);
         expect_equal_at(rt, call, sent, done(call));
     }
 }
@@ -105,7 +105,7 @@ fn without_a_clock_a_limit_is_over(rt: HostRuntime) {
 fn wait_for_the_deadline<R: Threaded>(rt: &R, call: Call, is_second: bool) {
     let times = Times::new(Plan::StandsStill);
     let paced = Paced::new(rt, &times);
-    let (party, other) = block(&paced, rt.alloc(), call);
+    let (blocked, other) = block(&paced, rt.alloc(), call);
     let before = call_of(call.side(), Way::Blocking);
     let is_over = AtomicBool::new(false);
     let round = (call, is_second);
@@ -115,7 +115,7 @@ fn wait_for_the_deadline<R: Threaded>(rt: &R, call: Call, is_second: bool) {
         rt,
         || {
             if is_second {
-                party.make(&paced, rt.alloc(), before, long());
+                blocked.make(&paced, rt.alloc(), before, long());
             }
         },
         || {
@@ -123,7 +123,7 @@ fn wait_for_the_deadline<R: Threaded>(rt: &R, call: Call, is_second: bool) {
             let ended = thread::join(
                 rt,
                 || {
-                    let answer = party.make(&paced, rt.alloc(), call, second());
+                    let answer = blocked.make(&paced, rt.alloc(), call, second());
                     is_over.store(true, Ordering::SeqCst);
                     answer
                 },
@@ -166,13 +166,13 @@ fn a_limit_is_over_at_its_deadline(rt: HostRuntime) {
 fn a_limit_takes_its_time_and_not_twice_as_long(rt: HostRuntime) {
     let limit = Duration::from_millis(30);
     for call in TIMED {
-        let (party, _other) = block(&rt, rt.alloc(), call);
+        let (blocked, _other) = block(&rt, rt.alloc(), call);
         let mut least = long();
         for _ in 0..20u32 {
             if least >= Duration::from_millis(45) {
                 let watch = Watch::begin(&rt, "the end of a limit", call);
                 let start = Instant::now(&rt).expect(&rt, "a clock");
-                party.make(&rt, rt.alloc(), call, limit);
+                blocked.make(&rt, rt.alloc(), call, limit);
                 let took = start.elapsed(&rt).expect(&rt, "a clock");
                 watch.end(&rt);
                 expect_equal_at(&rt, (call, took), took >= limit, true);
@@ -193,7 +193,7 @@ enum Last {
 
 const LAST: [Last; 3] = [Last::Partner, Last::Close, Last::Nothing];
 
-fn come<R: Threaded>(rt: &R, times: &Times, other: &Party<Paced<'_, R>>, last: Last) -> bool {
+fn come<R: Threaded>(rt: &R, times: &Times, other: &Either<Paced<'_, R>>, last: Last) -> bool {
     times.gate.wait(rt);
     let could = match last {
         Last::Partner => other.help(),
@@ -213,7 +213,7 @@ fn come<R: Threaded>(rt: &R, times: &Times, other: &Party<Paced<'_, R>>, last: L
 fn wait_to_the_last<R: Threaded>(rt: &R, call: Call, is_second: bool, last: Last, reading: u64) {
     let times = Times::new(Plan::HaltsAt(reading));
     let paced = Paced::new(rt, &times);
-    let (party, other) = block(&paced, rt.alloc(), call);
+    let (blocked, other) = block(&paced, rt.alloc(), call);
     let before = call_of(call.side(), Way::Blocking);
     let round = (call, is_second, last, reading);
     let watch = Watch::begin(rt, "a last attempt", round);
@@ -223,13 +223,13 @@ fn wait_to_the_last<R: Threaded>(rt: &R, call: Call, is_second: bool, last: Last
             if !is_second {
                 return refused(before, Outcome::Impossible);
             }
-            party.make(&paced, rt.alloc(), before, long())
+            blocked.make(&paced, rt.alloc(), before, long())
         },
         || {
             let_others_wait(rt);
             let came = thread::join(
                 rt,
-                || party.make(&paced, rt.alloc(), call, second()),
+                || blocked.make(&paced, rt.alloc(), call, second()),
                 || come(rt, &times, &other, last),
             );
             if last == Last::Nothing {

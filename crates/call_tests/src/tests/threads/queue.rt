@@ -1,5 +1,5 @@
 //! Threads that wait for the same, in a queue: whoever leaves it, and however, those behind go on.
-use super::parties::{Party, SIDES, block, call_of, long};
+use super::either::{Either, SIDES, block, call_of, long};
 use super::watch::Watch;
 use super::{Threaded, let_others_wait};
 use crate::tests::driver::calls::{Call, Side, Way};
@@ -16,13 +16,13 @@ type Waiting = Vec<JoinHandle<Outcome>>;
 fn begin<R: Threaded>(
     rt: &R,
     waiting: &mut Waiting,
-    party: &Party<R>,
+    blocked: &Either<R>,
     call: Call,
     limit: Duration,
 ) {
-    let party = party.another(rt);
+    let blocked = blocked.another(rt);
     let host = *rt;
-    let thread = thread::spawn(rt, move || party.make(&host, host.alloc(), call, limit).0).expect(
+    let thread = thread::spawn(rt, move || blocked.make(&host, host.alloc(), call, limit).0).expect(
         rt, "a thread",
     );
     waiting.push(thread).expect(rt, "memory");
@@ -39,20 +39,20 @@ fn expect_all<R: Threaded>(rt: &R, waiting: Waiting, side: Side, outcome: Outcom
 const WAYS: [Way; 3] = [Way::Blocking, Way::Timeout, Way::Future];
 
 // A channel for six in which six calls of that side wait.
-fn block_six<R: Threaded>(rt: &R, side: Side) -> (Waiting, Party<R>) {
+fn block_six<R: Threaded>(rt: &R, side: Side) -> (Waiting, Either<R>) {
     let (tx, rx) = bounded(rt, rt.alloc(), 6).expect(rt, "a channel");
-    let (party, other) = match side {
-        Side::Receiver => (Party::Receiver(rx), Party::Sender(tx)),
+    let (blocked, other) = match side {
+        Side::Receiver => (Either::Receiver(rx), Either::Sender(tx)),
         Side::Sender => {
             let is_filled = tx.try_sendv((1..7u64).map(|i| (i, i)).peekable()).is_ok();
             expect_true(rt, is_filled, "there is room for six");
-            (Party::Sender(tx), Party::Receiver(rx))
+            (Either::Sender(tx), Either::Receiver(rx))
         }
     };
     let mut waiting = Vec::new(rt.alloc());
     for _ in 0..2 {
         for way in WAYS {
-            begin(rt, &mut waiting, &party, call_of(side, way), long());
+            begin(rt, &mut waiting, &blocked, call_of(side, way), long());
         }
     }
     let_others_wait(rt);
@@ -60,10 +60,10 @@ fn block_six<R: Threaded>(rt: &R, side: Side) -> (Waiting, Party<R>) {
 }
 
 // By one step.
-fn help_six<R: Threaded>(rt: &R, other: &Party<R>) -> bool {
+fn help_six<R: Threaded>(rt: &R, other: &Either<R>) -> bool {
     match other {
-        Party::Sender(tx) => tx.try_sendv((1..7u64).map(|i| (i, i)).peekable()).is_ok(),
-        Party::Receiver(rx) => rx.try_recv_many(&mut Vec::new(rt.alloc()), 6) == Ok(6),
+        Either::Sender(tx) => tx.try_sendv((1..7u64).map(|i| (i, i)).peekable()).is_ok(),
+        Either::Receiver(rx) => rx.try_recv_many(&mut Vec::new(rt.alloc()), 6) == Ok(6),
     }
 }
 
@@ -92,11 +92,11 @@ fn each_of_many_goes_on(rt: HostRuntime) {
 }
 
 fn close_on_many<R: Threaded>(rt: &R, side: Side, ways: &[Way], each: u64) {
-    let (party, other) = block(rt, rt.alloc(), call_of(side, Way::Blocking));
+    let (blocked, other) = block(rt, rt.alloc(), call_of(side, Way::Blocking));
     let mut waiting = Vec::new(rt.alloc());
     for _ in 0..each {
         for way in ways {
-            begin(rt, &mut waiting, &party, call_of(side, *way), long());
+            begin(rt, &mut waiting, &blocked, call_of(side, *way), long());
         }
     }
     let_others_wait(rt);
@@ -125,17 +125,23 @@ fn those_beside_one_whose_time_is_over_go_on(rt: HostRuntime) {
     for side in SIDES {
         let call = call_of(side, Way::Blocking);
         for before in 0..3u64 {
-            let (party, other) = block(&rt, rt.alloc(), call);
-            let pending = party.len();
+            let (blocked, other) = block(&rt, rt.alloc(), call);
+            let pending = blocked.len();
             let watch = Watch::begin(&rt, "those beside one that has left", (side, before));
             let mut waiting = Vec::new(rt.alloc());
             let mut leaving = Vec::new(rt.alloc());
             for place in 0..3u64 {
                 if place == before {
                     let timed = call_of(side, Way::Timeout);
-                    begin(&rt, &mut leaving, &party, timed, Duration::from_millis(60));
+                    begin(
+                        &rt,
+                        &mut leaving,
+                        &blocked,
+                        timed,
+                        Duration::from_millis(60),
+                    );
                 } else {
-                    begin(&rt, &mut waiting, &party, call, long());
+                    begin(&rt, &mut waiting, &blocked, call, long());
                 }
                 let_others_wait(&rt);
             }
@@ -143,19 +149,19 @@ fn those_beside_one_whose_time_is_over_go_on(rt: HostRuntime) {
             expect_true(&rt, other.help() && other.help(), "the channel is open");
             expect_all(&rt, waiting, side, Outcome::Done);
             watch.end(&rt);
-            expect_equal_at(&rt, (side, before), party.len(), pending);
+            expect_equal_at(&rt, (side, before), blocked.len(), pending);
         }
     }
 }
 
 // Lets a thread go on and takes that back at once. Tells whether it could, so that the thread was
-// woken in vain.
-fn wake_in_vain<R: Threaded>(own: &Party<R>, other: &Party<R>) -> bool {
+// woken for nothing.
+fn wake_in_vain<R: Threaded>(own: &Either<R>, other: &Either<R>) -> bool {
     match (own, other) {
-        (Party::Sender(tx), Party::Receiver(rx)) => {
+        (Either::Sender(tx), Either::Receiver(rx)) => {
             rx.try_recv().is_ok() && tx.try_send(5, 5).is_ok()
         }
-        (Party::Receiver(rx), Party::Sender(tx)) => {
+        (Either::Receiver(rx), Either::Sender(tx)) => {
             tx.try_send(5, 5).is_ok() && rx.try_recv().is_ok()
         }
         _ => false,
@@ -172,12 +178,12 @@ fn a_thread_that_was_woken_in_vain_waits_on(rt: HostRuntime) {
             if is_seen {
                 break;
             }
-            let (party, other) = block(&rt, rt.alloc(), call);
+            let (blocked, other) = block(&rt, rt.alloc(), call);
             let mut waiting = Vec::new(rt.alloc());
-            begin(&rt, &mut waiting, &party, call, long());
+            begin(&rt, &mut waiting, &blocked, call, long());
             let_others_wait(&rt);
-            let watch = Watch::begin(&rt, "a thread that was woken in vain", (side, round));
-            is_seen = wake_in_vain(&party, &other);
+            let watch = Watch::begin(&rt, "a thread that was woken for nothing", (side, round));
+            is_seen = wake_in_vain(&blocked, &other);
             if is_seen {
                 let_others_wait(&rt);
                 expect_true(&rt, other.help(), "the channel is open");

@@ -1,6 +1,6 @@
 //! Memory that is refused to waits, and how much of it they ask for.
-use super::parties::{
-    Party, SIDES, TIMED, block, call_of, done, is_batch, is_bulk, long, refused, waits,
+use super::either::{
+    Either, SIDES, TIMED, block, call_of, done, is_batch, is_bulk, long, refused, waits,
 };
 use super::watch::Watch;
 use super::{Threaded, let_others_wait};
@@ -23,7 +23,7 @@ fn asks_for_two(call: Call) -> bool {
 // A wait is refused its nth request, where none waits before it or where one does.
 fn refuse_a_wait<R: Threaded>(rt: &R, call: Call, n: u64, is_second: bool) {
     let alloc = Refusing::new(rt.alloc());
-    let (party, other) = block(rt, &alloc, call);
+    let (blocked, other) = block(rt, &alloc, call);
     let before = call_of(call.side(), Way::Blocking);
     let round = (call, n, is_second);
     let watch = Watch::begin(rt, "a wait without memory", round);
@@ -33,12 +33,12 @@ fn refuse_a_wait<R: Threaded>(rt: &R, call: Call, n: u64, is_second: bool) {
             if !is_second {
                 return done(before);
             }
-            party.make(rt, &alloc, before, long())
+            blocked.make(rt, &alloc, before, long())
         },
         || {
             let_others_wait(rt);
             alloc.refuse_nth(n);
-            let answer = party.make(rt, &alloc, call, long());
+            let answer = blocked.make(rt, &alloc, call, long());
             let was_refused = !alloc.refuse_none();
             // Nobody waits any more, and all goes on.
             expect_true(rt, other.help(), "the channel is open");
@@ -76,16 +76,16 @@ fn the_next_that_cannot_be_listed_is_told(rt: HostRuntime) {
     for side in SIDES {
         let alloc = Refusing::new(rt.alloc());
         let call = call_of(side, Way::Blocking);
-        let (party, other) = block(&rt, &alloc, call);
+        let (blocked, other) = block(&rt, &alloc, call);
         let watch = Watch::begin(&rt, "the next of two waits", side);
         let (first, (second, could)) = thread::join(
             &rt,
-            || party.make(&rt, &alloc, call, long()),
+            || blocked.make(&rt, &alloc, call, long()),
             || {
                 let_others_wait(&rt);
                 thread::join(
                     &rt,
-                    || party.make(&rt, &alloc, call, long()),
+                    || blocked.make(&rt, &alloc, call, long()),
                     || {
                         let_others_wait(&rt);
                         alloc.refuse_all();
@@ -105,12 +105,12 @@ fn the_next_that_cannot_be_listed_is_told(rt: HostRuntime) {
 fn a_loop_goes_on_without_memory(rt: HostRuntime) {
     for call in [Call::Iter, Call::IntoIter] {
         let alloc = Refusing::new(rt.alloc());
-        let (party, other) = block(&rt, &alloc, call);
+        let (blocked, other) = block(&rt, &alloc, call);
         alloc.refuse_all();
         let watch = Watch::begin(&rt, "a loop without memory", call);
         let (answer, asked) = thread::join(
             &rt,
-            || party.make(&rt, &alloc, call, long()),
+            || blocked.make(&rt, &alloc, call, long()),
             || {
                 let before = alloc.count();
                 thread::sleep(&rt, Duration::from_millis(200));
@@ -159,7 +159,7 @@ fn a_loop_keeps_its_waiter(rt: HostRuntime) {
 fn a_wait_leaves_no_place_behind(rt: HostRuntime) {
     for call in TIMED {
         let alloc = Refusing::new(rt.alloc());
-        let (party, other) = block(&rt, &alloc, call);
+        let (blocked, other) = block(&rt, &alloc, call);
         for round in 0..50u64 {
             let needed = if is_batch(call) { 2 } else { 1 };
             let (nth, millis) = if round == 0 {
@@ -169,7 +169,7 @@ fn a_wait_leaves_no_place_behind(rt: HostRuntime) {
             };
             alloc.refuse_nth(nth);
             let watch = Watch::begin(&rt, "the end of a limit", (call, round));
-            let answer = party.make(&rt, &alloc, call, Duration::from_millis(millis));
+            let answer = blocked.make(&rt, &alloc, call, Duration::from_millis(millis));
             watch.end(&rt);
             let met_none = alloc.refuse_none();
             let wanted = (Outcome::Timeout, round > 0);
@@ -191,7 +191,7 @@ fn memory_for_a_message_is_not_waited_for(rt: HostRuntime) {
             let (tx, rx) = bounded(&rt, &alloc, 2).expect(&rt, "a channel");
             alloc.refuse_all();
             let watch = Watch::begin(&rt, "a send without memory", (call, limit));
-            let answer = Party::Sender(tx).make(&rt, &alloc, call, limit);
+            let answer = Either::Sender(tx).make(&rt, &alloc, call, limit);
             watch.end(&rt);
             let round = (call, limit);
             expect_equal_at(&rt, round, (answer.0, answer.2), (Outcome::Memory, 7));
@@ -208,12 +208,12 @@ fn what_need_not_wait_asks_for_nothing(rt: HostRuntime) {
             continue;
         }
         let alloc = Refusing::new(rt.alloc());
-        let (party, other) = block(&rt, &alloc, call);
+        let (blocked, other) = block(&rt, &alloc, call);
         let has_room = other.help() && (is_bulk(call) || other.help());
         expect_true(&rt, has_room, "the channel is open");
         alloc.refuse_nth(1);
         let watch = Watch::begin(&rt, "what need not wait", call);
-        let answer = party.make(&rt, &alloc, call, long());
+        let answer = blocked.make(&rt, &alloc, call, long());
         watch.end(&rt);
         expect_equal_at(
             &rt,

@@ -1,6 +1,6 @@
 //! Many threads that pass messages on: nothing is lost or made up, and all of it ends.
 use super::Threaded;
-use super::parties::{call_of, moves};
+use super::either::{call_of, moves};
 use super::watch::Watch;
 use crate::tests::driver::all::ALL;
 use crate::tests::driver::calls::{Call, Input, Pair, Pairs, Side, Way};

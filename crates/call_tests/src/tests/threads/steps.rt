@@ -1,8 +1,8 @@
 //! Calls beside those of other threads: a bulk call is one step, and a thread that has waited wakes
 //! those that wait for what it leaves.
 use super::clocks::{Paced, Plan, Times, second};
+use super::either::{Either, TIMED, block, done, long, moves};
 use super::let_others_wait;
-use super::parties::{Party, TIMED, block, done, long, moves};
 use super::watch::Watch;
 use crate::tests::driver::all::ALL;
 use crate::tests::driver::calls::{Call, Way};
@@ -152,7 +152,7 @@ fn let_answer<H: Halt>(rt: &impl Clock, halt: &H, has_answered: &AtomicBool) {
 // until the thread has gone on. Tells whether that task is woken then.
 fn is_task_woken<H: Host, R: Host, A: Allocator + Copy, S: Halt>(
     host: &H,
-    other: &Party<R, A>,
+    other: &Either<R, A>,
     halt: &S,
     has_answered: &AtomicBool,
 ) -> bool {
@@ -161,13 +161,13 @@ fn is_task_woken<H: Host, R: Host, A: Allocator + Copy, S: Halt>(
     let task = new_task(host);
     // A waker wakes its task also as it is dropped, so the future lives until that was looked at.
     let is_woken = match other {
-        Party::Sender(tx) => {
+        Either::Sender(tx) => {
             let mut sending = tx.send(9, 9);
             let waits = is_pending(task.poll(&mut sending));
             let_answer(host, halt, has_answered);
             waits && task.is_woken()
         }
-        Party::Receiver(rx) => {
+        Either::Receiver(rx) => {
             let mut receiving = rx.recv();
             let waits = is_pending(task.poll(&mut receiving));
             let_answer(host, halt, has_answered);
@@ -185,7 +185,7 @@ fn a_thread_that_has_waited_wakes_the_other_side(rt: HostRuntime) {
                 let round = (call, reading, is_late);
                 let times = Times::new(Plan::HaltsAt(reading));
                 let paced = Paced::new(&rt, &times);
-                let (party, other) = block(&paced, rt.alloc(), call);
+                let (blocked, other) = block(&paced, rt.alloc(), call);
                 let has_answered = AtomicBool::new(false);
                 let halt = Reading {
                     times: &times,
@@ -195,7 +195,7 @@ fn a_thread_that_has_waited_wakes_the_other_side(rt: HostRuntime) {
                 let (answer, is_woken) = thread::join(
                     &rt,
                     || {
-                        let answer = party.make(&paced, rt.alloc(), call, second());
+                        let answer = blocked.make(&paced, rt.alloc(), call, second());
                         has_answered.store(true, Ordering::SeqCst);
                         answer
                     },
@@ -217,14 +217,14 @@ fn a_call_that_looks_again_wakes_the_other_side(rt: HostRuntime) {
             continue;
         }
         let alloc = Refusing::new(rt.alloc());
-        let (party, other) = block(&rt, &alloc, call);
+        let (blocked, other) = block(&rt, &alloc, call);
         alloc.hold_nth(1);
         let has_answered = AtomicBool::new(false);
         let watch = Watch::begin(&rt, "what comes between two looks", call);
         let (answer, is_woken) = thread::join(
             &rt,
             || {
-                let answer = party.make(&rt, &alloc, call, long());
+                let answer = blocked.make(&rt, &alloc, call, long());
                 has_answered.store(true, Ordering::SeqCst);
                 answer
             },

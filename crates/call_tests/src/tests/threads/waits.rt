@@ -1,6 +1,6 @@
 //! What ends a wait: a call of the other side, a close by either, the drop of the other side's last
 //! handle, and the limit.
-use super::parties::{Party, TIMED, block, closed, done, long, refused, waits};
+use super::either::{Either, TIMED, block, closed, done, long, refused, waits};
 use super::watch::Watch;
 use super::{Threaded, let_others_wait};
 use crate::tests::driver::all::ALL;
@@ -22,7 +22,7 @@ enum End {
 const ENDS: [End; 4] = [End::Partner, End::Close, End::OwnClose, End::LastDrop];
 
 // Ends a wait, once it is on, and tells whether it could.
-fn end_wait<R: Threaded>(rt: &R, own: Party<R>, other: Party<R>, call: Call, end: End) -> bool {
+fn end_wait<R: Threaded>(rt: &R, own: Either<R>, other: Either<R>, call: Call, end: End) -> bool {
     // A bulk send has sent its 7 before it waits.
     for _ in 0..u64::MAX {
         if own.len() == pending_after(call) {
@@ -51,8 +51,8 @@ fn pending_after(call: Call) -> u64 {
 }
 
 fn wait_for_its_end<R: Threaded>(rt: &R, call: Call, end: End) {
-    let (party, other) = block(rt, rt.alloc(), call);
-    let own = party.another(rt);
+    let (blocked, other) = block(rt, rt.alloc(), call);
+    let own = blocked.another(rt);
     // Nothing but the drop of the last handle is to end the wait there.
     let kept = match end {
         End::LastDrop => None,
@@ -63,7 +63,7 @@ fn wait_for_its_end<R: Threaded>(rt: &R, call: Call, end: End) {
     let ending = thread::spawn(rt, move || end_wait(&host, own, other, call, end)).expect(
         rt, "a thread",
     );
-    let answer = party.make(rt, rt.alloc(), call, long());
+    let answer = blocked.make(rt, rt.alloc(), call, long());
     let has_ended = ending.join(rt);
     watch.end(rt);
     expect_true(rt, has_ended, "what was to end the wait could be done");
@@ -72,9 +72,9 @@ fn wait_for_its_end<R: Threaded>(rt: &R, call: Call, end: End) {
         _ => closed(call),
     };
     expect_equal_at(rt, (call, end), answer, wanted);
-    expect_equal_at(rt, (call, end), party.len(), pending_after(call));
+    expect_equal_at(rt, (call, end), blocked.len(), pending_after(call));
     // A second close is none.
-    expect_equal_at(rt, (call, end), party.close(), end == End::Partner);
+    expect_equal_at(rt, (call, end), blocked.close(), end == End::Partner);
     drop(kept);
 }
 
@@ -93,11 +93,11 @@ fn each_wait_ends_soon(rt: HostRuntime) {
 fn what_is_pending_in_a_closed_channel_comes(rt: HostRuntime) {
     for call in ALL {
         if waits(call) && call.side() == Side::Receiver {
-            let (party, other) = block(&rt, rt.alloc(), call);
+            let (blocked, other) = block(&rt, rt.alloc(), call);
             expect_true(&rt, other.help() && other.close(), "the channel is open");
             let watch = Watch::begin(&rt, "what is pending in a closed channel", call);
-            let first = party.make(&rt, rt.alloc(), call, long());
-            let second = party.make(&rt, rt.alloc(), call, long());
+            let first = blocked.make(&rt, rt.alloc(), call, long());
+            let second = blocked.make(&rt, rt.alloc(), call, long());
             watch.end(&rt);
             expect_equal_at(&rt, call, (first, second), (done(call), closed(call)));
         }
@@ -108,13 +108,13 @@ fn what_is_pending_in_a_closed_channel_comes(rt: HostRuntime) {
 #[test]
 fn each_limit_ends_a_wait(rt: HostRuntime) {
     for call in TIMED {
-        let (party, other) = block(&rt, rt.alloc(), call);
+        let (blocked, other) = block(&rt, rt.alloc(), call);
         let watch = Watch::begin(&rt, "the end of a limit", call);
-        let answer = party.make(&rt, rt.alloc(), call, Duration::from_millis(15));
+        let answer = blocked.make(&rt, rt.alloc(), call, Duration::from_millis(15));
         watch.end(&rt);
         expect_equal_at(&rt, call, answer, refused(call, Outcome::Timeout));
-        expect_equal_at(&rt, call, party.len(), pending_after(call));
+        expect_equal_at(&rt, call, blocked.len(), pending_after(call));
         expect_true(&rt, other.help(), "the channel is open");
-        expect_equal_at(&rt, call, party.len(), 1);
+        expect_equal_at(&rt, call, blocked.len(), 1);
     }
 }

@@ -48,7 +48,7 @@ impl Watch {
         let rt = *rt;
         let watching = thread::spawn(&rt, move || {
             if !ends_in_time(&rt, millis, &theirs) {
-                panic!(rt; "waited {millis} ms in vain for {what}, at {round:?}");
+                panic!(rt; "waited {millis} ms without success for {what}, at {round:?}");
             }
         })
         .expect(&rt, "a thread");

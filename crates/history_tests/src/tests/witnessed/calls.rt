@@ -39,7 +39,7 @@ fn calls_answer_as_the_core(rt: HostRuntime) {
     expect_equal(&rt, play(&rt, Scene::AllCalls, 1, 1, 1), 0);
 }
 
-/// A receive waits and is handed out by a send; a send waits, gives up, and is handed out no more.
+/// A receive waits and is woken by a send; a send waits, gives up, and is woken no more.
 pub fn give_up<J: Recording, R: Host>(rt: &R, channel: &Channel<J>, passes: &mut Passes<J>) {
     let mut one = passes.pop().expect(rt, "a pass");
     let mut zero = passes.pop().expect(rt, "a pass");

@@ -48,7 +48,7 @@ module _ (B : RattleType) (ghosts : Ghosts B.Denot) (methods drops : Dict) where
   abbrev E : Ended
   E = f.ended B ghosts methods drops
 
-  -- nothing is had of the parameters at the end
+  -- nothing of the parameters is held at the end
   abbrev stayed : Stays E.signature.params E.kept
   stayed = (stay_dropped _ yes, (stay_dropped _ yes, (stay_dropped _ yes, tt)))
 

@@ -125,68 +125,68 @@ fn input(limit: Duration) -> Input {
 
 /// A handle of either side.
 #[derive(Drop)]
-pub enum Party<R: Wait + Clone, A: Allocator + Copy = Global> {
+pub enum Either<R: Wait + Clone, A: Allocator + Copy = Global> {
     Sender(Sender<u64, u64, R, A>),
     Receiver(Receiver<u64, u64, R, A>),
 }
 
-impl<R: Host, A: Allocator + Copy> Party<R, A> {
+impl<R: Host, A: Allocator + Copy> Either<R, A> {
     pub fn another(&self, rt: &R) -> Self {
         match self {
-            Party::Sender(tx) => Party::Sender(tx.clone().expect(rt, "a sender")),
-            Party::Receiver(rx) => Party::Receiver(rx.clone().expect(rt, "a receiver")),
+            Either::Sender(tx) => Either::Sender(tx.clone().expect(rt, "a sender")),
+            Either::Receiver(rx) => Either::Receiver(rx.clone().expect(rt, "a receiver")),
         }
     }
 
     /// Lets one of the other side go on: sends the 7, or receives. Tells whether it could.
     pub fn help(&self) -> bool {
         match self {
-            Party::Sender(tx) => tx.try_send(7, 7).is_ok(),
-            Party::Receiver(rx) => rx.try_recv().is_ok(),
+            Either::Sender(tx) => tx.try_send(7, 7).is_ok(),
+            Either::Receiver(rx) => rx.try_recv().is_ok(),
         }
     }
 
     pub fn close(&self) -> bool {
         match self {
-            Party::Sender(tx) => tx.close(),
-            Party::Receiver(rx) => rx.close(),
+            Either::Sender(tx) => tx.close(),
+            Either::Receiver(rx) => rx.close(),
         }
     }
 
     pub fn len(&self) -> u64 {
         match self {
-            Party::Sender(tx) => tx.len(),
-            Party::Receiver(rx) => rx.len(),
+            Either::Sender(tx) => tx.len(),
+            Either::Receiver(rx) => rx.len(),
         }
     }
 
     /// Makes a call of its side. A batch gets its memory from `alloc`.
     pub fn make(&self, rt: &R, alloc: A, call: Call, limit: Duration) -> Answer {
         answer_of(&match self {
-            Party::Sender(tx) => send(rt, tx, call, input(limit)),
-            Party::Receiver(rx) => receive(rt, alloc, rx, call, input(limit)),
+            Either::Sender(tx) => send(rt, tx, call, input(limit)),
+            Either::Receiver(rx) => receive(rt, alloc, rx, call, input(limit)),
         })
     }
 }
 
-/// A channel for two in which this call is blocked: the party whose call it is, and one of the
+/// A channel for two in which this call is blocked: the handle whose call it is, and one of the
 /// other side. Where it is full, the 1 and the 2 are pending; but before a bulk send the 1 alone,
 /// so that its 7 is sent at once.
 pub fn block<R: Host, A: Allocator + Copy>(
     rt: &R,
     alloc: A,
     call: Call,
-) -> (Party<R, A>, Party<R, A>) {
+) -> (Either<R, A>, Either<R, A>) {
     let (tx, rx) = bounded_reserved(rt, alloc, 2).expect(rt, "a channel");
     match call.side() {
-        Side::Receiver => (Party::Receiver(rx), Party::Sender(tx)),
+        Side::Receiver => (Either::Receiver(rx), Either::Sender(tx)),
         Side::Sender => {
             let mut has_room = tx.try_send(1, 1).is_ok();
             if !is_bulk(call) {
                 has_room = has_room & tx.try_send(2, 2).is_ok();
             }
             expect_true(rt, has_room, "there is room for two");
-            (Party::Sender(tx), Party::Receiver(rx))
+            (Either::Sender(tx), Either::Receiver(rx))
         }
     }
 }
