@@ -85,8 +85,8 @@ impl<T, P: Ord, R: Wait + Clone, A: Allocator + Copy> Sender<T, P, R, A> {
     /// meanwhile. The error is `Closed`, or `Memory` if memory is refused for the message or for
     /// waiting. It gives the message back.
     ///
-    /// Other sends may pass it while it waits, as with `send`. It blocks an executor, so a task uses
-    /// `send`.
+    /// Other sends may pass it while it waits, as with `send`. It blocks an executor, so a task
+    /// uses `send`.
     ///
     /// ```
     /// let (tx, rx) = bounded(&rt, rt.alloc(), 1)?;
