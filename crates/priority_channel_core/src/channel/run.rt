@@ -63,7 +63,8 @@ impl<T: Drop, P: Ord + Drop, W: Clone, A: Allocator + Copy> PriorityQueueChannel
     ///
     /// ```
     /// type Pairs = array::IntoIter<(&str, i64), 2>;
-    /// let ran = channel.run::<Pairs, _>(vec![in alloc; Call::TrySend("build", 3), Call::TryRecv]?);
+    /// let calls = vec![in alloc; Call::TrySend("link", 3), Call::TakeWhere(is_link)]?;
+    /// let ran = channel.run::<Pairs, _>(calls);
     /// ```
     pub fn run<I: Iterator<Item = (T, P)>, F: Fn(&T, &P) -> bool + Drop>(
         &mut self,
