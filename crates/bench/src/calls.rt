@@ -1,6 +1,7 @@
 //! The calls by which messages go and come.
 
 use crate::load::Load;
+use crate::names::named;
 use anyhow::{bail, ensure};
 use async_priority_channel::{
     Ends, Receiver, Sender, TryRecvError, TrySendError, bounded, unbounded,
@@ -30,13 +31,15 @@ impl FromStr for Calls {
     type Err = anyhow::Error;
 
     fn from_str(word: &str) -> anyhow::Result<Calls> {
-        match word {
-            "try" => Ok(Calls::Try),
-            "blocking" => Ok(Calls::Blocking),
-            "future" => Ok(Calls::Future),
-            "stream" => Ok(Calls::Stream),
-            _ => bail!("no calls: {word}"),
-        }
+        named(
+            word,
+            &[
+                ("try", Calls::Try),
+                ("blocking", Calls::Blocking),
+                ("future", Calls::Future),
+                ("stream", Calls::Stream),
+            ],
+        )
     }
 }
 

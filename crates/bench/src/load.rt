@@ -1,6 +1,6 @@
 //! What is sent: numbers that rise, with priorities that follow from them.
 
-use anyhow::bail;
+use crate::names::named;
 use std::str::FromStr;
 
 /// How the priorities of messages come.
@@ -15,12 +15,14 @@ impl FromStr for Load {
     type Err = anyhow::Error;
 
     fn from_str(word: &str) -> anyhow::Result<Load> {
-        match word {
-            "random" => Ok(Load::Random),
-            "equal" => Ok(Load::Equal),
-            "rising" => Ok(Load::Rising),
-            _ => bail!("no load: {word}"),
-        }
+        named(
+            word,
+            &[
+                ("random", Load::Random),
+                ("equal", Load::Equal),
+                ("rising", Load::Rising),
+            ],
+        )
     }
 }
 

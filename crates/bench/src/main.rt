@@ -11,6 +11,7 @@ mod handles;
 mod load;
 mod measure;
 mod memory;
+mod names;
 mod one_thread;
 mod relays;
 mod witnessed;

@@ -66,8 +66,7 @@ pub fn answer_close<R: Wait + Clone, A: Allocator + Copy, W: Write>(
     answers: &mut W,
     tx: &Sender<String<A>, i64, R, A>,
 ) -> Result<(), Fault> {
-    let was_open = tx.close();
-    Ok(writeln!(answers, "{was_open}")?)
+    Ok(writeln!(answers, "{}", tx.close())?)
 }
 
 #[inline(never)]

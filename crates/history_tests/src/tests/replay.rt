@@ -7,7 +7,6 @@ use model::CAPACITY;
 use notes::{Call, Noted, Pair, Refusal, Reply, Way};
 use order::is_explained;
 use priority_channel_witnessed::Recording;
-use std::process::Abort;
 use std::sync::Mutex;
 use std::sync::atomic::{AtomicU64, Ordering};
 use std::{mem, thread};

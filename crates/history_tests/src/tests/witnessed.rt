@@ -14,7 +14,6 @@ use priority_channel_core::channel::PriorityQueueChannel;
 use priority_channel_witnessed::{Fresh, Pass, Recording, Waiter, Witnessed, wake_all};
 use std::alloc::{Allocator, Global};
 use std::marker::Brand;
-use std::process::Abort;
 use tasks::{drop_those_that_wait, relay};
 use waits::{block_on_four_threads, receive_in_time, send_in_time};
 

@@ -66,11 +66,15 @@ pub fn begin<'a, R: Host, A: Allocator + Copy>(
     }
 }
 
-fn told_polled<T: Debug + Drop>(rt: &impl Host, polled: Poll<T>) -> String {
+fn told_once_ready(rt: &impl Host, polled: Poll<String>) -> String {
     match polled {
-        Poll::Ready(answer) => told(rt, answer),
+        Poll::Ready(text) => text,
         Poll::Pending => told(rt, Poll::<()>::Pending),
     }
+}
+
+fn told_polled<T: Debug + Drop>(rt: &impl Host, polled: Poll<T>) -> String {
+    told_once_ready(rt, polled.map(|answer| told(rt, answer)))
 }
 
 fn poll_send<R: Host, A: Allocator + Copy>(
@@ -78,10 +82,7 @@ fn poll_send<R: Host, A: Allocator + Copy>(
     send: &mut Send<'_, char, u64, R, A>,
     task: &MockTask,
 ) -> String {
-    match task.poll(send) {
-        Poll::Ready(sent) => told_sent(rt, sent),
-        Poll::Pending => told(rt, Poll::<()>::Pending),
-    }
+    told_once_ready(rt, task.poll(send).map(|sent| told_sent(rt, sent)))
 }
 
 fn poll_sendv<R: Host, A: Allocator + Copy>(
@@ -89,10 +90,7 @@ fn poll_sendv<R: Host, A: Allocator + Copy>(
     sendv: &mut Sendv<'_, char, u64, Bulk, R, A>,
     task: &MockTask,
 ) -> String {
-    match task.poll(sendv) {
-        Poll::Ready(sent) => told_sent_all(rt, sent),
-        Poll::Pending => told(rt, Poll::<()>::Pending),
-    }
+    told_once_ready(rt, task.poll(sendv).map(|sent| told_sent_all(rt, sent)))
 }
 
 fn poll_recv<R: Host, A: Allocator + Copy>(

@@ -49,8 +49,8 @@ fn it_ends_once_all_have_come_back(rt: HostRuntime) {
 // The calls of one pass. Counts what was sent and received.
 fn call_often<J: Recording, R: Host>(
     rt: &R,
-    channel: &Channel<J>,
     counts: &Mutex<(u64, u64)>,
+    channel: &Channel<J>,
     pass: &mut Caller<J>,
 ) {
     let mut sent = 0u64;
@@ -72,14 +72,14 @@ fn call_often<J: Recording, R: Host>(
 // none.
 fn call_by_guests<J: Recording, R: Host>(
     rt: &R,
-    channel: &Channel<J>,
     counts: &Mutex<(u64, u64)>,
+    channel: &Channel<J>,
     own: Caller<J>,
 ) -> Caller<J> {
     for _ in 0..5u64 {
         if let Some(guest) = channel.fork(rt, &own) {
             let mut guest = guest;
-            call_often(rt, channel, counts, &mut guest);
+            call_often(rt, counts, channel, &mut guest);
             channel.leave(rt, guest);
         }
     }
@@ -95,7 +95,7 @@ pub fn call_on_four_threads<J: Recording + Send + Sync, R: Host>(
     let counts = Mutex::new((0u64, 0u64));
     let counted = &counts;
     let all = mem::replace(passes, Vec::new(rt.alloc()));
-    *passes = thread::map_vec(rt, all, &|pass| call_by_guests(rt, channel, counted, pass)).expect(
+    *passes = thread::map_vec(rt, all, &|pass| call_by_guests(rt, counted, channel, pass)).expect(
         rt,
         "memory for the passes",
     );
