@@ -10,6 +10,7 @@ use crate::tests::driver::reply::Outcome;
 use crate::tests::{expect_equal_at, expect_true};
 use async_priority_channel::{bounded, bounded_reserved};
 use refusing::Refusing;
+use std::alloc::Global;
 use std::thread;
 use std::time::Duration;
 
@@ -70,24 +71,35 @@ fn each_request_of_a_wait_may_be_refused(rt: HostRuntime) {
     }
 }
 
-// The first has its answer, and there is no memory to list the second.
+// Until threads have made so many requests.
+fn wait_for_requests<R: Threaded>(rt: &R, alloc: &Refusing<Global>, count: u64) {
+    for _ in 0..u64::MAX {
+        if alloc.count() >= count {
+            return;
+        }
+        thread::sleep(rt, Duration::from_millis(1));
+    }
+}
+
+// The first has its answer, and there is no memory to list the second. Each has asked twice before.
 #[test]
 fn the_next_that_cannot_be_listed_is_told(rt: HostRuntime) {
     for side in SIDES {
         let alloc = Refusing::new(rt.alloc());
         let call = call_of(side, Way::Blocking);
         let (blocked, other) = block(&rt, &alloc, call);
+        let before = alloc.count();
         let watch = Watch::begin(&rt, "the next of two waits", side);
         let (first, (second, could)) = thread::join(
             &rt,
             || blocked.make(&rt, &alloc, call, long()),
             || {
-                let_others_wait(&rt);
+                wait_for_requests(&rt, &alloc, before.wrapping_add(2));
                 thread::join(
                     &rt,
                     || blocked.make(&rt, &alloc, call, long()),
                     || {
-                        let_others_wait(&rt);
+                        wait_for_requests(&rt, &alloc, before.wrapping_add(4));
                         alloc.refuse_all();
                         other.help()
                     },
