@@ -33,9 +33,9 @@ pub trait Role: Copy {
 ///
 /// The channel calls some of the user's code under its lock: the order of priorities, the
 /// allocator, the iterator of a bulk send and its drop, the functions that `peek_with`,
-/// `take_where`, `retain`, `count_where` and `try_recv_if` are given, and the clone of a priority that
-/// `peek_priority` makes. If this code makes a call on the channel, or drops a handle of it, it
-/// waits for ever. It should be short, since all other calls wait for it.
+/// `take_where`, `retain`, `count_where` and `try_recv_if` are given, and the clone of a priority
+/// that `peek_priority` makes. If this code makes a call on the channel, or drops a handle of it,
+/// it waits for ever. It should be short, since all other calls wait for it.
 ///
 /// ```
 /// fn is_idle<S: Role, R: Wait + Clone>(end: &End<S, u64, u64, R>) -> bool {

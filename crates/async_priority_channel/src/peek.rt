@@ -27,8 +27,8 @@ impl<T, P: Ord, R: Wait + Clone, A: Allocator + Copy> Receiver<T, P, R, A> {
         ensures { IfSome result (λ told. (msg : _) × (priority : _)
             × F.post look msg priority told) }
     {
-        let core = self.handle.look();
-        match core.core().peek() {
+        let held = self.handle.look();
+        match held.core().peek() {
             Some((msg, priority)) => Some(look(msg, priority)),
             None => None,
         }
