@@ -1,23 +1,27 @@
 -- A channel with its futures, and what may happen to them.
-use Rattle.std.specs.Prelude.{◌≡◌, ℕ, ◌||◌, Bool, if◌then◌else◌, List, [], ◌∷◌, map, slice_get, slice_set, Some, ⊤}
+use Rattle.std.specs.Prelude.{◌≡◌, ℕ, ◌||◌, Bool, if◌then◌else◌, List, [], ◌∷◌, map, slice_get, slice_set, Some, Err, ⊤}
 use Rattle.std.specs.List.{All}
 use Rattle.std.specs.declared.cmp.Ordering.{Ordering}
-use Rattle.priority_channel_core.specs.declared.calls.Call.TheVariants.{PollSend, PollSendv, PollRecv, GiveUp}
+use Rattle.priority_channel_core.specs.declared.calls.Call.TheVariants.{TrySendv, PollSend, PollSendv, PollRecv, GiveUp}
+use Rattle.priority_channel_core.specs.declared.calls.Answer.TheVariants as answer
+use Rattle.priority_channel_core.specs.declared.errors.TrySendError.TheVariants.{Full}
 use Rattle.priority_channel_core.specs.machine.State.{State, Handed, nobody, opening}
 use Rattle.priority_channel_core.specs.Waiting.{is_listed}
 use Rattle.priority_channel_core.specs.machine.Good.{IsGood}
 use Rattle.priority_channel_core.specs.machine.Step.{Step, Calls, Answers}
 use Rattle.priority_channel_core.specs.Future.{Tasks, Standing, Futures, ticket_of, poll_of, future_after, GivesUpTicket}
+use Rattle.priority_channel_core.specs.Future.Task.{Sendv}
 use Rattle.priority_channel_core.specs.Future.Standing.{New, Waiting, Called, Done}
 
 pub record World (T P W : Type 0) : Type 0 where
   pub state : State T P W
   pub futures : List (Futures T P W)
 
--- a direct call, or a poll or the end of the future at this place
+-- A direct call; or the future at this place is polled, tries a bulk send without a poll, or ends.
 pub data Event (T P W : Type 0) : Type 0 where
   Makes : Calls T P W → Event T P W
   Polls : ℕ → W → Event T P W
+  SendsPart : ℕ → Event T P W
   GivesUp : ℕ → Event T P W
 
 module _ {W : Type 0} where
@@ -71,6 +75,16 @@ module _ {T P W : Type 0} (cmp : P → P → Ordering) (is_clone : W → W → T
     Happens (Polls which waker) handed new =
         (future : Futures T P W) × (slice_get old.futures which ≡ Some future)
         × PollsFuture which waker future.task future.standing handed new
+    -- there was no room for all of the bulk send, and it is left as it was, with the rest
+    Happens (SendsPart which) handed new =
+        (pairs rest : List (T × P)) × (standing : Standing W)
+        × (slice_get old.futures which ≡ Some (record { task = Sendv pairs; standing = standing }))
+        × Step cmp is_clone old.state (TrySendv pairs) (answer.TrySendv (Err (Full rest))) handed
+        new.state
+        × (new.futures ≡ slice_set (call_out handed old.futures) which (record {
+          task = Sendv rest;
+          standing = standing_after handed standing;
+        }))
     Happens (GivesUp which) handed new =
         (future : Futures T P W) × (slice_get old.futures which ≡ Some future) × (handed ≡ nobody)
         × GivesUpTicket cmp is_clone old.state (ticket_of future.standing) new.state

@@ -1,6 +1,6 @@
 -- What holds of a world holds after each event.
 use Rattle.std.proofs.Common.{◌≡◌, ◌≢◌, ℕ, ◌<◌, ◌≤◌, List, [], ◌∷◌, length, set, refl, ap, sym, ◌∙◌, inl, inr, arith}
-use Rattle.std.specs.Prelude.{Option, Some, None, slice_get}
+use Rattle.std.specs.Prelude.{Option, Some, None, Err, slice_get}
 use Rattle.std.proofs.lemmas.Option.{slice_get_within, get_or_from_slice_get}
 use Rattle.std.specs.declared.cmp.Ordering.{Ordering}
 use Rattle.priority_channel_core.specs.machine.State.{State, Handed, nobody}
@@ -10,8 +10,12 @@ use Rattle.priority_channel_core.specs.machine.Good.{IsGood}
 use Rattle.priority_channel_core.specs.machine.Step.{Step, Answers}
 use Rattle.priority_channel_core.specs.Future.{Tasks, Standing, Futures, ticket_of, poll_of, future_after, GivesUpTicket}
 use Rattle.priority_channel_laws.specs.World.{World, Event, standing_after, call_out, PollsFuture, Happens, Leads, IsOpening}
+use Rattle.priority_channel_core.specs.Future.Task.{Sendv}
 use Rattle.priority_channel_core.specs.Future.Standing.{New, Waiting, Called, Done}
-use Rattle.priority_channel_laws.specs.World.Event.{Makes, Polls, GivesUp}
+use Rattle.priority_channel_core.specs.declared.calls.Call.TheVariants.{TrySendv}
+use Rattle.priority_channel_core.specs.declared.calls.Answer.TheVariants as answer
+use Rattle.priority_channel_core.specs.declared.errors.TrySendError.TheVariants.{Full}
+use Rattle.priority_channel_laws.specs.World.Event.{Makes, Polls, SendsPart, GivesUp}
 use Rattle.priority_channel_core.specs.declared.side.Side.{Side}
 use Rattle.priority_channel_core.specs.Waiters.{Waiters, on_side, unlist}
 use Rattle.priority_channel_core.specs.declared.side.Side.TheVariants.{Room, Message}
@@ -19,7 +23,7 @@ use Rattle.priority_channel_laws.proofs.worlds.Positions.{mapped_at, at_mapped, 
 use Rattle.priority_channel_laws.proofs.worlds.Hands.{Hands, hands}
 use Rattle.priority_channel_laws.proofs.worlds.Worlds.{Keeps, Changes, keeps-call_out, keeps-change, called_from}
 use Rattle.priority_channel_laws.proofs.worlds.PollEnds.{lists_of, stays_or_leaves, still_given, poll_end}
-use Rattle.priority_channel_laws.proofs.worlds.Standings.{Keeps-same, ends, waits}
+use Rattle.priority_channel_laws.proofs.worlds.Standings.{Keeps-same, ends, stays, waits}
 use Rattle.priority_channel_laws.proofs.worlds.Callings.{called-ticket}
 
 called_nobody : {W : Type 0} (s : Standing W) → standing_after nobody s ≡ s
@@ -149,12 +153,27 @@ module _ {T P W : Type 0} where
         (unlisted_lists given old.state new.state left.1) (ap (λ (w : Waiters W). w.next_ticket) left.1)
         (rw (call_out_nobody old.futures) futures) left.0
 
+    sends_part_kept : (cmp : P → P → Ordering) (old new : World T P W) (which : ℕ) (pairs rest : List (T × P)) (standing : Standing W) (handed : Handed W)
+        → slice_get old.futures which ≡ Some (record { task = Sendv pairs; standing = standing })
+        → Step cmp is_clone old.state (TrySendv pairs) (answer.TrySendv (Err (Full rest))) handed new.state
+        → new.futures ≡ set (call_out handed old.futures) which (record { task = Sendv rest; standing = standing_after handed standing })
+        → IsKept old → IsKept new × Passes old new
+    sends_part_kept cmp old new which pairs rest standing handed at step futures k =
+        let handing = hands old.state new.state handed cmp is_clone (TrySendv pairs) (answer.TrySendv (Err (Full rest))) tt step.moves in
+        let f : Futures T P W = record { task = Sendv pairs; standing = standing } in
+        let g : Futures T P W = record { task = Sendv rest; standing = standing_after handed standing } in
+        let at' = at_mapped (λ (future : Futures T P W). record { task = future.task; standing = standing_after handed future.standing }) old.futures which f at in
+        changed_world old new new.state handed handing k which f g at at' _ _
+        (stays is_clone (lists_of new.state) new.state.waiters.next_ticket (call_out handed old.futures) (called_world old new.state handed handing k) which _ g at' refl refl)
+        (λ side. refl) refl futures step.good
+
     happens_kept : (cmp : P → P → Ordering) (old new : World T P W) (event : Event T P W) (handed : Handed W)
         → Happens cmp is_clone old event handed new → IsKept old → IsKept new × Passes old new
     happens_kept cmp old new (Makes made) handed h k =
         let handing = hands old.state new.state handed cmp is_clone made h.1 h.0 h.2.moves in
         (record { good = h.2.good; keeps = rw h.3 (called_world old new.state handed handing k) }, passes_called old new handed handing h.3)
     happens_kept cmp old new (Polls which waker) handed h k = polls_kept cmp old new which waker h.0.task h.0.standing handed h.1 h.2 k
+    happens_kept cmp old new (SendsPart which) handed h k = sends_part_kept cmp old new which h.0 h.1 h.2 handed h.3 h.4 h.5 k
     happens_kept cmp old new (GivesUp which) handed h k = gives_up_kept cmp old new which h.0 h.1 h.3 h.4 k
 
     leads_kept : (cmp : P → P → Ordering) (old new : World T P W) (events : List (Event T P W)) → Leads cmp is_clone old events new → IsKept old → IsKept new × Passes old new
@@ -253,6 +272,26 @@ module _ {T P W : Type 0} where
     polls_called cmp old new which waker task (Waiting t w) handed h k = live_called cmp old new which waker (record { task = task; standing = Waiting t w }) handed h.0 h.1 h.2 k
     polls_called cmp old new which waker task (Called t w) handed h k = live_called cmp old new which waker (record { task = task; standing = Called t w }) handed h.0 h.1 h.2 k
 
+    sends_part_called : (cmp : P → P → Ordering) (old new : World T P W) (which : ℕ) (pairs rest : List (T × P)) (standing : Standing W) (handed : Handed W)
+        → slice_get old.futures which ≡ Some (record { task = Sendv pairs; standing = standing })
+        → Step cmp is_clone old.state (TrySendv pairs) (answer.TrySendv (Err (Full rest))) handed new.state
+        → new.futures ≡ set (call_out handed old.futures) which (record { task = Sendv rest; standing = standing_after handed standing })
+        → IsKept old → CalledBy is_clone old handed new
+    sends_part_called cmp old new which pairs rest standing handed at step futures k = λ j f t w here is.
+        let handing = hands old.state new.state handed cmp is_clone (TrySendv pairs) (answer.TrySendv (Err (Full rest))) tt step.moves in
+        let was : Futures T P W = record { task = Sendv pairs; standing = standing_after handed standing } in
+        let left : Futures T P W = record { task = Sendv rest; standing = standing_after handed standing } in
+        let at' : slice_get (call_out handed old.futures) which ≡ Some was =
+        at_mapped (λ (future : Futures T P W). record { task = future.task; standing = standing_after handed future.standing }) old.futures which (record { task = Sendv pairs; standing = standing }) at in
+        let called = called_from is_clone (lists_of old.state) old.state.waiters.next_ticket old.futures k.keeps handed (lists_of new.state) (stays_or_leaves old.state new.state handed handing) in
+        elim (changed_at (call_out handed old.futures) which j left f (ap (λ (fs : List (Futures T P W)). slice_get fs j) (sym futures) ∙ here)) [
+          | inl s ↦
+              let there : slice_get (call_out handed old.futures) j ≡ Some was = rw (← s.0) at' in
+              let same : was.standing ≡ Called t w = ap (λ (x : Futures T P W). x.standing) s.1 ∙ is in
+              called j was t w there same
+          | inr s ↦ called j f t w s.1 is
+        ]
+
     happens_called : (cmp : P → P → Ordering) (old new : World T P W) (event : Event T P W) (handed : Handed W)
         → Happens cmp is_clone old event handed new → IsKept old → CalledBy is_clone old handed new
     happens_called cmp old new (Makes made) handed h k = λ j f t w at is.
@@ -260,6 +299,7 @@ module _ {T P W : Type 0} where
         called_from is_clone (lists_of old.state) old.state.waiters.next_ticket old.futures k.keeps handed (lists_of new.state) (stays_or_leaves old.state new.state handed handing) j f t w
         (ap (λ (fs : List (Futures T P W)). slice_get fs j) (sym h.3) ∙ at) is
     happens_called cmp old new (Polls which waker) handed h k = polls_called cmp old new which waker h.0.task h.0.standing handed h.2 k
+    happens_called cmp old new (SendsPart which) handed h k = sends_part_called cmp old new which h.0 h.1 h.2 handed h.3 h.4 h.5 k
     happens_called cmp old new (GivesUp which) handed h k = λ j f t w at is.
         elim (changed_at old.futures which j (record { task = h.0.task; standing = Done }) f (ap (λ (fs : List (Futures T P W)). slice_get fs j) (sym h.4) ∙ at)) [
           | inl s ↦ let d : Done ≡ f.standing = ap (λ (x : Futures T P W). x.standing) s.1 in absurd (cc)

@@ -1,4 +1,4 @@
--- A future ends, or waits: the changes that this makes in a world.
+-- A future ends, waits, or has another task of its side: the changes that this makes in a world.
 use Rattle.std.proofs.Common.{eq-eqb, ◌≡◌, ◌≢◌, ℕ, ◌<◌, ◌⊎◌, true, false, List, refl, ap, sym, ◌∙◌, inl, inr, arith}
 use Rattle.std.specs.Prelude.{Option, Some, None, slice_get, ◌==◌}
 use Rattle.std.specs.List.{All}
@@ -6,8 +6,8 @@ use Rattle.std.proofs.lemmas.Bool.{ne_eqb}
 use Rattle.std.proofs.lemmas.Bool.Decides.{eqb_tells}
 use Rattle.priority_channel_core.specs.Waiting.{without_given, listing}
 use Rattle.priority_channel_laws.specs.WaitingLaw.{waker_of, side_of}
-use Rattle.priority_channel_core.specs.Future.{Futures, ticket_of}
-use Rattle.priority_channel_core.specs.Future.Standing.{Waiting, Done}
+use Rattle.priority_channel_core.specs.Future.{Standing, Futures, ticket_of}
+use Rattle.priority_channel_core.specs.Future.Standing.{New, Waiting, Called, Done}
 use Rattle.priority_channel_core.specs.declared.side.Side.{Side}
 use Rattle.priority_channel_core.specs.declared.side.Side.TheVariants.{Room, Message}
 use Rattle.priority_channel_laws.proofs.worlds.Positions.{Some-same}
@@ -33,6 +33,12 @@ same_side Room Message = inr (λ e. cc)
 same_side Message Room = inr (λ e. cc)
 same_side Message Message = inl refl
 
+has_ticket : {W : Type 0} (s : Standing W) (t : ℕ) → (ticket_of s ≡ Some t) ⊎ (ticket_of s ≢ Some t)
+has_ticket (Waiting u w) t = elim (eqb_tells u t) [ inl e ↦ inl (ap Some e.1) | inr e ↦ inr (λ q. e.1 (cc)) ]
+has_ticket (Called u w) t = elim (eqb_tells u t) [ inl e ↦ inl (ap Some e.1) | inr e ↦ inr (λ q. e.1 (cc)) ]
+has_ticket New t = inr (λ q. cc)
+has_ticket Done t = inr (λ q. cc)
+
 module _ {T P W : Type 0} (is_clone : W → W → Type 0) where
   pub Keeps-same : (lists lists' : Side → List (ℕ × W)) (next next' : ℕ) (futures : List (Futures T P W))
       → ((side : Side) → lists' side ≡ lists side) → next' ≡ next → Keeps is_clone lists next futures → Keeps is_clone lists' next' futures
@@ -53,6 +59,28 @@ module _ {T P W : Type 0} (is_clone : W → W → Type 0) where
       own = λ t w waits. absurd (cc);
       only = λ side t k here. let r = gone_only (lists side) given t k here in inl (r.0, λ e. r.1 (own ∙ e));
       ticket = λ t has. let n : None ≡ Some t = rw done at has in absurd (cc);
+    }
+
+    pub stays : side_of g.task ≡ side_of f.task → g.standing ≡ f.standing → Changes is_clone lists next futures keeps i f g at lists next
+    stays side standing = record {
+      grows = omega arith;
+      same = λ s t lt ne. refl;
+      own = λ t w waits. let k = keeps.kept i f t w at (sym standing ∙ waits) in (k.0, k.1, ap (λ (s : Side). waker_of t (lists s)) side ∙ k.2);
+      only = λ s t k here.
+          elim (has_ticket f.standing t) [
+            | inr none ↦ inl (here, none)
+            | inl has ↦
+                let found = keeps.listed s t k here in
+                let same : i ≡ found.which = keeps.differ i found.which f found.future t at found.there has (ap ticket_of found.waits) in
+                let one : f ≡ found.future = Some-same _ f found.future at (ap (slice_get futures) same ∙ found.there) in
+                inr (
+                  found.waker,
+                  side ∙ (ap (λ (x : Futures T P W). side_of x.task) one ∙ found.on_side),
+                  standing ∙ (ap (λ (x : Futures T P W). x.standing) one ∙ found.waits),
+                  found.clone,
+                )
+          ];
+      ticket = λ t has. let mine : ticket_of f.standing ≡ Some t = ap ticket_of (sym standing) ∙ has in (keeps.below i f t at mine, inl mine);
     }
 
     pub waits : (given : Option ℕ) (kept waker : W) (side : Side) (lists' : Side → List (ℕ × W)) (next' : ℕ)
