@@ -49,8 +49,8 @@ impl<S: Role, T, P: Ord, R: Wait + Clone, A: Allocator + Copy> End<S, T, P, R, A
     /// equal priorities it is received as if it had been sent with the new one.
     ///
     /// The test is called at most once on each pending message, in no specified order. It is called
-    /// under the channel's lock (see `End`). The test and the priority that goes are dropped once
-    /// the lock is released.
+    /// under the channel's lock (see `End`), and dropped once the lock is released. So is the given
+    /// priority, if there is no such message.
     ///
     /// It takes no memory, and wakes nobody. Beside the tests, the cost is at most twice as many
     /// comparisons of priorities as the number of pending messages has binary digits.
