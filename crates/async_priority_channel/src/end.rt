@@ -18,8 +18,9 @@ pub trait Role: Copy {
 }
 
 /// A handle of a channel: a `Sender` or a `Receiver`. Both have `close`, `close_on_drop`,
-/// `downgrade`, `same_channel`, `clone`, `take_where`, `retain`, and the queries `is_closed`,
-/// `is_empty`, `is_full`, `len`, `capacity`, `sender_count`, `receiver_count` and `count_where`.
+/// `downgrade`, `same_channel`, `clone`, `take_where`, `retain`, `change_priority`, and the queries
+/// `is_closed`, `is_empty`, `is_full`, `len`, `capacity`, `sender_count`, `receiver_count` and
+/// `count_where`.
 ///
 /// A handle can be moved to other threads, lent to them, and cloned. The channel closes when its
 /// last sender or its last receiver is dropped.
@@ -33,9 +34,9 @@ pub trait Role: Copy {
 ///
 /// The channel calls some of the user's code under its lock: the order of priorities, the
 /// allocator, the iterator of a bulk send and its drop, the functions that `peek_with`,
-/// `take_where`, `retain`, `count_where` and `try_recv_if` are given, and the clone of a priority
-/// that `peek_priority` makes. If this code makes a call on the channel, or drops a handle of it,
-/// it waits for ever. It should be short, since all other calls wait for it.
+/// `take_where`, `retain`, `change_priority`, `count_where` and `try_recv_if` are given, and the
+/// clone of a priority that `peek_priority` makes. If this code makes a call on the channel, or
+/// drops a handle of it, it waits for ever. It should be short, since all other calls wait for it.
 ///
 /// ```
 /// fn is_idle<S: Role, R: Wait + Clone>(end: &End<S, u64, u64, R>) -> bool {

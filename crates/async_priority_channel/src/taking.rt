@@ -1,4 +1,4 @@
-//! Calls that count, receive or take out the messages that a test chooses.
+//! Calls that count, change, receive or take out the messages that a test chooses.
 ghost use Rattle.std.specs.Prelude.{true, false, All, IfOk, IfSome};
 ghost use Rattle.priority_channel_bag.specs.Least.{Tells};
 
@@ -41,6 +41,40 @@ impl<S: Role, T, P: Ord, R: Wait + Clone, A: Allocator + Copy> End<S, T, P, R, A
         let (taken, wakes) = held.core().take_where(&test);
         self.handle.release(held, wakes);
         taken
+    }
+
+    /// Gives another priority to the pending message that was accepted first among those for which
+    /// the test returns true, also in a closed channel. Returns the priority that it had, or None
+    /// if there is no such message. The message keeps its place in the order of acceptance: among
+    /// equal priorities it is received as if it had been sent with the new one.
+    ///
+    /// The test is called at most once on each pending message, in no specified order. It is called
+    /// under the channel's lock (see `End`), and dropped once the lock is released. So is the given
+    /// priority, if there is no such message.
+    ///
+    /// It takes no memory, and wakes nobody. Beside the tests, the cost is at most twice as many
+    /// comparisons of priorities as the number of pending messages has binary digits.
+    ///
+    /// ```
+    /// let (tx, rx) = unbounded(&rt, rt.alloc())?;
+    /// let jobs = [("compile", 2), ("link", 1), ("test", 3)];
+    /// tx.try_sendv(jobs.into_iter().peekable())?;
+    /// assert_eq!(rt; rx.change_priority(|job, _| *job == "link", 3), Some(1));
+    /// assert_eq!(rt; rx.change_priority(|job, _| *job == "deploy", 9), None);
+    /// assert_eq!(rt; rx.try_recv(), Ok(("link", 3)));
+    /// assert_eq!(rt; rx.try_recv(), Ok(("test", 3)));
+    /// ```
+    pub fn change_priority<F: Fn(&T, &P) -> bool>(&self, test: F, priority: P) -> Option<P>
+    where
+        F: Drop,
+        P: Drop,
+        requires { F.IsAlwaysCallable test }
+        ensures { IfSome result (λ was. (msg : T) × Tells F.Fn test (msg, was) true) }
+    {
+        let mut held = self.handle.hold();
+        let changed = held.core().change_priority(&test, priority);
+        held.unlock();
+        changed.ok()
     }
 
     /// The number of pending messages for which the test returns true. The test is called as by

@@ -59,25 +59,28 @@ module _ {X : Type 0} (key : X → ℕ) where
   by_key-push [] x h = refl
   by_key-push (y ∷ xs) x h = ap (put_in key y) (by_key-push xs x h.1) ∙ put_in-push y x (by_key key xs) h.0
 
-  -- the place where an element is put in
+  -- the place where an element is put in, and each other with the same key
   pub record PutIn (x : X) (s : List X) : Type 0 where
     pub front : List X
     pub back : List X
-    pub whole : put_in key x s ≡ front ++ x ∷ back
+    pub whole : (y : X) → key y ≡ key x → put_in key y s ≡ front ++ y ∷ back
     pub rest : s ≡ front ++ back
     pub upto : AllByRecursion (λ y. key y ≤ key x) front
 
   pub splits : (x : X) (s : List X) → PutIn x s
   unfolding put_in
-  splits x [] = record { front = []; back = []; whole = refl; rest = refl; upto = tt }
+  splits x [] = record { front = []; back = []; whole = λ y q. refl; rest = refl; upto = tt }
   splits x (z ∷ s) = by_test (splits x s) (nat_lt (key x) (key z)) refl
     where
+      same_test : (y : X) → key y ≡ key x → (t : Bool) → nat_lt (key x) (key z) ≡ t → put_in key y (z ∷ s) ≡ cond t (y ∷ z ∷ s) (z ∷ put_in key y s)
+      same_test y q t e = ap (λ u. cond u (y ∷ z ∷ s) (z ∷ put_in key y s)) (ap (λ m. nat_lt m (key z)) q ∙ e)
+
       by_test : PutIn x s → (t : Bool) → nat_lt (key x) (key z) ≡ t → PutIn x (z ∷ s)
-      by_test i true e = record { front = []; back = z ∷ s; whole = ap (λ t. cond t (x ∷ z ∷ s) (z ∷ put_in key x s)) e; rest = refl; upto = tt }
+      by_test i true e = record { front = []; back = z ∷ s; whole = λ y q. same_test y q true e; rest = refl; upto = tt }
       by_test i false e = record {
         front = z ∷ i.front;
         back = i.back;
-        whole = ap (λ t. cond t (x ∷ z ∷ s) (z ∷ put_in key x s)) e ∙ ap (λ l. z ∷ l) i.whole;
+        whole = λ y q. same_test y q false e ∙ ap (λ l. z ∷ l) (i.whole y q);
         rest = ap (λ l. z ∷ l) i.rest;
         upto = (ltb-false (key x) (key z) e, i.upto);
       }

@@ -28,7 +28,7 @@ module _ {X : Type 0} where
   every_part P [] ys h = (tt, h)
   every_part P (x ∷ xs) ys h = let r = every_part P xs ys h.1 in ((h.0, r.0), r.1)
 
-  every_both : (P Q : X → Type 0) (xs : List X) → AllByRecursion P xs → AllByRecursion Q xs → AllByRecursion (λ x. P x × Q x) xs
+  pub every_both : (P Q : X → Type 0) (xs : List X) → AllByRecursion P xs → AllByRecursion Q xs → AllByRecursion (λ x. P x × Q x) xs
   every_both P Q [] p q = tt
   every_both P Q (x ∷ xs) p q = ((p.0, q.0), every_both P Q xs p.1 q.1)
 
@@ -143,7 +143,7 @@ module _ {T P : Type 0} where
           let i = keys.splits number x (by_key number zs) in record {
             before = map pair_of i.front;
             after = map pair_of i.back;
-            split = ap (map pair_of) (by_number ∙ i.whole) ∙ map-append pair_of i.front (x ∷ i.back);
+            split = ap (map pair_of) (by_number ∙ i.whole x refl) ∙ map-append pair_of i.front (x ∷ i.back);
             closed_up = ap (map pair_of) i.rest ∙ map-append pair_of i.front i.back;
           }
 
@@ -203,7 +203,7 @@ module _ {T P : Type 0} where
           record {
             before = map pair_of i.front;
             after = map pair_of i.back;
-            split = ap (map pair_of) (order_after ∙ i.whole) ∙ map-append pair_of i.front (x ∷ i.back);
+            split = ap (map pair_of) (order_after ∙ i.whole x refl) ∙ map-append pair_of i.front (x ∷ i.back);
             closed_up = ap (map pair_of) i.rest ∙ map-append pair_of i.front i.back;
             below = All-map (λ other. cmp other.1 x.priority ≡ Less) pair_of i.front
                 (All-from_recursion (λ y. cmp y.priority x.priority ≡ Less) i.front
@@ -250,14 +250,15 @@ module _ {T P : Type 0} where
         (every_weaker (λ y. is_lt (R y x) ≡ false) (λ y. is_lt (cmp y.priority priority) ≡ false)
         (λ y e. (heap.ranks o).chain _ _ _ (never_below x y e) h) xs least)))
 
+-- what holds of the item at each place holds of each item
+pub each_of : {X : Type 0} (Q : X → Type 0) (xs : List X) → ((k : ℕ) (d : X) → k < length xs → Q (get_or xs k d)) → AllByRecursion Q xs
+each_of Q [] f = tt
+each_of Q (x ∷ xs) f = (f 0 x (omega arith), each_of Q xs (λ k d p. f (suc k) d (omega arith)))
+
 -- what holds of each item holds of each pair
 pub of_pairs : {T P : Type 0} (Q : T × P → Type 0) (xs : List (Item T P)) → ((k : ℕ) (d : Item T P) → k < length xs → Q (pair_of (get_or xs k d))) → All Q (in_order_of_numbers xs)
 of_pairs {T} {P} Q xs h = All-map Q pair_of (by_key (λ y. y.number) xs)
-    (All-from_recursion (λ y. Q (pair_of y)) (by_key (λ y. y.number) xs) (keys.every_by_key (λ (y : Item T P). y.number) (λ y. Q (pair_of y)) xs (each xs h)))
-  where
-    each : (ys : List (Item T P)) → ((k : ℕ) (d : Item T P) → k < length ys → Q (pair_of (get_or ys k d))) → AllByRecursion (λ y. Q (pair_of y)) ys
-    each [] f = tt
-    each (y ∷ ys) f = (f 0 y (omega arith), each ys (λ k d p. f (suc k) d (omega arith)))
+    (All-from_recursion (λ y. Q (pair_of y)) (by_key (λ y. y.number) xs) (keys.every_by_key (λ (y : Item T P). y.number) (λ y. Q (pair_of y)) xs (each_of (λ y. Q (pair_of y)) xs h)))
 
 pub less_from_test : (a : Ordering) → is_lt a ≡ true → a ≡ Less
 less_from_test Less e = refl

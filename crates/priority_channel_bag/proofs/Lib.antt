@@ -11,3 +11,5 @@ pub mod Ordered
 pub mod Kept
 pub mod Costs
 pub mod Counts
+pub mod Firsts
+pub mod Changed

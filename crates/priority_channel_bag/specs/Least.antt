@@ -1,4 +1,4 @@
--- Which pair makes room for another, and which pair a test takes out.
+-- Which pair makes room for another, and which pair a test chooses.
 use Rattle.std.specs.Prelude.{◌≡◌, ℕ, ◌+◌, ◌⊎◌, Bool, false, List, [], ◌∷◌, ◌++◌}
 use Rattle.std.specs.List.{All}
 use Rattle.std.specs.Fn.{Shared, FnReturns}
@@ -41,6 +41,22 @@ abbrev pub TakesAll : {T P : Type 0} → List (T × P) → List (T × P) → Lis
 TakesAll pending [] rest = rest ≡ pending
 TakesAll {T} {P} pending (pair ∷ more) rest =
     (left : List (T × P)) × TakesOne pending pair left × TakesAll left more rest
+
+-- one pair has another priority, and keeps its place
+pub record Changes {T P : Type 0} (pending : List (T × P)) (was priority : P) (new : List (T × P))
+    : Type 0 where
+  pub msg : T
+  pub before : List (T × P)
+  pub after : List (T × P)
+  pub split : pending ≡ before ++ (msg, was) ∷ after
+  pub changed : new ≡ before ++ (msg, priority) ∷ after
+
+-- that pair passes, and none before it does
+pub record PassesFirst {T P : Type 0} (passes fails : T × P → Type 0) {pending : List (T × P)}
+    {was priority : P} {new : List (T × P)} (change : Changes pending was priority new)
+    : Type 0 where
+  pub passed : passes (change.msg, was)
+  pub failed : All fails change.before
 
 -- a call of the test on this pair may return `answer`
 pub record Tells {F T P : Type 0} (g : Shared F (Bor T × (Bor P × Unit {0})) Bool) (test : F)

@@ -5,10 +5,10 @@
 ghost use Rattle.std.specs.Prelude.{◌≡◌, List, ◌↔◌, ◌+◌, ◌*◌, ◌<◌, ◌≤◌, ◌^◌, true, false, [], ◌∷◌, ◌++◌, length, All, IfOk, IfErr, IfSome, IfNone, OnOk, OnErr, IsTrue, MatchOption, vec_capacity};
 ghost use Rattle.priority_channel_bag.specs.Digits.{digits};
 ghost use Rattle.priority_channel_bag.specs.Greatest.{TakesGreatest};
-ghost use Rattle.priority_channel_bag.specs.Least.{Counts, NoneBelow, Displaces, TakesOne, TakesAll, Tells};
+ghost use Rattle.priority_channel_bag.specs.Least.{Changes, Counts, NoneBelow, Displaces, PassesFirst, TakesOne, TakesAll, Tells};
 ghost use Rattle.priority_channel_bag.specs.Bag.{search_for_least};
 
-use crate::by_test::{count, divide, find};
+use crate::by_test::{count, divide, find, find_first};
 use crate::comparisons::Comparisons;
 use crate::heaps;
 use crate::interval_heap::least_place;
@@ -294,6 +294,38 @@ impl<T, P: Ord, A: Allocator> Bag<T, P, A> {
             at,
         );
         Some((msg, priority))
+    }
+
+    /// Gives another priority to the first pair, in the order in which they were pushed, for which
+    /// the test returns true, and returns the priority that it had. The pair keeps its place in
+    /// that order. If there is none, the given priority comes back. The test is called at most once
+    /// on each pair, in no specified order. It takes no memory.
+    pub fn change_priority<F: Fn(&T, &P) -> bool>(&mut self, test: &F, priority: P) -> Result<P, P>
+        requires { F.IsAlwaysCallable test.now }
+        ensures changed { IfOk result (λ was.
+            (change : Changes self.old.pending was priority self.new.pending)
+            × PassesFirst (λ pair. Tells F.Fn test.now pair true)
+            (λ pair. Tells F.Fn test.now pair false) change) }
+        ensures none { OnErr result
+            (All (λ pair. Tells F.Fn test.now pair false) self.old.pending) }
+        ensures handed_back { IfErr result (λ back. back ≡ priority) }
+        ensures unchanged { OnErr result (self.new ≡ self.old) }
+        ensures accepted { self.new.accepted ≡ self.old.accepted }
+        ensures slots { self.new.slots ≡ self.old.slots }
+        ensures least { self.new.knows_least ≡ self.old.knows_least }
+        ensures cost { self.new.comparisons
+            ≤ self.old.comparisons + 2 * digits (length self.old.pending) }
+    {
+        let Some(at) = find_first(self.items.as_slice(), test) else {
+            return Err(priority);
+        };
+        Ok(heaps::replace_priority(
+            self.items.as_mut_slice(),
+            &mut self.comparisons,
+            self.has_two_ends,
+            at,
+            priority,
+        ))
     }
 
     /// Keeps the pairs for which the test returns true. All others go to the end of `out`, in no

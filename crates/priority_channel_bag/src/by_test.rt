@@ -26,6 +26,47 @@ pub(crate) fn find<T, P, F: Fn(&T, &P) -> bool>(items: &[Item<T, P>], test: &F) 
     None
 }
 
+/// The place of the item with the least number among those for whose pairs the test returns true.
+pub(crate) fn find_first<T, P, F: Fn(&T, &P) -> bool>(
+    items: &[Item<T, P>],
+    test: &F,
+) -> Option<usize>
+    requires { F.IsAlwaysCallable test.now }
+    ensures within { IfSome result (λ at. at < length items.now) }
+    ensures found { IfSome result (λ at. (d : Item T P)
+        → Tells F.Fn test.now (pair_of (slice_index_or items.now at d)) true) }
+    ensures first { IfSome result (λ at. (k : ℕ) (d : Item T P) → k < length items.now
+        → (slice_index_or items.now k d).number < (slice_index_or items.now at d).number
+        → Tells F.Fn test.now (pair_of (slice_index_or items.now k d)) false) }
+    ensures none { IfNone result ((k : ℕ) (d : Item T P) → k < length items.now
+        → Tells F.Fn test.now (pair_of (slice_index_or items.now k d)) false) }
+{
+    let mut first = None;
+    for at in 0..items.len() {
+        let item = &items[at];
+        if is_before(items, at, first) && test(&item.msg, &item.priority) {
+            first = Some(at);
+        }
+    }
+    first
+}
+
+// Whether the item at `at` has a lesser number than the one at `first`, if there is one.
+fn is_before<T, P>(items: &[Item<T, P>], at: usize, first: Option<usize>) -> bool
+    requires within { at < length items.now }
+    requires first { IfSome first (λ f. f < length items.now) }
+    ensures none { IfNone first (result ≡ true) }
+    ensures later { result ≡ false → IfSome first (λ f. (d : Item T P)
+        → (slice_index_or items.now f d).number ≤ (slice_index_or items.now at d).number) }
+    ensures earlier { result ≡ true → IfSome first (λ f. (d : Item T P)
+        → (slice_index_or items.now at d).number < (slice_index_or items.now f d).number) }
+{
+    match first {
+        Some(first) => items[at].number < items[first].number,
+        None => true,
+    }
+}
+
 /// The number of items for whose pairs the test returns true.
 pub(crate) fn count<T, P, F: Fn(&T, &P) -> bool>(items: &[Item<T, P>], test: &F) -> usize
     requires { F.IsAlwaysCallable test.now }

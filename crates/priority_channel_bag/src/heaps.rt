@@ -79,6 +79,29 @@ pub(crate) fn replace<T, P: Ord>(
     out
 }
 
+/// Gives the item at `at` another priority, and returns the one that it had.
+pub(crate) fn replace_priority<T, P: Ord>(
+    items: &mut [Item<T, P>],
+    comparisons: &mut Comparisons,
+    has_two_ends: bool,
+    at: usize,
+    priority: P,
+) -> P
+    requires { at < length items.old }
+    ensures moves { (item : Item T P) × (others : List (Item T P))
+        × (item ≡ slice_index_or items.old at item) × (result ≡ item.priority)
+        × IsPermutation items.old (item ∷ others)
+        × IsPermutation (others ++ record item { priority = priority } ∷ []) items.new }
+    ensures order { IsOrdered (item_cmp P.cmp) has_two_ends items.old
+        → IsOrdered (item_cmp P.cmp) has_two_ends items.new }
+    ensures cost { comparisons.new.count ≤ comparisons.old.count + 2 * digits (length items.old) }
+{
+    let item = &mut items[at];
+    let was = mem::replace(&mut item.priority, priority);
+    mend(items, comparisons, has_two_ends, at);
+    was
+}
+
 /// Makes a heap of any items.
 pub(crate) fn arrange<T, P: Ord>(
     items: &mut [Item<T, P>],

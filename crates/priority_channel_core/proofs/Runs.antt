@@ -1,12 +1,13 @@
 -- Runs of the code's calls, one more call at a time.
 use Rattle.std.proofs.Common.{◌≡◌, ℕ, ◌+◌, List, [], ◌∷◌, ◌++◌, length, map, drop, refl, ap, ◌∙◌, append_assoc, drop-drop}
-use Rattle.std.specs.Prelude.{Bool, true, Option, None, Some, IfSome, is_ok, OnOk, Ok, Err}
+use Rattle.std.specs.Prelude.{Bool, true, Option, None, Some, IfSome, IfOk, is_ok, OnOk, Ok, Err}
 use Rattle.std.specs.declared.result.Result.{Result}
 use Rattle.std.specs.List.{AllZip}
 use Rattle.std.proofs.lemmas.List.{map-append}
 use Rattle.std.specs.declared.cmp.Ordering.{Ordering}
+use Rattle.priority_channel_bag.specs.Least.{Changes, PassesFirst}
 use Rattle.priority_channel_core.specs.declared.calls.Call.{Call}
-use Rattle.priority_channel_core.specs.declared.calls.Call.TheVariants.{TakeWhere}
+use Rattle.priority_channel_core.specs.declared.calls.Call.TheVariants.{TakeWhere, ChangePriority}
 use Rattle.priority_channel_core.specs.declared.calls.Answer.{Answer}
 use Rattle.priority_channel_core.specs.declared.calls.Answer.TheVariants as answer
 use Rattle.priority_channel_core.specs.machine.State.{State, Handed}
@@ -31,10 +32,12 @@ module _ {T P W : Type 0} (cmp : P → P → Ordering) (is_clone : W → W → T
 module _ {T P W : Type 0} where
   place_same : (made : Calls T P W) → SameButPlace made made
   place_same (TakeWhere place) = (place, refl)
+  place_same (ChangePriority place priority) = (place, refl)
   place_same made = refl
 
   place_again : (one two three : Calls T P W) → SameButPlace one two → SameButPlace two three → SameButPlace one three
   place_again (TakeWhere place) two three (other, is) then = rw (← is) at then
+  place_again (ChangePriority place priority) two three (other, is) then = rw (← is) at then
   place_again one two three is then = rw (← is) at then
 
   places_same : (calls : List (Calls T P W)) → AllZip SameButPlace calls calls
@@ -53,11 +56,13 @@ module _ {T P W : Type 0} where
 found : {T P W M F : Type 0} (holds : M → List (T × P) → Type 0) (so : Calls T P W → Type 0) (made : Call T P W M F) (meant : Calls T P W)
     → SameCall holds made meant → AtSomePlace made meant so → (other : Calls T P W) × SameButPlace meant other × so other
 found holds so (TakeWhere test) meant (given, is, any) (place, at) = (TakeWhere place, rw is (place, refl), at)
+found holds so (ChangePriority test priority) meant (given, is, any) (place, at) = (ChangePriority place priority, rw is (place, refl), at)
 found holds so made meant same at = (meant, place_same meant, at)
 
 at_meant : {T P W M F : Type 0} (holds : M → List (T × P) → Type 0) (so : Calls T P W → Type 0) (made : Call T P W M F) (meant : Calls T P W)
     → SameCall holds made meant → so meant → AtSomePlace made meant so
 at_meant holds so (TakeWhere test) meant (place, is, any) at = (place, rw is at at)
+at_meant holds so (ChangePriority test priority) meant (place, is, any) at = (place, rw is at at)
 at_meant holds so made meant same at = at
 
 module _ {T P W M F : Type 0} (holds : M → List (T × P) → Type 0) (cmp : P → P → Ordering) (is_clone : W → W → Type 0)
@@ -82,12 +87,18 @@ module _ {T P W M F : Type 0} (holds : M → List (T × P) → Type 0) (cmp : P 
       performed : (call : Call T P W M ⊥) (meant : Calls T P W) (told : Answers T P) → AtSomePlace call meant (λ c. Step cmp is_clone old c told handed new)
           → Step cmp is_clone old meant told handed new
       performed (TakeWhere none) meant told at = absurd none
+      performed (ChangePriority none priority) meant told at = absurd none
       performed call meant told at = at
 
   pub makes_taking : (test : F) (taken : Option (T × P)) → made ≡ TakeWhere test → reply ≡ answer.TakeWhere taken
       → (place : ℕ) × Step cmp is_clone old (TakeWhere place) (answer.TakeWhere taken) handed new
       → Makes holds cmp is_clone old made reply handed new
   makes_taking test taken is answers found = rw (is, answers) (record { at = λ meant same. (answer.TakeWhere taken, refl, found) })
+
+  pub makes_change : (test : F) (priority : P) (changed : Result P P) → made ≡ ChangePriority test priority → reply ≡ answer.ChangePriority changed
+      → (place : ℕ) × Step cmp is_clone old (ChangePriority place priority) (answer.ChangePriority changed) handed new
+      → Makes holds cmp is_clone old made reply handed new
+  makes_change test priority changed is answers found = rw (is, answers) (record { at = λ meant same. (answer.ChangePriority changed, refl, found) })
 
 module _ {T P W M F : Type 0} (holds : M → List (T × P) → Type 0) (cmp : P → P → Ordering) (is_clone : W → W → Type 0) where
   pub RunsFront-none : (old : State T P W) (calls : List (Call T P W M F)) → RunsFront holds cmp is_clone old calls [] calls old
@@ -121,13 +132,29 @@ module _ {T P W M F : Type 0} (holds : M → List (T × P) → Type 0) (cmp : P 
             Run-more cmp is_clone old mid new run ran r moves,
           )
 
-pub made_meets : {T P W M F : Type 0} (meets : F → T × P → Type 0) (made : Call T P W M F) (reply : Answer T P M) (test : F) (taken : Option (T × P))
-    → made ≡ TakeWhere test → reply ≡ answer.TakeWhere taken → IfSome taken (meets test) → MeetsTest meets made reply
-made_meets meets made reply test None is told met other pair again back = absurd (cc)
-made_meets meets made reply test (Some taken) is told met other pair again back =
-    let same : test ≡ other = cc in
-    let given : taken ≡ pair = cc in
-    rw (same, given) at met
+module _ {T P W M F : Type 0} (meets : F → T × P → Type 0) (made : Call T P W M F) (reply : Answer T P M) (test : F) where
+  pub taking_meets : (taken : Option (T × P)) → made ≡ TakeWhere test → reply ≡ answer.TakeWhere taken → IfSome taken (meets test) → MeetsTest meets made reply
+  taking_meets None is told met = record { taken = λ other pair again back. absurd (cc); changed = λ other priority was again back. absurd (cc) }
+  taking_meets (Some taken) is told met = record {
+    taken = λ other pair again back.
+        let same : test ≡ other = cc in
+        let given : taken ≡ pair = cc in
+        rw (same, given) at met;
+    changed = λ other priority was again back. absurd (cc);
+  }
+
+  pub change_meets : (priority : P) (changed : Result P P) (pending new : List (T × P)) (fails : T × P → Type 0)
+      → made ≡ ChangePriority test priority → reply ≡ answer.ChangePriority changed
+      → IfOk changed (λ was. (change : Changes pending was priority new) × PassesFirst (meets test) fails change) → MeetsTest meets made reply
+  change_meets priority (Err back) pending new fails is told met = record { taken = λ other pair again back. absurd (cc); changed = λ other next was again back. absurd (cc) }
+  change_meets priority (Ok was) pending new fails is told met = record {
+    taken = λ other pair again back. absurd (cc);
+    changed = λ other next had again back.
+        let same : test ≡ other = cc in
+        let given : was ≡ had = cc in
+        let told : (msg : T) × meets test (msg, was) = (met.0.msg, met.1.passed) in
+        rw (same, given) at told;
+  }
 
 pub meets_more : {T P W M F : Type 0} (meets : F → T × P → Type 0) (calls left : List (Call T P W M F)) (done : List (Response T P W M)) (next : Call T P W M F) (response : Response T P W M)
     → next ∷ left ≡ drop (length done) calls → AllMeetTests meets calls done → MeetsTest meets next response.answer → AllMeetTests meets calls (done ++ response ∷ [])

@@ -2,8 +2,8 @@
 use crate::errors::{RecvFault, SendFault, TryRecvError, TrySendError};
 
 /// A call of the core. `M` is the type that holds the pairs of a bulk send: in the code an iterator
-/// that can be peeked, in the definitions a list. `F` is what chooses the pair of a taking: in the
-/// code a test, in the definitions a place.
+/// that can be peeked, in the definitions a list. `F` is what chooses the pair of a taking or of
+/// a change: in the code a test, in the definitions a place.
 #[derive(Drop)]
 pub enum Call<T, P, W, M, F = fn(&T, &P) -> bool> {
     TrySend(T, P),
@@ -13,6 +13,8 @@ pub enum Call<T, P, W, M, F = fn(&T, &P) -> bool> {
     /// In the definitions it carries which pair it takes: the pair's place among the pending pairs,
     /// in the order of their acceptance.
     TakeWhere(F),
+    /// In the definitions it carries a place, as a taking.
+    ChangePriority(F, P),
     Close,
     IsClosed,
     IsEmpty,
@@ -39,6 +41,7 @@ pub enum Answer<T, P, M> {
     TrySendEvicting(Result<Option<(T, P)>, TrySendError<(T, P)>>),
     TryRecv(Result<(T, P), TryRecvError>),
     TakeWhere(Option<(T, P)>),
+    ChangePriority(Result<P, P>),
     Close(bool),
     IsClosed(bool),
     IsEmpty(bool),

@@ -1,9 +1,10 @@
--- What calls accepted and received, read only from the calls and their answers.
-use Rattle.std.specs.Prelude.{◌≡◌, ◌-◌, false, List, [], ◌∷◌, length, take, Some, Result, Ok, Err}
+-- What calls accepted, received and changed, read only from the calls and their answers.
+use Rattle.std.specs.Prelude.{◌≡◌, ◌-◌, false, List, [], ◌∷◌, ◌++◌, length, map, take, Some, Result, Ok, Err}
 use Rattle.std.specs.List.{AllPairs, flat_map}
+use Rattle.std.specs.List.Sorted.{IsPermutation}
 use Rattle.std.specs.Ordering.{is_gt}
 use Rattle.std.specs.declared.cmp.Ordering.{Ordering}
-use Rattle.priority_channel_core.specs.declared.calls.Call.TheVariants.{TrySend, TrySendv, TrySendEvicting, PollSend, PollSendv}
+use Rattle.priority_channel_core.specs.declared.calls.Call.TheVariants.{TrySend, TrySendv, TrySendEvicting, ChangePriority, PollSend, PollSendv}
 use Rattle.priority_channel_core.specs.declared.calls.Answer.TheVariants as answer
 use Rattle.priority_channel_core.specs.declared.calls.CorePoll.{CorePoll}
 use Rattle.priority_channel_core.specs.declared.calls.CorePoll.TheVariants.{Ready, Pending}
@@ -62,6 +63,12 @@ module _ {T P W : Type 0} where
   accepted_by (PollSendv pairs given waker) (answer.PollSendv reply) = poll_sent pairs reply
   accepted_by _ _ = []
 
+  -- the old priority and the new one
+  abbrev pub changed_by : Calls T P W → Answers T P → List (P × P)
+  changed_by (ChangePriority place priority) (answer.ChangePriority (Ok was)) =
+      (was, priority) ∷ []
+  changed_by _ _ = []
+
   -- over a whole run, in order
   abbrev pub accepted_in : List (Operation T P W) → List (T × P)
   accepted_in run = flat_map (λ made. accepted_by made.call made.answer) run
@@ -74,3 +81,31 @@ module _ {T P W : Type 0} where
 
   abbrev pub taken_in : List (Operation T P W) → List (T × P)
   taken_in run = flat_map (λ made. taken_by made.answer) run
+
+  abbrev pub changed_in : List (Operation T P W) → List (P × P)
+  changed_in run = flat_map (λ made. changed_by made.call made.answer) run
+
+-- a change of priority, with the message
+pub record Change (T P : Type 0) : Type 0 where
+  pub msg : T
+  pub was : P
+  pub now : P
+
+module _ {T P : Type 0} where
+  abbrev pub priorities : Change T P → P × P
+  priorities change = (change.was, change.now)
+
+  abbrev pub before : Change T P → T × P
+  before change = (change.msg, change.was)
+
+  abbrev pub after : Change T P → T × P
+  after change = (change.msg, change.now)
+
+-- Each pair that was pending or accepted went out one way, or is left. Each change of priority took
+-- out a pair, and put in another with the same message.
+pub record Conserves {T P W : Type 0} (pending : List (T × P)) (run : List (Operation T P W))
+    (left : List (T × P)) : Type 0 where
+  pub changes : List (Change T P)
+  pub told : map priorities changes ≡ changed_in run
+  pub balance : IsPermutation (map after changes ++ pending ++ accepted_in run)
+      (map before changes ++ received_in run ++ displaced_in run ++ taken_in run ++ left)

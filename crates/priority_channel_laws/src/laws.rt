@@ -8,7 +8,7 @@ ghost use Rattle.priority_channel_core.specs.declared.calls.Answer.TheVariants a
 ghost use Rattle.priority_channel_core.specs.declared.errors.TryRecvError.TheVariants as recv_error;
 ghost use Rattle.priority_channel_core.specs.machine.State.{State, Handed};
 ghost use Rattle.priority_channel_core.specs.machine.Run.{Run, Operation};
-ghost use Rattle.priority_channel_laws.specs.Accepted.{accepted_in, received_in, displaced_in, taken_in, NeverRise};
+ghost use Rattle.priority_channel_laws.specs.Accepted.{accepted_in, received_in, changed_in, Conserves, NeverRise};
 ghost use Rattle.priority_channel_laws.specs.World.{World, Event, Happens, IsOpening, Leads};
 ghost use Rattle.priority_channel_laws.specs.WaitingLaw.{NobodyIsForgotten, GivenOnce, CalledBy};
 ghost use Rattle.priority_channel_laws.specs.Threads.{Thread, ThreadWorld, IsUnused};
@@ -17,13 +17,12 @@ ghost use Rattle.priority_channel_laws.specs.ThreadEvents.{ThreadEvent, LeadsTo}
 ghost use Rattle.priority_channel_laws.specs.QueueLaw.{NobodySleepsOn};
 
 /// No pair is lost, made up or given twice: each pair that was pending or accepted is received,
-/// displaced by one of greater priority, taken out by a test, or still pending. A closed channel
-/// stays closed and accepts nothing.
+/// displaced by one of greater priority, taken out by a test, or still pending. A change of
+/// priority puts another pair with the same message in the place of a pair. A closed channel stays
+/// closed and accepts nothing.
 pub fn conservation_law<T, P: Ord, W: Clone>()
     ensures conserved { (old new : State T P W) (run : List (Operation T P W))
-        → Run P.cmp W.is_clone old run new
-        → IsPermutation (old.pending ++ accepted_in run)
-        (received_in run ++ displaced_in run ++ taken_in run ++ new.pending) }
+        → Run P.cmp W.is_clone old run new → Conserves old.pending run new.pending }
     ensures closed { (old new : State T P W) (run : List (Operation T P W))
         → Run P.cmp W.is_clone old run new
         → old.is_closed ≡ true → (new.is_closed ≡ true) × (accepted_in run ≡ []) }
@@ -31,10 +30,11 @@ pub fn conservation_law<T, P: Ord, W: Clone>()
 
 /// Pairs come out in the order of their priorities.
 pub fn drain_law<T, P: Ord, W: Clone>()
-    // Between two accepted pairs, the priorities of the received pairs never rise.
+    // Where nothing is accepted and no priority changes, the priorities of the received pairs never
+    // rise.
     ensures ordered { (old new : State T P W) (before between after : List (Operation T P W))
         → Run P.cmp W.is_clone old (before ++ between ++ after) new → accepted_in between ≡ []
-        → NeverRise P.cmp (received_in between) }
+        → changed_in between ≡ [] → NeverRise P.cmp (received_in between) }
     // A closed channel gives each pending pair, and then nothing more.
     ensures drained { (old new : State T P W) (run : List (Operation T P W))
         → Run P.cmp W.is_clone old run new → old.is_closed ≡ true

@@ -214,6 +214,11 @@ fn ask_to_receive<'a, R: Abort + AllocGlobal>(
             let (taken, wakes) = core.take_where(&|msg, _| *msg == wanted);
             told(rt, taken, wakes)
         }
+        // Of the first message that is this one or a later letter.
+        ["change_priority", word] => {
+            let (from, priority) = pair(*word);
+            said(rt, core.change_priority(&|msg, _| *msg >= from, priority))
+        }
         // Of this priority and above.
         ["retain", least] => {
             let least = number(*least);

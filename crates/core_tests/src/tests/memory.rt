@@ -15,8 +15,9 @@ fn a_reserved_channel_needs_no_memory(rt: HostRuntime) {
         try_recv = Ok(('b', 2)); try_send c3; pending = (2, false, true)
         poll_send - 1 d4 = Ready(Err(Memory(('d', 4))))   # to wait takes some
         clone_sender = true; clone_receiver = true; handles = (2, 2)
+        change_priority c2 = Ok(3); change_priority d9 = Err(9)
         try_send_evicting d4 = Ok(Some(('a', 1)))
-        try_recv_many 2 = (Ok(2), [('d', 4), ('c', 3)]); poll_recv - 1 = Ready(Err(Memory))
+        try_recv_many 2 = (Ok(2), [('d', 4), ('c', 2)]); poll_recv - 1 = Ready(Err(Memory))
         try_sendv e5 f6; take_where e = Some(('e', 5)); retain 7 = [('f', 6)]; close = true
         poll_send - 1 g7 = Ready(Err(Closed(('g', 7)))); try_recv = Err(Closed)
 
@@ -80,7 +81,8 @@ fn each_request_may_be_refused(rt: HostRuntime) {
         try_send_evicting f4 = Ok(Some(('a', 1)))
         poll_send - 1 g1 = Pending(('g', 1), 0)
         poll_send - 2 h1 = Pending(('h', 1), 1)
-        take_where c = Some(('c', 2)), room [(0, 1), (1, 2)]
+        change_priority c5 = Ok(2)
+        take_where c = Some(('c', 5)), room [(0, 1), (1, 2)]
         retain 3 = [('e', 2)]
         try_recv = Ok(('f', 4))
         poll_recv - 1 = Pending((), 2)

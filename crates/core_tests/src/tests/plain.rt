@@ -85,6 +85,7 @@ impl Plain {
                 let at = self.pending.iter().position(|pair| pair.0 == msg);
                 said(rt, at.and_then(|at| self.take(at)))
             }
+            ["change_priority", word] => said(rt, self.change_priority(pair(*word))),
             ["retain", least] => said(rt, self.retain(rt, number(*least))),
             ["peek"] => said(rt, self.pending.get(self.greatest())),
             ["close"] => said(rt, self.close()),
@@ -242,6 +243,15 @@ impl Plain {
         }
         taken.sort().expect(rt, "memory");
         taken
+    }
+
+    fn change_priority(&mut self, (from, priority): Pair) -> Result<u64, u64> {
+        for pair in self.pending.iter_mut() {
+            if pair.0 >= from {
+                return Ok(mem::replace(&mut pair.1, priority));
+            }
+        }
+        Err(priority)
     }
 
     fn close(&mut self) -> bool {

@@ -60,7 +60,7 @@ impl Draws {
         let (other, lower) = (self.next_message(), priority / 2);
         let ticket = self.ticket()?;
         let waker = self.calls;
-        match self.below(26) {
+        match self.below(28) {
             0 => format!(in alloc; "try_sendv"),
             1..=2 => format!(in alloc; "try_sendv {msg}{priority} {other}{lower}"),
             3..=5 => format!(in alloc; "try_send_evicting {msg}{priority}"),
@@ -82,6 +82,11 @@ impl Draws {
             11..=12 => format!(in alloc; "poll_send {ticket} {waker} {msg}{priority}"),
             13..=15 => format!(in alloc; "poll_recv {ticket} {waker}"),
             16 => format!(in alloc; "give_up {ticket}"),
+            17..=18 => {
+                let back = self.below(20);
+                let from = message(self.messages.wrapping_sub(back));
+                format!(in alloc; "change_priority {from}{priority}")
+            }
             _ if self.calls / STRETCH % 2 == 0 => format!(in alloc; "try_send {msg}{priority}"),
             _ => format!(in alloc; "try_recv"),
         }

@@ -154,3 +154,44 @@ fn a_full_channel_makes_room_by_the_last_of_the_least(rt: HostRuntime) {
         retain 0 = []; take_where h = Some(('h', 1)); try_recv = Err(Closed)",
     );
 }
+
+#[test]
+fn a_pair_of_another_priority_keeps_its_place_among_equals(rt: HostRuntime) {
+    play(
+        &rt,
+        "
+        unbounded; try_sendv a1 b2 c3   # the last is raised, and comes first
+        change_priority a4 = Ok(1); peek = Some(('a', 4)); try_recv = Ok(('a', 4))
+        try_recv = Ok(('c', 3)); try_recv = Ok(('b', 2)); change_priority a9 = Err(9)
+
+        unbounded; try_sendv a1 b2 c3   # the first is lowered, and comes last
+        change_priority c0 = Ok(3); try_recv = Ok(('b', 2)); try_recv = Ok(('a', 1))
+        try_recv = Ok(('c', 0))
+
+        unbounded; try_sendv a1 b2 c3 d2   # of equal ones the first that was accepted
+        change_priority c2 = Ok(3); change_priority a2 = Ok(1); try_send e2
+        try_recv = Ok(('a', 2)); try_recv = Ok(('b', 2)); try_recv = Ok(('c', 2))
+        try_recv = Ok(('d', 2)); try_recv = Ok(('e', 2))
+
+        unbounded; try_sendv c1 b1 a1   # it is the first accepted of those that pass
+        change_priority b5 = Ok(1); try_recv = Ok(('c', 5))
+        change_priority a0 = Ok(1); try_recv = Ok(('a', 1)); try_recv = Ok(('b', 0))
+
+        unbounded; try_sendv a1 b1 c1   # to the same, or none that passes
+        change_priority b1 = Ok(1); change_priority d9 = Err(9)
+        close = true; change_priority c2 = Ok(1)   # also in a closed channel
+        try_recv = Ok(('c', 2)); try_recv = Ok(('a', 1)); try_recv = Ok(('b', 1))
+        change_priority a1 = Err(1)
+
+        bounded 3; try_sendv a1 b2 c3; try_send_evicting d1 = Err(Full(('d', 1)))
+        change_priority c1 = Ok(3)   # it is now the last of the least
+        try_send_evicting d2 = Ok(Some(('c', 1))); change_priority a9 = Ok(1)
+        try_send_evicting e3 = Ok(Some(('d', 2))); try_recv = Ok(('a', 9))
+        change_priority b4 = Ok(2); try_recv = Ok(('b', 4)); try_recv = Ok(('e', 3))
+
+        bounded 1; poll_recv - 1 = Pending((), 0)   # nobody is woken
+        change_priority a9 = Err(9); try_send a1 = Ok(()), message [(0, 1)]
+        poll_send - 7 b2 = Pending(('b', 2), 1); change_priority a9 = Ok(1)
+        try_recv = Ok(('a', 9)), room [(1, 7)]",
+    );
+}

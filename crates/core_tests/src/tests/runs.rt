@@ -16,6 +16,7 @@ fn told<R: Abort + AllocGlobal>(rt: &R, answer: Answer<char, u64, Pairs>) -> Str
         Answer::TrySendv(sent) => said(rt, listed(rt, sent.map_err(Unsent::from))),
         Answer::TryRecv(received) => said(rt, received),
         Answer::TakeWhere(taken) => said(rt, taken),
+        Answer::ChangePriority(changed) => said(rt, changed),
         Answer::PollSend(polled) => said(rt, polled),
         Answer::PollRecv(polled) => said(rt, polled),
         Answer::Close(answer) | Answer::IsClosed(answer) | Answer::CloneSender(answer) => {
@@ -62,8 +63,10 @@ fn a_run_makes_each_call_in_order(rt: HostRuntime) {
         Call::TrySend('b', 1),
         Call::TrySend('c', 9),
         Call::PollSend('d', 5, None, 6),
+        Call::ChangePriority(is_b, 3),
         Call::TakeWhere(is_b),
         Call::TakeWhere(is_b),
+        Call::ChangePriority(is_b, 4),
         Call::TryRecv,
         Call::TrySend('b', 2),
         Call::Close,
@@ -73,7 +76,7 @@ fn a_run_makes_each_call_in_order(rt: HostRuntime) {
     let Progress { done, left } = core.run(calls.expect(&rt, "calls"));
     expect_true(
         &rt,
-        left.is_empty() && done.len() == 16,
+        left.is_empty() && done.len() == 18,
         "each call is made",
     );
     expect_answers(
@@ -89,8 +92,10 @@ fn a_run_makes_each_call_in_order(rt: HostRuntime) {
             "Ok(()), message [(1, 8)]",
             "Ok(())",
             "Pending(('d', 5), 2)",
-            "Some(('b', 1)), room [(2, 6)]",
+            "Ok(1)",
+            "Some(('b', 3)), room [(2, 6)]",
             "None",
+            "Err(4)",
             "Ok(('c', 9))",
             "Ok(())",
             "true",

@@ -791,6 +791,18 @@ fn example_of_end_take_where(rt: HostRuntime) {
 }
 
 #[test]
+fn example_of_end_change_priority(rt: HostRuntime) {
+    let (tx, rx) = unbounded(&rt, rt.alloc()).expect(&rt, "unbounded");
+    let jobs = [("compile", 2), ("link", 1), ("test", 3)];
+    tx.try_sendv(jobs.into_iter().peekable())
+        .expect(&rt, "try_sendv");
+    expect_equal(&rt, rx.change_priority(|job, _| *job == "link", 3), Some(1));
+    expect_equal(&rt, rx.change_priority(|job, _| *job == "deploy", 9), None);
+    expect_equal(&rt, rx.try_recv(), Ok(("link", 3)));
+    expect_equal(&rt, rx.try_recv(), Ok(("test", 3)));
+}
+
+#[test]
 fn example_of_end_count_where(rt: HostRuntime) {
     let (tx, rx) = unbounded(&rt, rt.alloc()).expect(&rt, "unbounded");
     let jobs = [("compile", 2), ("link", 1), ("test", 3)];

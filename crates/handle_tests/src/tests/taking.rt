@@ -1,4 +1,4 @@
-//! Taking out, or keeping, what a test chooses.
+//! Taking out, keeping, or giving another priority to what a test chooses.
 use super::expect_equal;
 use super::script::run;
 use async_priority_channel::unbounded;
@@ -48,6 +48,11 @@ fn the_test_is_asked_as_often_as_is_said(rt: HostRuntime) {
         asked.set(asked.get().wrapping_add(1));
         answer
     };
+    // Of each at most once.
+    let changed = rx.change_priority(|msg, _| count(*msg > 4), 1);
+    expect_equal(&rt, (changed, asked.replace(0) <= 10), (Some(0), true));
+    expect_equal(&rt, rx.change_priority(|_, _| count(false), 1), None);
+    expect_equal(&rt, asked.replace(0), 10);
     // Of each once, where it tells false; of none after it told true; and of each that may stay.
     expect_equal(&rt, rx.take_where(|_, _| count(false)), None);
     expect_equal(&rt, asked.replace(0), 10);
@@ -66,11 +71,20 @@ fn the_test_is_dropped_once_the_lock_is_free(rt: HostRuntime) {
     let (tx, rx) = unbounded(&rt, rt.alloc()).expect(&rt, "a channel");
     expect_equal(&rt, tx.try_send('a', 1), Ok(()));
     let other = rx.clone().expect(&rt, "a receiver");
-    expect_equal(&rt, rx.receiver_count(), 2);
+    let third = rx.clone().expect(&rt, "a receiver");
+    expect_equal(&rt, rx.receiver_count(), 3);
+    let changed = rx.change_priority(
+        move |_, _| {
+            let _ = &third;
+            true
+        },
+        2,
+    );
+    expect_equal(&rt, (changed, rx.receiver_count()), (Some(1), 2));
     let taken = rx.take_where(move |_, _| {
         let _ = &other;
         true
     });
-    expect_equal(&rt, taken, Some(('a', 1)));
+    expect_equal(&rt, taken, Some(('a', 2)));
     expect_equal(&rt, rx.receiver_count(), 1);
 }

@@ -1,7 +1,7 @@
 -- The answers of the code, where a bulk send gives back what holds a list.
 use Rattle.std.specs.Prelude.{◌≡◌, List, Result, Ok, Err}
 use Rattle.priority_channel_core.specs.declared.calls.Answer.{Answer}
-use Rattle.priority_channel_core.specs.declared.calls.Answer.TheVariants.{TrySend, TrySendv, TrySendEvicting, TryRecv, TakeWhere, Close, IsClosed, IsEmpty, IsFull, Len, Capacity, SenderCount, ReceiverCount, CloneSender, CloneReceiver, DropSender, DropReceiver, PollSend, PollSendv, PollRecv, GiveUp}
+use Rattle.priority_channel_core.specs.declared.calls.Answer.TheVariants.{TrySend, TrySendv, TrySendEvicting, TryRecv, TakeWhere, ChangePriority, Close, IsClosed, IsEmpty, IsFull, Len, Capacity, SenderCount, ReceiverCount, CloneSender, CloneReceiver, DropSender, DropReceiver, PollSend, PollSendv, PollRecv, GiveUp}
 use Rattle.priority_channel_core.specs.declared.calls.CorePoll.{CorePoll}
 use Rattle.priority_channel_core.specs.declared.calls.CorePoll.TheVariants.{Ready, Pending}
 use Rattle.priority_channel_core.specs.declared.errors.TrySendError.{TrySendError}
@@ -42,6 +42,7 @@ module _ {T P M : Type 0} (holds : M → List (T × P) → Type 0) where
   SameAnswer (TrySendEvicting reply) = Is (TrySendEvicting reply)
   SameAnswer (TryRecv reply) = Is (TryRecv reply)
   SameAnswer (TakeWhere taken) = Is (TakeWhere taken)
+  SameAnswer (ChangePriority changed) = Is (ChangePriority changed)
   SameAnswer (Close was_open) = Is (Close was_open)
   SameAnswer (IsClosed b) = Is (IsClosed b)
   SameAnswer (IsEmpty b) = Is (IsEmpty b)

@@ -1,9 +1,10 @@
--- The calls of the code: a bulk send is given what holds a list, and a taking a test.
+-- The calls of the code: a bulk send is given what holds a list; a taking and a change of
+-- priority are given a test.
 use Rattle.std.specs.Prelude.{◌≡◌, ℕ, List, ◌++◌, map, ⊤}
 use Rattle.std.specs.List.{AllZip}
 use Rattle.std.specs.declared.cmp.Ordering.{Ordering}
 use Rattle.priority_channel_core.specs.declared.calls.Call.{Call}
-use Rattle.priority_channel_core.specs.declared.calls.Call.TheVariants.{TrySend, TrySendv, TrySendEvicting, TryRecv, TakeWhere, Close, IsClosed, IsEmpty, IsFull, Len, Capacity, SenderCount, ReceiverCount, CloneSender, CloneReceiver, DropSender, DropReceiver, PollSend, PollSendv, PollRecv, GiveUp}
+use Rattle.priority_channel_core.specs.declared.calls.Call.TheVariants.{TrySend, TrySendv, TrySendEvicting, TryRecv, TakeWhere, ChangePriority, Close, IsClosed, IsEmpty, IsFull, Len, Capacity, SenderCount, ReceiverCount, CloneSender, CloneReceiver, DropSender, DropReceiver, PollSend, PollSendv, PollRecv, GiveUp}
 use Rattle.priority_channel_core.specs.declared.calls.Answer.{Answer}
 use Rattle.priority_channel_core.specs.machine.State.{State, Handed}
 use Rattle.priority_channel_core.specs.machine.Step.{Step, Calls, Answers}
@@ -20,19 +21,22 @@ abbrev pub MayCall : {T P W M F : Type 0} → (M → Type 0) → (F → Type 0) 
 MayCall may_send may_test (TrySendv msgs) = may_send msgs
 MayCall may_send may_test (PollSendv msgs given waker) = may_send msgs
 MayCall may_send may_test (TakeWhere test) = may_test test
+MayCall may_send may_test (ChangePriority test priority) = may_test test
 MayCall may_send may_test made = ⊤
 
--- `so` holds of the call that is meant; if the call is a taking, of one at some place
+-- `so` holds of the call that is meant; if the call is given a test, of one at some place
 abbrev pub AtSomePlace : {T P W M F : Type 0} → Call T P W M F → Calls T P W
     → (Calls T P W → Type 0) → Type 0
 AtSomePlace (TakeWhere test) meant so = (place : ℕ) × so (TakeWhere place)
+AtSomePlace (ChangePriority test priority) meant so =
+    (place : ℕ) × so (ChangePriority place priority)
 AtSomePlace made meant so = so meant
 
 abbrev pub SameButPlace : {T P W : Type 0} → Calls T P W → Calls T P W → Type 0
 SameButPlace made other = AtSomePlace made made (Is other)
 
 module _ {T P W M F : Type 0} (holds : M → List (T × P) → Type 0) where
-  -- a taking is one at any place
+  -- a call that is given a test is one at any place
   abbrev pub SameCall : Call T P W M F → Calls T P W → Type 0
   SameCall (TrySendv msgs) = IsMade (holds msgs) TrySendv
   SameCall (PollSendv msgs given waker) =
@@ -41,6 +45,8 @@ module _ {T P W M F : Type 0} (holds : M → List (T × P) → Type 0) where
   SameCall (TrySendEvicting msg priority) = Is (TrySendEvicting msg priority)
   SameCall TryRecv = Is TryRecv
   SameCall (TakeWhere test) = IsMade (λ place. ⊤) TakeWhere
+  SameCall (ChangePriority test priority) =
+      IsMade (λ place. ⊤) (λ place. ChangePriority place priority)
   SameCall Close = Is Close
   SameCall IsClosed = Is IsClosed
   SameCall IsEmpty = Is IsEmpty
@@ -80,7 +86,7 @@ module _ {T P W M F : Type 0} (holds : M → List (T × P) → Type 0) (cmp : P 
         × AllZip (SameOperation holds) done run × AllZip (SameCall holds) left others
         × Run cmp is_clone old run new
 
--- of a call that is no taking
+-- of a call that is given no test
 abbrev pub Performs : {T P W M : Type 0} → (M → List (T × P) → Type 0) → (P → P → Ordering)
     → (W → W → Type 0) → State T P W → Call T P W M ⊥ → Answer T P M → Handed W → State T P W
     → Type 0

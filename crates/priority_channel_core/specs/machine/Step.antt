@@ -2,19 +2,19 @@
 use Rattle.std.specs.Prelude.{ℕ, ◌+◌, ◌-◌, ◌==◌, List, [], ◌∷◌, length, Some}
 use Rattle.std.specs.declared.cmp.Ordering.{Ordering}
 use Rattle.priority_channel_core.specs.declared.calls.Call.{Call}
-use Rattle.priority_channel_core.specs.declared.calls.Call.TheVariants.{TrySend, TrySendv, TrySendEvicting, TryRecv, TakeWhere, Close, IsClosed, IsEmpty, IsFull, Len, Capacity, SenderCount, ReceiverCount, CloneSender, CloneReceiver, DropSender, DropReceiver, PollSend, PollSendv, PollRecv, GiveUp}
+use Rattle.priority_channel_core.specs.declared.calls.Call.TheVariants.{TrySend, TrySendv, TrySendEvicting, TryRecv, TakeWhere, ChangePriority, Close, IsClosed, IsEmpty, IsFull, Len, Capacity, SenderCount, ReceiverCount, CloneSender, CloneReceiver, DropSender, DropReceiver, PollSend, PollSendv, PollRecv, GiveUp}
 use Rattle.priority_channel_core.specs.declared.calls.Answer.{Answer}
 use Rattle.priority_channel_core.specs.declared.calls.Answer.TheVariants as answer
 use Rattle.priority_channel_core.specs.machine.State.{State, Handed}
 use Rattle.priority_channel_core.specs.machine.Good.{IsGood}
 use Rattle.priority_channel_core.specs.machine.Sends.{as_list, Refuses, Sends}
 use Rattle.priority_channel_core.specs.machine.Evicts.{Evicts}
-use Rattle.priority_channel_core.specs.machine.OtherCalls.{Receives, Takes, Closes, Looks, capacity_told, Clones, Drops}
+use Rattle.priority_channel_core.specs.machine.OtherCalls.{Receives, Takes, ChangesPriority, Closes, Looks, capacity_told, Clones, Drops}
 use Rattle.priority_channel_core.specs.Waiters.{unlist}
 use Rattle.priority_channel_core.specs.machine.Polls.{send_answer, recv_answer, Polls}
 use Rattle.priority_channel_core.specs.declared.side.Side.TheVariants.{Room, Message}
 
--- with a list for a bulk send, and a place for a taking
+-- with a list for a bulk send, and a place for a taking or a change of priority
 abbrev pub Calls : (T P W : Type 0) → Type 0
 Calls T P W = Call T P W (List (T × P)) ℕ
 
@@ -31,6 +31,8 @@ module _ {T P W : Type 0} (cmp : P → P → Ordering) (is_clone : W → W → T
       Evicts cmp old (msg, priority) reply
   Moves old TryRecv (answer.TryRecv reply) = Receives cmp old reply
   Moves old (TakeWhere place) (answer.TakeWhere taken) = Takes old place taken
+  Moves old (ChangePriority place priority) (answer.ChangePriority changed) =
+      ChangesPriority old place priority changed
   Moves old Close (answer.Close was_open) = Closes old was_open
   Moves old IsClosed (answer.IsClosed told) = Looks old old.is_closed told
   Moves old IsEmpty (answer.IsEmpty told) = Looks old (length old.pending == 0) told

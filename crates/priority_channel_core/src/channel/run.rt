@@ -132,6 +132,10 @@ impl<T: Drop, P: Ord + Drop, W: Clone, A: Allocator + Copy> PriorityQueueChannel
                 let (taken, wakes) = self.take_where(&test);
                 Response::new(Answer::TakeWhere(taken), wakes)
             }
+            Call::ChangePriority(test, priority) => {
+                let changed = self.change_priority(&test, priority);
+                Response::new(Answer::ChangePriority(changed), Wakes::nobody(self.alloc))
+            }
             Call::Close => {
                 let (was_open, wakes) = self.close();
                 Response::new(Answer::Close(was_open), wakes)

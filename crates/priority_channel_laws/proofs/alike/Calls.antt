@@ -9,7 +9,7 @@ use Rattle.priority_channel_core.specs.declared.errors.TryRecvError.{TryRecvErro
 use Rattle.priority_channel_core.specs.declared.errors.TryRecvError.TheVariants as recv_error
 use Rattle.priority_channel_core.specs.machine.State.{State, Handed, nobody, room}
 use Rattle.priority_channel_core.specs.machine.Sends.{Refuses, Accepts, Sends}
-use Rattle.priority_channel_core.specs.machine.OtherCalls.{Frees, Receives, Takes, Shuts, Closes, Looks, Clones, Drops}
+use Rattle.priority_channel_core.specs.machine.OtherCalls.{Frees, Receives, Takes, ChangesPriority, Shuts, Closes, Looks, Clones, Drops}
 use Rattle.priority_channel_laws.specs.Accepted.{all_but, sent}
 use Rattle.priority_channel_laws.specs.Alike.{SameHanded, SameState}
 use Rattle.priority_channel_laws.proofs.runs.Effects.{all_but-front}
@@ -162,6 +162,30 @@ module _ {T P W : Type 0} (is_clone : W → W → Type 0) where
     takes_same place (Some p) None a b = let l = place_long s.pending a.0.before a.0.after p a.0.split in let e = ap length (same_pending is_clone same) in absurd (omega (arith, l, e, a.1, b.0))
     takes_same place None (Some q) a b = let l = place_long r.pending b.0.before b.0.after q b.0.split in let e = ap length (same_pending is_clone same) in absurd (omega (arith, l, e, b.1, a.0))
     takes_same place None None a b = (refl, refuses_same a.1 b.1)
+
+    pub changes_same : (place : ℕ) (priority : P) (x y : Result P P) → ChangesPriority s place priority x h k → ChangesPriority r place priority y h' k' → (y ≡ x) × Both h h' k k'
+    changes_same place priority (Ok was) (Ok had) a b =
+        let t = a.0 in let u = b.0 in
+        let one = split_same t.before ((t.msg, was) ∷ t.after) u.before ((u.msg, had) ∷ u.after) (sym t.split ∙ sym (same_pending is_clone same) ∙ u.split) (b.1 ∙ sym a.1) in
+        let heads = same_heads t.msg u.msg was had t.after u.after one.1 in
+        let left : k.pending ≡ k'.pending = t.changed ∙ (λ i. sym one.0 i ++ (sym heads.0 i, priority) ∷ sym heads.2 i) ∙ sym u.changed in (
+          ap (λ (p : P). Ok p) heads.1,
+          record {
+            handed = nobody_same is_clone h h' a.2 b.2;
+            state = same_after is_clone k k' (record s { pending = k.pending }) (record r { pending = k'.pending }) a.3 b.3 (record {
+              waiters = same.waiters;
+              others = ap (λ (x : State T P W). record x { pending = k'.pending }) same.others ∙ ap (λ (l : List (T × P)). record s { pending = l; waiters = r.waiters }) (sym left);
+            });
+          },
+        )
+      where
+        same_heads : (m n : T) (p q : P) (xs ys : List (T × P)) → (n, q) ∷ ys ≡ (m, p) ∷ xs → (n ≡ m) × (q ≡ p) × (ys ≡ xs)
+        same_heads m n p q xs ys e = let rest : ys ≡ xs = cc in let pair : (n, q) ≡ (m, p) = cc in (ap (λ (z : T × P). z.0) pair, ap (λ (z : T × P). z.1) pair, rest)
+    changes_same place priority (Ok was) (Err back) a b =
+        let l = place_long s.pending a.0.before a.0.after (a.0.msg, was) a.0.split in let e = ap length (same_pending is_clone same) in absurd (omega (arith, l, e, a.1, b.0))
+    changes_same place priority (Err back) (Ok had) a b =
+        let l = place_long r.pending b.0.before b.0.after (b.0.msg, had) b.0.split in let e = ap length (same_pending is_clone same) in absurd (omega (arith, l, e, b.1, a.0))
+    changes_same place priority (Err back) (Err again) a b = (ap (λ (p : P). Err p) (b.1 ∙ sym a.1), refuses_same a.2 b.2)
 
     module _ {cmp : P → P → Ordering} (o : IsTotalOrder cmp) where
       nothing_taken : (pending before after : List (T × P)) (pair : T × P) → pending ≡ before ++ pair ∷ after → pending ≡ [] → ⊥

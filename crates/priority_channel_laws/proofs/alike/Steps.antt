@@ -15,7 +15,7 @@ use Rattle.priority_channel_laws.specs.Alike.{is_memory, SameState, SameOutcome,
 use Rattle.priority_channel_core.specs.machine.Step.{Moves, Calls, Answers}
 use Rattle.priority_channel_core.specs.machine.Run.{Operation, Run}
 use Rattle.priority_channel_laws.proofs.alike.Lists.{same_after, same_unlisted, nobody_same, same_pending, same_closed, same_capacity, same_senders, same_receivers}
-use Rattle.priority_channel_laws.proofs.alike.Calls.{Both, sends_same, takes_same, receives_same, closes_same, looks_same, clones_same, drops_same}
+use Rattle.priority_channel_laws.proofs.alike.Calls.{Both, sends_same, takes_same, changes_same, receives_same, closes_same, looks_same, clones_same, drops_same}
 use Rattle.priority_channel_laws.proofs.alike.Evicting.{evicts_same}
 use Rattle.priority_channel_laws.proofs.alike.Polls.{is_memory-poll_send, is_memory-poll_sendv, as_list_one, polls_send_same, polls_sendv_same, polls_receive_same}
 
@@ -37,6 +37,8 @@ module _ {T P W : Type 0} (is_clone : W → W → Type 0) {cmp : P → P → Ord
         let t = evicts_same is_clone o s r k k' h h' same m p x y a b count memory in (ap (λ z. answer.TrySendEvicting z) t.0, t.1)
     step_same (call.TakeWhere place) (answer.TakeWhere x) (answer.TakeWhere y) a b count memory =
         let t = takes_same is_clone s r k k' h h' same place x y a b in (ap (λ z. answer.TakeWhere z) t.0, t.1)
+    step_same (call.ChangePriority place priority) (answer.ChangePriority x) (answer.ChangePriority y) a b count memory =
+        let t = changes_same is_clone s r k k' h h' same place priority x y a b in (ap (λ z. answer.ChangePriority z) t.0, t.1)
     step_same call.TryRecv (answer.TryRecv x) (answer.TryRecv y) a b count memory =
         let t = receives_same is_clone s r k k' h h' same o x y a b in (ap (λ z. answer.TryRecv z) t.0, t.1)
     step_same call.Close (answer.Close x) (answer.Close y) a b count memory =

@@ -1,7 +1,7 @@
 -- What a run does to the pending pairs.
-use Rattle.std.proofs.Common.{◌≡◌, ℕ, ◌+◌, true, false, List, [], ◌∷◌, ◌++◌, length, map, refl, ap, ◌∙◌, arith, append_assoc, inl, inr, zero, suc, replicate, length-append, add-one}
+use Rattle.std.proofs.Common.{◌≡◌, ℕ, ◌+◌, true, false, List, [], ◌∷◌, ◌++◌, length, map, refl, ap, subst, ◌∙◌, arith, append_assoc, inl, inr, zero, suc, replicate, length-append, add-one}
 use Rattle.std.specs.Prelude.{Result, Ok, Err}
-use Rattle.std.proofs.lemmas.List.{append-nil}
+use Rattle.std.proofs.lemmas.List.{append-nil, map-append}
 use Rattle.std.specs.List.{All, AllByRecursion}
 use Rattle.std.specs.List.Sorted.{IsPermutation}
 use Rattle.std.proofs.lemmas.List.Sorted.{IsPermutation-refl, IsPermutation-trans, IsPermutation-append_left, IsPermutation-append_right, IsPermutation-append_comm, IsPermutation-cons, IsPermutation-middle, length_permutation, All-permutation}
@@ -19,7 +19,7 @@ use Rattle.priority_channel_core.specs.machine.OtherCalls.{Receives}
 use Rattle.priority_channel_core.specs.machine.Step.{Moves, Step, Answers}
 use Rattle.priority_channel_core.specs.machine.Run.{Operation, Run}
 use Rattle.priority_channel_bag.proofs.Kept.{every_part}
-use Rattle.priority_channel_laws.specs.Accepted.{accepted_by, received_by, displaced_by, taken_by, accepted_in, received_in, displaced_in, taken_in, NeverRise}
+use Rattle.priority_channel_laws.specs.Accepted.{accepted_by, received_by, displaced_by, taken_by, changed_by, accepted_in, received_in, displaced_in, taken_in, changed_in, Change, priorities, before, after, Conserves, NeverRise}
 use Rattle.priority_channel_laws.proofs.runs.Effects.{Effect, effect}
 
 empty_parts : {A : Type 0} (xs ys : List A) → xs ++ ys ≡ [] → (xs ≡ []) × (ys ≡ [])
@@ -35,12 +35,30 @@ sorted_out a b c d =
     rw (append_assoc a b (c ++ d), append_assoc a c (b ++ d), ← append_assoc b c d, ← append_assoc c b d)
     (IsPermutation-append_right a _ _ (IsPermutation-append_left d _ _ (IsPermutation-append_comm b c)))
 
-each_way : {A : Type 0} (a b c x y z : List A) → IsPermutation ((a ++ b ++ c) ++ (x ++ y ++ z)) ((a ++ x) ++ (b ++ y) ++ (c ++ z))
-each_way a b c x y z = IsPermutation-trans _ _ _ (sorted_out (a ++ b) c (x ++ y) z) (IsPermutation-append_left (c ++ z) _ _ (sorted_out a b x y))
+each_way : {A : Type 0} (a b c d x y z u : List A) → IsPermutation ((a ++ b ++ c ++ d) ++ (x ++ y ++ z ++ u)) ((a ++ x) ++ (b ++ y) ++ (c ++ z) ++ (d ++ u))
+each_way a b c d x y z u =
+    IsPermutation-trans _ _ _ (sorted_out (a ++ b ++ c) d (x ++ y ++ z) u)
+    (IsPermutation-append_left (d ++ u) _ _ (IsPermutation-trans _ _ _ (sorted_out (a ++ b) c (x ++ y) z) (IsPermutation-append_left (c ++ z) _ _ (sorted_out a b x y))))
+
+-- what comes in and goes out in two steps comes in and goes out in both together
+one_after_another : {A : Type 0} (old mid new n m a b : List A) (w r d t x y z u : List A)
+    → IsPermutation (n ++ old ++ a) (w ++ r ++ d ++ t ++ mid) → IsPermutation (m ++ mid ++ b) (x ++ y ++ z ++ u ++ new)
+    → IsPermutation ((n ++ m) ++ old ++ (a ++ b)) ((w ++ x) ++ (r ++ y) ++ (d ++ z) ++ (t ++ u) ++ new)
+one_after_another old mid new n m a b w r d t x y z u first second =
+    let out = w ++ r ++ d ++ t in
+    let outs = x ++ y ++ z ++ u in
+    let swapped : IsPermutation ((n ++ m) ++ old) ((n ++ old) ++ m) = rw (append_assoc n m old, append_assoc n old m) (IsPermutation-append_right n _ _ (IsPermutation-append_comm m old)) in
+    let then : IsPermutation ((out ++ m) ++ (mid ++ b)) ((out ++ outs) ++ new) = rw (append_assoc out m (mid ++ b), ← append_assoc m mid b, append_assoc out outs new) (IsPermutation-append_right out _ _ second) in
+    IsPermutation-trans _ _ _ (IsPermutation-append_left (a ++ b) _ _ swapped)
+    (IsPermutation-trans _ _ _ (sorted_out (n ++ old) m a b)
+    (IsPermutation-trans _ _ _ (IsPermutation-append_left (m ++ b) _ _ first)
+    (IsPermutation-trans _ _ _ (sorted_out out mid m b)
+    (IsPermutation-trans _ _ _ then
+    (IsPermutation-append_left new _ _ (each_way w r d t x y z u))))))
 
 module _ {T P W : Type 0} (cmp : P → P → Ordering) (is_clone : W → W → Type 0) where
   step_effect : (old new : State T P W) (made : Operation T P W) → Step cmp is_clone old made.call made.answer made.handed new
-      → Effect cmp old (accepted_by made.call made.answer) (received_by made.answer) (displaced_by made.answer) (taken_by made.answer) new
+      → Effect cmp old (accepted_by made.call made.answer) (received_by made.answer) (displaced_by made.answer) (taken_by made.answer) (changed_by made.call made.answer) new
   step_effect old new made step = effect cmp is_clone old new made.handed made.call made.answer step.moves
 
   pub Run-split : (old new : State T P W) (front back : List (Operation T P W)) → Run cmp is_clone old (front ++ back) new
@@ -49,23 +67,20 @@ module _ {T P W : Type 0} (cmp : P → P → Ordering) (is_clone : W → W → T
   Run-split old new (made ∷ front) back run =
       let r = Run-split run.0 new front back run.2 in (r.0, (run.0, run.1, r.1), r.2)
 
-  pub run_conserves : (old new : State T P W) (run : List (Operation T P W)) → Run cmp is_clone old run new
-      → IsPermutation (old.pending ++ accepted_in run) (received_in run ++ displaced_in run ++ taken_in run ++ new.pending)
-  run_conserves old new [] run = rw (append-nil old.pending, run) (IsPermutation-refl old.pending)
+  pub run_conserves : (old new : State T P W) (run : List (Operation T P W)) → Run cmp is_clone old run new → Conserves old.pending run new.pending
+  run_conserves old new [] run = record { changes = []; told = refl; balance = rw (append-nil old.pending, run) (IsPermutation-refl old.pending) }
   run_conserves old new (made ∷ more) run =
       let mid = run.0 in
       let e = step_effect old mid made run.1 in
-      let a = accepted_by made.call made.answer in
-      let r = received_by made.answer in
-      let d = displaced_by made.answer in
-      let t = taken_by made.answer in
-      let rest = received_in more ++ displaced_in more ++ taken_in more in
-      rw (← append_assoc old.pending a (accepted_in more))
-      (IsPermutation-trans _ _ _ (IsPermutation-append_left (accepted_in more) _ _ e.moves)
-      (rw (append_assoc (r ++ d ++ t) mid.pending (accepted_in more))
-      (IsPermutation-trans _ _ _ (IsPermutation-append_right (r ++ d ++ t) _ _ (run_conserves mid new more run.2))
-      (rw (← append_assoc (r ++ d ++ t) rest new.pending)
-      (IsPermutation-append_left new.pending _ _ (each_way r d t (received_in more) (displaced_in more) (taken_in more)))))))
+      let rest = run_conserves mid new more run.2 in
+      record {
+        changes = e.changes ++ rest.changes;
+        told = map-append priorities e.changes rest.changes ∙ rw (e.told, rest.told) refl;
+        balance = rw (map-append after e.changes rest.changes, map-append before e.changes rest.changes)
+            (one_after_another old.pending mid.pending new.pending (map after e.changes) (map after rest.changes) (accepted_by made.call made.answer) (accepted_in more)
+            (map before e.changes) (received_by made.answer) (displaced_by made.answer) (taken_by made.answer)
+            (map before rest.changes) (received_in more) (displaced_in more) (taken_in more) e.moves rest.balance);
+      }
 
   pub run_closed : (old new : State T P W) (run : List (Operation T P W)) → Run cmp is_clone old run new → old.is_closed ≡ true
       → (new.is_closed ≡ true) × (accepted_in run ≡ [])
@@ -76,39 +91,49 @@ module _ {T P W : Type 0} (cmp : P → P → Ordering) (is_clone : W → W → T
       let r = run_closed mid new more run.2 e.0 in
       (r.0, rw (e.1, r.1) refl)
 
+  -- if no priority changes, pairs come in and go out alone
+  moves_alone : (old new : State T P W) (made : Operation T P W) → Step cmp is_clone old made.call made.answer made.handed new → changed_by made.call made.answer ≡ []
+      → IsPermutation (old.pending ++ accepted_by made.call made.answer) (received_by made.answer ++ displaced_by made.answer ++ taken_by made.answer ++ new.pending)
+  moves_alone old new made step kept =
+      let e = step_effect old new made step in
+      subst (λ (changes : List (Change T P)). IsPermutation (map after changes ++ old.pending ++ accepted_by made.call made.answer)
+      (map before changes ++ received_by made.answer ++ displaced_by made.answer ++ taken_by made.answer ++ new.pending)) (map_none priorities e.changes (e.told ∙ kept)) e.moves
+
   received_were_pending : (Q : T × P → Type 0) (old new : State T P W) (run : List (Operation T P W)) → Run cmp is_clone old run new
-      → accepted_in run ≡ [] → All Q old.pending → AllByRecursion Q (received_in run)
-  received_were_pending Q old new [] run none all = tt
-  received_were_pending Q old new (made ∷ more) run none all =
+      → accepted_in run ≡ [] → changed_in run ≡ [] → All Q old.pending → AllByRecursion Q (received_in run)
+  received_were_pending Q old new [] run none kept all = tt
+  received_were_pending Q old new (made ∷ more) run none kept all =
       let mid = run.0 in
-      let e = step_effect old mid made run.1 in
       let parts = empty_parts (accepted_by made.call made.answer) (accepted_in more) none in
+      let stays = empty_parts (changed_by made.call made.answer) (changed_in more) kept in
+      let moves = moves_alone old mid made run.1 stays.0 in
       let same : old.pending ++ accepted_by made.call made.answer ≡ old.pending = rw parts.0 (append-nil old.pending) in
-      let both = every_part Q (received_by made.answer ++ displaced_by made.answer ++ taken_by made.answer) mid.pending (recursion_from_All Q _ (All-permutation Q _ _ e.moves (rw same all))) in
-      every_append Q _ _ (every_part Q (received_by made.answer) (displaced_by made.answer) (every_part Q (received_by made.answer ++ displaced_by made.answer) (taken_by made.answer) both.0).0).0 (received_were_pending Q mid new more run.2 parts.1 (All-from_recursion Q _ both.1))
+      let both = every_part Q (received_by made.answer ++ displaced_by made.answer ++ taken_by made.answer) mid.pending (recursion_from_All Q _ (All-permutation Q _ _ moves (rw same all))) in
+      every_append Q _ _ (every_part Q (received_by made.answer) (displaced_by made.answer) (every_part Q (received_by made.answer ++ displaced_by made.answer) (taken_by made.answer) both.0).0).0 (received_were_pending Q mid new more run.2 parts.1 stays.1 (All-from_recursion Q _ both.1))
 
   pub run_never_rises : (old new : State T P W) (run : List (Operation T P W)) → Run cmp is_clone old run new
-      → accepted_in run ≡ [] → NeverRise cmp (received_in run)
-  run_never_rises old new [] run none = λ i j d before within. absurd (omega arith)
-  run_never_rises old new (made ∷ more) run none =
+      → accepted_in run ≡ [] → changed_in run ≡ [] → NeverRise cmp (received_in run)
+  run_never_rises old new [] run none kept = λ i j d before within. absurd (omega arith)
+  run_never_rises old new (made ∷ more) run none kept =
       let mid = run.0 in
       let e = step_effect old mid made run.1 in
       let parts = empty_parts (accepted_by made.call made.answer) (accepted_in more) none in
-      let later = run_never_rises mid new more run.2 parts.1 in
+      let stays = empty_parts (changed_by made.call made.answer) (changed_in more) kept in
+      let later = run_never_rises mid new more run.2 parts.1 stays.1 in
       elim e.gives [
         | inl nothing ↦ rw nothing later
         | inr g ↦
             rw g.1
             (AllPairs-cons (λ (before later : T × P). is_gt (cmp later.1 before.1) ≡ false) g.0 (received_in more)
-            (All-from_recursion _ _ (received_were_pending (λ (other : T × P). is_gt (cmp other.1 g.0.1) ≡ false) mid new more run.2 parts.1 g.2)) later)
+            (All-from_recursion _ _ (received_were_pending (λ (other : T × P). is_gt (cmp other.1 g.0.1) ≡ false) mid new more run.2 parts.1 stays.1 g.2)) later)
       ]
 
   pub between_never_rises : (old new : State T P W) (before between after : List (Operation T P W))
-      → Run cmp is_clone old (before ++ between ++ after) new → accepted_in between ≡ [] → NeverRise cmp (received_in between)
-  between_never_rises old new before between after run none =
+      → Run cmp is_clone old (before ++ between ++ after) new → accepted_in between ≡ [] → changed_in between ≡ [] → NeverRise cmp (received_in between)
+  between_never_rises old new before between after run none kept =
       let first = Run-split old new (before ++ between) after run in
       let second = Run-split old first.0 before between first.1 in
-      run_never_rises second.0 first.0 between second.2 none
+      run_never_rises second.0 first.0 between second.2 none kept
 
   answered : (old new : State T P W) (handed : Handed W) (reply : Answers T P) → Moves cmp is_clone old call.TryRecv reply handed new
       → (told : Result (T × P) TryRecvError) × (reply ≡ answer.TryRecv told) × Receives cmp old told handed new
@@ -161,6 +186,13 @@ module _ {T P W : Type 0} (cmp : P → P → Ordering) (is_clone : W → W → T
             answers = rw (is, r.answers) refl;
           }
 
+  receives_change_none : (n : ℕ) (run : List (Operation T P W)) → map (λ (made : Operation T P W). made.call) run ≡ replicate n call.TryRecv → changed_in run ≡ []
+  receives_change_none n [] same = refl
+  receives_change_none zero (made ∷ more) same = absurd (cc)
+  receives_change_none (suc n) (made ∷ more) same =
+      let first : made.call ≡ call.TryRecv = cc in
+      rw first (receives_change_none n more (cc))
+
   -- a closed channel gives its pending pairs, and then nothing
   pub run_drains : (old new : State T P W) (run : List (Operation T P W)) → Run cmp is_clone old run new → old.is_closed ≡ true
       → map (λ (made : Operation T P W). made.call) run ≡ replicate (length old.pending + 1) call.TryRecv
@@ -168,4 +200,4 @@ module _ {T P W : Type 0} (cmp : P → P → Ordering) (is_clone : W → W → T
       × (map (λ (made : Operation T P W). made.answer) run ≡ map (λ (pair : T × P). answer.TryRecv (Ok pair)) pairs ++ answer.TryRecv (Err recv_error.Closed) ∷ [])
   run_drains old new run is closed same =
       let d = drains (length old.pending) old new run is closed refl (rw add-one at same) in
-      (d.pairs, d.all, rw (← d.given) (run_never_rises old new run is (run_closed old new run is closed).1), d.answers)
+      (d.pairs, d.all, rw (← d.given) (run_never_rises old new run is (run_closed old new run is closed).1 (receives_change_none (length old.pending + 1) run same)), d.answers)

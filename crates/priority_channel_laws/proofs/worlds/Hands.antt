@@ -11,7 +11,7 @@ use Rattle.priority_channel_core.specs.declared.errors.TryRecvError.TheVariants 
 use Rattle.priority_channel_core.specs.machine.State.{State, Handed, nobody}
 use Rattle.priority_channel_core.specs.machine.Sends.{as_list, Refuses, Accepts, Sends}
 use Rattle.priority_channel_core.specs.machine.Evicts.{Evicts}
-use Rattle.priority_channel_core.specs.machine.OtherCalls.{Frees, Receives, Takes, Shuts, Clones, Drops}
+use Rattle.priority_channel_core.specs.machine.OtherCalls.{Frees, Receives, Takes, ChangesPriority, Shuts, Clones, Drops}
 use Rattle.priority_channel_core.specs.machine.Step.{Moves, Calls, Answers}
 use Rattle.priority_channel_laws.specs.World.{IsDirect}
 use Rattle.priority_channel_core.specs.declared.side.Side.{Side}
@@ -74,6 +74,10 @@ module _ {T P W : Type 0} (old new : State T P W) (handed : Handed W) where
   hands_takes place (Some pair) h = hands_frees h.2
   hands_takes place None h = hands_refuses h.1
 
+  hands_changes : (place : ℕ) (priority : P) (reply : Result P P) → ChangesPriority old place priority reply handed new → Hands
+  hands_changes place priority (Ok was) h = hands_nobody (record old { pending = new.pending }) h.2 h.3 refl
+  hands_changes place priority (Err back) h = hands_refuses h.2
+
   pub hands_receives : (cmp : P → P → Ordering) (reply : Result (T × P) TryRecvError) → Receives cmp old reply handed new → Hands
   hands_receives cmp (Ok pair) h = hands_frees h.1
   hands_receives cmp (Err recv_error.Closed) h = hands_refuses h.2
@@ -121,6 +125,7 @@ module _ {T P W : Type 0} (old new : State T P W) (handed : Handed W) where
     hands (call.TrySendEvicting msg priority) (answer.TrySendEvicting reply) d h = hands_evicts old new handed cmp (msg, priority) reply h
     hands call.TryRecv (answer.TryRecv reply) d h = hands_receives old new handed cmp reply h
     hands (call.TakeWhere place) (answer.TakeWhere reply) d h = hands_takes old new handed place reply h
+    hands (call.ChangePriority place priority) (answer.ChangePriority reply) d h = hands_changes old new handed place priority reply h
     hands call.Close (answer.Close true) d h = hands_shuts old new handed old h.1 refl
     hands call.Close (answer.Close false) d h = hands_refuses old new handed h.1
     hands call.IsClosed (answer.IsClosed told) d h = hands_refuses old new handed h.1

@@ -1,7 +1,6 @@
 //! The end of a channel, with its balance.
-ghost use Rattle.std.specs.Prelude.{◌≡◌, ◌++◌, map, vec_len};
-ghost use Rattle.std.specs.List.Sorted.{IsPermutation};
-ghost use Rattle.priority_channel_laws.specs.Accepted.{accepted_in, received_in, displaced_in, taken_in};
+ghost use Rattle.std.specs.Prelude.{◌≡◌, [], map, vec_len};
+ghost use Rattle.priority_channel_laws.specs.Accepted.{Conserves};
 ghost use Rattle.priority_channel_witnessed.specs.History.{operation_of};
 
 use crate::{Pass, Recording, Seen, Witnessed};
@@ -17,9 +16,7 @@ pub fn settle<T, P: Ord, W: Clone, J: Recording, A: Allocator + Copy, R: Wait>(
     passes: Vec<Pass<T, P, W, J>, A>,
 ) -> (PriorityQueueChannel<T, P, W, A>, Seen<T, P, W, J>)
     requires all { vec_len passes ≡ J.parts }
-    ensures balanced { IsPermutation (accepted_in (map operation_of result.1))
-        (received_in (map operation_of result.1) ++ displaced_in (map operation_of result.1)
-        ++ taken_in (map operation_of result.1) ++ result.0.state.pending) }
+    ensures balanced { Conserves [] (map operation_of result.1) result.0.state.pending }
 {
     channel.end(rt, passes)
 }

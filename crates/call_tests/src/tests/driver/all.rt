@@ -5,7 +5,7 @@ use super::calls::Side::*;
 use super::calls::Way::*;
 
 /// Those of a sender come first, and those that may close the channel last.
-pub const ALL: [Call; 53] = [
+pub const ALL: [Call; 55] = [
     Send(Try),
     Send(Poll),
     Send(Future),
@@ -21,6 +21,7 @@ pub const ALL: [Call; 53] = [
     SendEvicting,
     TakeWhere(Sender),
     Retain(Sender),
+    ChangePriority(Sender),
     Recv(Try),
     Recv(Poll),
     Recv(Future),
@@ -43,6 +44,7 @@ pub const ALL: [Call; 53] = [
     IntoStream(Future),
     TakeWhere(Receiver),
     Retain(Receiver),
+    ChangePriority(Receiver),
     PeekWith,
     PeekPriority,
     Unpolled(Sender),

@@ -36,6 +36,7 @@ pub enum Call {
     IntoStream(Way),
     TakeWhere(Side),
     Retain(Side),
+    ChangePriority(Side),
     RecvIf,
     PeekWith,
     PeekPriority,
@@ -57,6 +58,7 @@ impl Call {
             Call::Send(_) | Call::Sendv(_) | Call::SendEvicting => Side::Sender,
             Call::TakeWhere(side)
             | Call::Retain(side)
+            | Call::ChangePriority(side)
             | Call::Unpolled(side)
             | Call::Look(side)
             | Call::Clone(side)
@@ -126,8 +128,9 @@ pub struct Input {
     pub most: usize,
     /// How long a call with a limit waits at most.
     pub limit: Duration,
-    /// The message that `take_where` takes. `retain` lets go what leaves the same rest by 8, and
-    /// `try_recv_if` receives what leaves the same rest by 2.
+    /// The message that `take_where` takes. `retain` lets go what leaves the same rest by 8,
+    /// `try_recv_if` receives what leaves the same rest by 2, and `change_priority` gives the
+    /// priority of the first pair that is sent to the first message of this kind.
     pub chosen: u64,
 }
 

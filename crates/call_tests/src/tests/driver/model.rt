@@ -2,6 +2,7 @@
 use super::calls::{Call, Input, Pair, Pairs, Side, Way};
 use super::reply::{Looks, Outcome, Reply};
 use crate::tests::Host;
+use std::mem;
 
 #[derive(Debug, Drop)]
 pub struct Model {
@@ -63,6 +64,7 @@ impl Model {
             }
             Call::TakeWhere(_) => self.take_where(rt, input.chosen),
             Call::Retain(_) => self.retain(rt, input.chosen),
+            Call::ChangePriority(_) => self.change_priority(rt, input),
             Call::RecvIf => self.receive_if(rt, input.chosen),
             Call::PeekWith => {
                 let seen = self.first_greatest().map(|(_, pair)| pair);
@@ -255,6 +257,17 @@ impl Model {
         self.pending = kept;
         reply.pairs.sort().expect(rt, "memory for the model");
         reply
+    }
+
+    fn change_priority(&mut self, rt: &impl Host, input: Input) -> Reply {
+        let (_, priority) = input.pair();
+        for pair in self.pending.iter_mut() {
+            if pair.0 % 2 == input.chosen % 2 {
+                let was = mem::replace(&mut pair.1, priority);
+                return Reply::found(rt, Some((0, was)), Outcome::Empty);
+            }
+        }
+        Reply::new(rt, Outcome::Empty)
     }
 
     fn remove(&mut self, place: usize) {

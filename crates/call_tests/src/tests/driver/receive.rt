@@ -42,6 +42,7 @@ pub fn receive<R: Host, A: Allocator + Copy>(
         }
         Call::TakeWhere(Side::Receiver) => take_where(rt, rx, input.chosen),
         Call::Retain(Side::Receiver) => retain(rt, rx, input.chosen),
+        Call::ChangePriority(Side::Receiver) => change_priority(rt, rx, input),
         Call::RecvIf => receive_if(rt, rx, input.chosen),
         _peek => peek(rt, rx, call),
     }
@@ -180,6 +181,17 @@ pub fn retain<S: Role, R: Host, A: Allocator + Copy>(
     let mut reply = Reply::with(rt, Outcome::Done, taken.iter().copied());
     reply.pairs.sort().expect(rt, "memory for a reply");
     reply
+}
+
+/// Changes a priority by either handle. The reply has the old one.
+pub fn change_priority<S: Role, R: Host, A: Allocator + Copy>(
+    rt: &R,
+    end: &End<S, u64, u64, R, A>,
+    input: Input,
+) -> Reply {
+    let (_, priority) = input.pair();
+    let was = end.change_priority(|msg, _| *msg % 2 == input.chosen % 2, priority);
+    Reply::found(rt, was.map(|was| (0, was)), Outcome::Empty)
 }
 
 /// What a future answers, or one that is pending.

@@ -1,6 +1,6 @@
 //! The calls of a sender.
 use super::calls::{Call, Input, Pair, Pairs, Side, Way};
-use super::receive::{retain, take_where};
+use super::receive::{change_priority, retain, take_where};
 use super::reply::{Looks, Outcome, Refusal, Reply, looks};
 use crate::tests::Host;
 use async_priority_channel::Sender;
@@ -29,6 +29,7 @@ pub fn send<R: Host, A: Allocator + Copy>(
         },
         Call::TakeWhere(Side::Sender) => take_where(rt, tx, input.chosen),
         Call::Retain(Side::Sender) => retain(rt, tx, input.chosen),
+        Call::ChangePriority(Side::Sender) => change_priority(rt, tx, input),
         Call::Unpolled(Side::Sender) => {
             drop(tx.send(msg, priority));
             drop(tx.sendv(input.pairs.peekable()));

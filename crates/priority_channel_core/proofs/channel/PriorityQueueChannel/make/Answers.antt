@@ -1,6 +1,6 @@
 use Rattle.std.specs.Prelude.{true}
 use Rattle.priority_channel_bag.specs.Least.{Tells}
-use Rattle.priority_channel_core.proofs.Runs.{makes_taking, made_meets}
+use Rattle.priority_channel_core.proofs.Runs.{makes_taking, taking_meets, makes_change, change_meets}
 use Rattle.priority_channel_core.proofs.channel.PriorityQueueChannel.make.Goals as goal
 
 pub returns-in-TakeWhere-clause-step : goal.returns-in-TakeWhere-clause-step
@@ -10,5 +10,15 @@ returns-in-TakeWhere-clause-step g c =
 
 pub returns-in-TakeWhere-clause-meets : goal.returns-in-TakeWhere-clause-meets
 returns-in-TakeWhere-clause-meets g c =
-    made_meets (λ test pair. Tells g.F.Fn test pair true) _ _ c.in-TakeWhere.test c.take_where-taken.result.0 c.in-TakeWhere.is c.new-in-TakeWhere.ensures.answer
+    taking_meets (λ test pair. Tells g.F.Fn test pair true) _ _ c.in-TakeWhere.test c.take_where-taken.result.0 c.in-TakeWhere.is c.new-in-TakeWhere.ensures.answer
     c.take_where-taken.ensures.meets
+
+pub returns-in-ChangePriority-clause-step : goal.returns-in-ChangePriority-clause-step
+returns-in-ChangePriority-clause-step g c =
+    makes_change _ _ _ _ _ _ _ _ c.in-ChangePriority.test c.in-ChangePriority.priority c.change_priority-changed.result c.in-ChangePriority.is c.new-in-ChangePriority.ensures.answer
+    (rw (c.new-in-ChangePriority.ensures.handed, c.nobody.ensures) c.change_priority-changed.ensures.step)
+
+pub returns-in-ChangePriority-clause-meets : goal.returns-in-ChangePriority-clause-meets
+returns-in-ChangePriority-clause-meets g c =
+    change_meets (λ test pair. Tells g.F.Fn test pair true) _ _ c.in-ChangePriority.test c.in-ChangePriority.priority c.change_priority-changed.result _ _ _
+    c.in-ChangePriority.is c.new-in-ChangePriority.ensures.answer c.change_priority-changed.ensures.first
