@@ -39,6 +39,8 @@ pub enum Call {
     RecvIf,
     PeekWith,
     PeekPriority,
+    /// A wait for the close.
+    Closed(Side, Way),
     /// Each kind of future, stream and loop is dropped as it was made.
     Unpolled(Side),
     Look(Side),
@@ -57,6 +59,7 @@ impl Call {
             Call::Send(_) | Call::Sendv(_) | Call::SendEvicting => Side::Sender,
             Call::TakeWhere(side)
             | Call::Retain(side)
+            | Call::Closed(side, _)
             | Call::Unpolled(side)
             | Call::Look(side)
             | Call::Clone(side)
@@ -75,7 +78,8 @@ impl Call {
             | Call::Recv(way)
             | Call::RecvMany(way)
             | Call::Stream(way)
-            | Call::IntoStream(way) => way,
+            | Call::IntoStream(way)
+            | Call::Closed(_, way) => way,
             Call::Iter | Call::IntoIter => Way::Blocking,
             _at_once => Way::Try,
         }
