@@ -7,11 +7,12 @@ use Rattle.priority_channel_core.specs.declared.side.Side.{Side}
 use Rattle.priority_channel_core.specs.declared.side.Side.TheVariants.{Room, Message}
 
 -- the parts of a channel that never change: its capacity, and the sources at which tasks wait on
--- the send side (`room`) and on the receive side (`message`)
+-- the send side (`room`), on the receive side (`message`), and for the close (`closing`)
 pub record Channel : Type 0 where
   pub capacity : ℕ
   pub room : ℕ
   pub message : ℕ
+  pub closing : ℕ
 
 -- the source at which tasks wait on this side
 abbrev pub source_of : Side → Channel → ℕ
@@ -41,6 +42,13 @@ pub record Batching (X : Type 0) : Type 0 where
   pub channel : Channel
   pub limit : ℕ
   pub batch : List X
+  pub is_done : Bool
+
+-- a future that waits for the close, the ticket under which it is listed, and whether it has
+-- answered
+pub record Watching : Type 0 where
+  pub channel : Channel
+  pub ticket : Option ℕ
   pub is_done : Bool
 
 -- the error of a send gives back what the future kept

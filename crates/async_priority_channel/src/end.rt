@@ -17,8 +17,9 @@ pub trait Role: Copy {
     const SIDE: Side;
 }
 
-/// A handle of a channel: a `Sender` or a `Receiver`. Both have `close`, `close_on_drop`,
-/// `downgrade`, `same_channel`, `clone`, `take_where`, `retain`, `change_priority`, and the queries
+/// A handle of a channel: a `Sender` or a `Receiver`. Both have `close`, `close_on_drop`, `closed`
+/// with its variants, `downgrade`, `same_channel`, `clone`, `take_where`, `retain`,
+/// `change_priority`, and the queries
 /// `is_closed`, `is_empty`, `is_full`, `len`, `capacity`, `sender_count`, `receiver_count` and
 /// `count_where`.
 ///

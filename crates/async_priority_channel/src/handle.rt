@@ -12,9 +12,10 @@ use crate::identity::Identity;
 use futures::task::{Context, Source};
 use priority_channel_core::awaitable_atomics::Wakes;
 use priority_channel_core::side::Side;
+use priority_channel_waiting::closing::{Closing, SeenClosed, Watch};
 use priority_channel_waiting::line::Line;
 use priority_channel_waiting::spins::Spins;
-use priority_channel_waiting::waiter::{Core, Waiter, wake_all};
+use priority_channel_waiting::waiter::{Core, Waiter, wake_all, wake_each};
 use std::alloc::{AllocError, Allocator};
 use std::marker::Model;
 use std::random::RandomSource;
@@ -49,13 +50,22 @@ impl<A: Allocator> Waits<A> {
     }
 }
 
+/// What the channel's lock guards: the core, and those who wait for the close.
+#[derive(Drop)]
+struct Guarded<T, P: Ord, A: Allocator + Copy> {
+    core: Core<T, P, A>,
+    closing: Closing<A>,
+}
+
 #[derive(Drop)]
 struct Shared<T, P: Ord, A: Allocator + Copy> {
     alloc: A,
     capacity: u64,
     room: Waits<A>,
     message: Waits<A>,
-    core: Mutex<Core<T, P, A>>,
+    // The source of the tasks that wait for the close.
+    closing: Source,
+    guarded: Mutex<Guarded<T, P, A>>,
     // Whether pending messages are dropped when the last receiver is dropped.
     lets_go: AtomicBool,
     identity: Identity,
@@ -66,7 +76,12 @@ impl<T, P: Ord, A: Allocator + Copy> Model for Shared<T, P, A> {
 
     ghost Value = { Channel };
 
-    ghost view = { λ s. record { capacity = s.capacity; room = s.room; message = s.message } };
+    ghost view = { λ s. record {
+      capacity = s.capacity;
+      room = s.room;
+      message = s.message;
+      closing = s.closing.id;
+    } };
 }
 
 /// What a sender or a receiver holds: the data that all handles of a channel share, and the
@@ -89,34 +104,46 @@ impl<T, P: Ord, R, A: Allocator + Copy> Model for Handle<T, P, R, A> {
 /// The core under its lock. Code cannot forget it, since it is not `Drop`: a hold ends by `unlock`,
 /// or by `Handle::release`, which also wakes the waiters that a call took off the lists. These
 /// (`Wakes`) are not `Drop` either. So a call that takes waiters off the lists is followed by
-/// `release`, and no waiter is woken under the lock.
+/// `release`, and no waiter is woken under the lock. A call that may close the channel returns
+/// `Wakes`, so it is followed by `release` too.
 pub struct Held<'h, T, P: Ord, A: Allocator + Copy> {
-    core: MutexGuard<'h, Core<T, P, A>>,
+    guarded: MutexGuard<'h, Guarded<T, P, A>>,
 }
 
 impl<T, P: Ord, A: Allocator + Copy> Held<'_, T, P, A> {
     #[inline(always)]
     pub fn core(&mut self) -> &mut Core<T, P, A> {
-        &mut self.core
+        &mut self.guarded.core
+    }
+
+    /// Lists a waiter for the close, as `Closing` does.
+    pub fn listen(&mut self, ticket: Option<u64>, waiter: &Waiter<A>) -> Watch {
+        let guarded = &mut *self.guarded;
+        guarded.closing.listen(&guarded.core, ticket, waiter)
+    }
+
+    /// Takes a waiter for the close off the list.
+    pub fn unlisten(&mut self, ticket: u64) {
+        self.guarded.closing.unlisten(ticket);
     }
 
     /// Releases the lock after calls that took no waiter off the lists.
     pub fn unlock(self) {
-        let Held { core } = self;
-        drop(core);
+        let Held { guarded } = self;
+        drop(guarded);
     }
 }
 
 /// The core under its lock, for queries.
 #[derive(Drop)]
 pub struct Look<'h, T, P: Ord, A: Allocator + Copy> {
-    core: MutexGuard<'h, Core<T, P, A>>,
+    guarded: MutexGuard<'h, Guarded<T, P, A>>,
 }
 
 impl<T, P: Ord, A: Allocator + Copy> Look<'_, T, P, A> {
     #[inline(always)]
     pub fn core(&self) -> &Core<T, P, A> {
-        &self.core
+        &self.guarded.core
     }
 }
 
@@ -141,7 +168,11 @@ impl<T: Drop, P: Ord + Drop, R: Wait + Clone, A: Allocator + Copy> Handle<T, P, 
                     capacity,
                     room: Waits::new(alloc),
                     message: Waits::new(alloc),
-                    core: Mutex::new(core),
+                    closing: Source::new(),
+                    guarded: Mutex::new(Guarded {
+                        core,
+                        closing: Closing::new(alloc),
+                    }),
                     lets_go: AtomicBool::new(false),
                     identity: Identity::new(),
                 },
@@ -166,24 +197,41 @@ impl<T, P: Ord, R: Wait + Clone, A: Allocator + Copy> Handle<T, P, R, A> {
     #[inline(always)]
     pub fn hold(&self) -> Held<'_, T, P, A> {
         Held {
-            core: self.shared.core.lock(&self.rt),
+            guarded: self.shared.guarded.lock(&self.rt),
         }
     }
 
     /// Releases the lock, and then wakes the waiters that the call under this lock took off the
-    /// waiting lists.
+    /// waiting lists. If the channel is closed by now, it wakes those who wait for the close too.
     #[inline(always)]
     pub fn release(&self, held: Held<'_, T, P, A>, wakes: Wakes<Waiter<A>, A>) {
-        let Held { core } = held;
-        drop(core);
+        if let Some(seen) = SeenClosed::of(&held.guarded.core) {
+            self.release_closed(held, wakes, seen);
+            return;
+        }
+        held.unlock();
         wake_all(&self.rt, wakes);
+    }
+
+    #[inline(never)]
+    fn release_closed(
+        &self,
+        held: Held<'_, T, P, A>,
+        wakes: Wakes<Waiter<A>, A>,
+        seen: SeenClosed,
+    ) {
+        let mut held = held;
+        let closers = held.guarded.closing.take(seen, self.alloc());
+        held.unlock();
+        wake_all(&self.rt, wakes);
+        wake_each(&self.rt, closers);
     }
 
     /// Locks the core for queries.
     #[inline(always)]
     pub fn look(&self) -> Look<'_, T, P, A> {
         Look {
-            core: self.shared.core.lock(&self.rt),
+            guarded: self.shared.guarded.lock(&self.rt),
         }
     }
 
@@ -226,6 +274,19 @@ impl<T, P: Ord, R: Wait + Clone, A: Allocator + Copy> Handle<T, P, R, A> {
         ensures kept { Keeps cx.old cx.new }
     {
         let source = &self.waits(side).source;
+        Waiter::register(&self.rt, self.shared.alloc, cx, source, waiter)
+    }
+
+    /// The same for a task that waits for the close.
+    pub fn register_for_close<'k>(
+        &self,
+        cx: &mut Context<'_>,
+        waiter: &'k mut Option<Waiter<A>>,
+    ) -> Option<&'k Waiter<A>>
+        ensures heard { IsSome result → IsArmed cx.new × Hears cx.new self.now.closing }
+        ensures kept { Keeps cx.old cx.new }
+    {
+        let source = &self.shared.closing;
         Waiter::register(&self.rt, self.shared.alloc, cx, source, waiter)
     }
 

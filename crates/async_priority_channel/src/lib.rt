@@ -88,6 +88,10 @@
 //! assert_eq!(rt; rx.try_recv(), Err(TryRecvError::Closed));
 //! ```
 //!
+//! A task that awaits `closed`, or a thread in `closed_blocking` or `closed_timeout`, goes on as
+//! soon as the channel is closed. So a producer stops when nobody listens any more, also while it
+//! has nothing to send.
+//!
 //! A weak handle, which `downgrade` makes, does not keep the channel open. The guard that
 //! `close_on_drop` makes closes its channel however a scope is left, so that no sender or receiver
 //! waits for one that has failed.
@@ -230,6 +234,7 @@
 mod blocking;
 mod channel;
 mod close_on_drop;
+mod closed;
 mod end;
 mod handle;
 mod identity;
@@ -258,5 +263,5 @@ pub use priority_channel_waiting::timeouts::{RecvTimeoutError, SendTimeoutError}
 pub use receiver::{Receiver, Receiving};
 pub use sender::{Sender, Sending};
 pub use stream::{IntoStream, RecvStream};
-pub use waiting::{Recv, Send, Sendv};
+pub use waiting::{Closed, Recv, Send, Sendv};
 pub use weak::{Weak, WeakReceiver, WeakSender};

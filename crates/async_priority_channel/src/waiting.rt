@@ -1,10 +1,12 @@
 //! The futures, and their states between polls.
 
+mod closed;
 mod recv;
 mod send;
 mod sendv;
 mod task;
 
+pub use closed::Closed;
 pub use priority_channel_waiting::states::{RecvState, SendState, SendvState};
 pub use recv::Recv;
 pub use send::Send;

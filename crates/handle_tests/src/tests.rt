@@ -5,6 +5,7 @@ use std::process::Abort;
 
 mod batches;
 mod bulk;
+mod closed;
 mod combined;
 mod drops;
 mod errors;

@@ -2,3 +2,4 @@ pub mod LeftOver
 pub mod Holdings
 pub mod Tries
 pub mod Ends
+pub mod Closers

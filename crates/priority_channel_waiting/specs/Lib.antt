@@ -2,3 +2,4 @@ pub mod Waits
 pub mod Tails
 pub mod Holding
 pub mod Ends
+pub mod Closers

@@ -6,6 +6,7 @@
 #![tactic(auto)]
 
 pub mod attempts;
+pub mod closing;
 pub mod line;
 mod reading;
 pub mod spins;

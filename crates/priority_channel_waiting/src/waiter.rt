@@ -139,10 +139,14 @@ impl<A: Allocator> Clone for Waiter<A> {
 #[inline(always)]
 pub fn wake_all<R: Wait, A: Allocator>(rt: &R, wakes: Wakes<Waiter<A>, A>) {
     let (room, message) = wakes.into_lists();
-    for (_, waker) in room {
-        waker.wake(rt);
-    }
-    for (_, waker) in message {
-        waker.wake(rt);
+    wake_each(rt, room);
+    wake_each(rt, message);
+}
+
+/// Wakes the waiters of one list, as `wake_all` does.
+#[inline(always)]
+pub fn wake_each<R: Wait, A: Allocator>(rt: &R, waiters: Vec<(u64, Waiter<A>), A>) {
+    for (_, waiter) in waiters {
+        waiter.wake(rt);
     }
 }

@@ -5,6 +5,7 @@ mod aging;
 mod blind_bound;
 mod ends;
 mod own_queue;
+mod producer;
 mod replies;
 mod timer;
 
@@ -14,5 +15,6 @@ fn main(rt: HostRuntime) -> anyhow::Result<()> {
     replies::run(rt)?;
     aging::run(&rt)?;
     blind_bound::run(&rt)?;
-    timer::run(rt)
+    timer::run(rt)?;
+    producer::run(rt)
 }

@@ -6,6 +6,7 @@
 
 pub mod all;
 pub mod calls;
+pub mod closed;
 pub mod handles;
 pub mod model;
 pub mod receive;

@@ -4,6 +4,7 @@ use std::thread::{self, Threads};
 use std::time::{Clock, Duration};
 
 mod clocks;
+mod closed;
 mod either;
 mod gate;
 mod limits;

@@ -190,6 +190,53 @@ fn example_of_end_close_on_drop_2(rt: HostRuntime) {
     expect_equal(&rt, answers.try_recv(), Err(TryRecvError::Closed));
 }
 
+#[test]
+fn example_of_end_closed(rt: HostRuntime) {
+    let (tx, rx) = unbounded::<&str, u64, _, _>(&rt, rt.alloc()).expect(&rt, "unbounded");
+    let receiving = thread::spawn(&rt, move || drop(rx)).expect(&rt, "spawn");
+    expect_equal(&rt, wait_for(&rt, tx.closed()), Ok(()));
+    expect_true(&rt, tx.is_closed());
+    receiving.join(&rt);
+}
+
+#[test]
+fn example_of_end_closed_blocking(rt: HostRuntime) {
+    let (tx, rx) = unbounded(&rt, rt.alloc()).expect(&rt, "unbounded");
+    let waiting = thread::spawn(&rt, move || (tx.closed_blocking(), tx)).expect(&rt, "spawn");
+    drop(rx);
+    let (waited, tx) = waiting.join(&rt);
+    expect_equal(&rt, waited, Ok(()));
+    expect_equal(
+        &rt,
+        tx.try_send("Foo", 0),
+        Err(TrySendError::Closed(("Foo", 0))),
+    );
+}
+
+#[test]
+fn example_of_end_closed_timeout(rt: HostRuntime) {
+    let (tx, rx) = unbounded::<&str, u64, _, _>(&rt, rt.alloc()).expect(&rt, "unbounded");
+    let limit = Duration::from_millis(5);
+    expect_equal(&rt, tx.closed_timeout(limit), Ok(false));
+    drop(rx);
+    expect_equal(&rt, tx.closed_timeout(limit), Ok(true));
+}
+
+#[test]
+fn example_of_end_closed_deadline(rt: HostRuntime) {
+    let (tx, rx) = unbounded::<&str, u64, _, _>(&rt, rt.alloc()).expect(&rt, "unbounded");
+    let limit = Duration::from_millis(5);
+    let deadline = Instant::now(&rt)
+        .expect(&rt, "now")
+        .checked_add(limit)
+        .ok_or("too late")
+        .expect(&rt, "ok_or");
+    expect_equal(&rt, tx.closed_deadline(deadline), Ok(false));
+    expect_true(&rt, deadline <= Instant::now(&rt).expect(&rt, "now"));
+    rx.close();
+    expect_equal(&rt, tx.closed_deadline(deadline), Ok(true));
+}
+
 fn is_idle<S: Role, R: Wait + Clone>(end: &End<S, u64, u64, R>) -> bool {
     end.is_empty() && !end.is_closed()
 }
@@ -832,6 +879,15 @@ fn example_of_receiver_try_recv_if(rt: HostRuntime) {
     let urgent = rx.try_recv_if(|_, priority| *priority > 5);
     expect_equal(&rt, urgent, Ok(Some(("page the admin", 9))));
     expect_equal(&rt, rx.len(), 1);
+}
+
+#[test]
+fn example_of_closed(rt: HostRuntime) {
+    let (tx, rx) = unbounded::<&str, u64, _, _>(&rt, rt.alloc()).expect(&rt, "unbounded");
+    let mut closed = tx.closed();
+    expect_equal(&rt, wait_for(&rt, poll_immediate(&mut closed)), None);
+    drop(rx);
+    expect_equal(&rt, wait_for(&rt, closed), Ok(()));
 }
 
 #[test]

@@ -5,7 +5,7 @@ use super::calls::Side::*;
 use super::calls::Way::*;
 
 /// Those of a sender come first, and those that may close the channel last.
-pub const ALL: [Call; 55] = [
+pub const ALL: [Call; 65] = [
     Send(Try),
     Send(Poll),
     Send(Future),
@@ -47,6 +47,16 @@ pub const ALL: [Call; 55] = [
     ChangePriority(Receiver),
     PeekWith,
     PeekPriority,
+    Closed(Sender, Poll),
+    Closed(Sender, Future),
+    Closed(Sender, Blocking),
+    Closed(Sender, Timeout),
+    Closed(Sender, Deadline),
+    Closed(Receiver, Poll),
+    Closed(Receiver, Future),
+    Closed(Receiver, Blocking),
+    Closed(Receiver, Timeout),
+    Closed(Receiver, Deadline),
     Unpolled(Sender),
     Unpolled(Receiver),
     Look(Sender),

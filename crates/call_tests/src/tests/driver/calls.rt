@@ -40,6 +40,8 @@ pub enum Call {
     RecvIf,
     PeekWith,
     PeekPriority,
+    /// A wait for the close.
+    Closed(Side, Way),
     /// Each kind of future, stream and loop is dropped as it was made.
     Unpolled(Side),
     Look(Side),
@@ -59,6 +61,7 @@ impl Call {
             Call::TakeWhere(side)
             | Call::Retain(side)
             | Call::ChangePriority(side)
+            | Call::Closed(side, _)
             | Call::Unpolled(side)
             | Call::Look(side)
             | Call::Clone(side)
@@ -77,7 +80,8 @@ impl Call {
             | Call::Recv(way)
             | Call::RecvMany(way)
             | Call::Stream(way)
-            | Call::IntoStream(way) => way,
+            | Call::IntoStream(way)
+            | Call::Closed(_, way) => way,
             Call::Iter | Call::IntoIter => Way::Blocking,
             _at_once => Way::Try,
         }

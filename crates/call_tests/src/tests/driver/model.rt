@@ -39,6 +39,7 @@ impl Model {
             return false;
         }
         match call {
+            Call::Closed(..) => true,
             Call::Send(_) => self.room() == 0,
             Call::Sendv(_) => self.room() < input.pairs.count.max(1),
             Call::Iter | Call::IntoIter => self.pending.len() < input.most,
@@ -85,6 +86,8 @@ impl Model {
         let was_closed = self.is_closed;
         match call {
             Call::Look(_) => return Outcome::Looks(self.look()),
+            Call::Closed(_, way) if !was_closed => return blocked(way, Outcome::Impossible),
+            Call::Closed(..) => return Outcome::Done,
             Call::Clone(side) => self.add(side),
             Call::Upgrade(side) => {
                 if !was_closed {

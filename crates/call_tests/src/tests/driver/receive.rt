@@ -2,6 +2,7 @@
 ghost use Rattle.std.specs.Iterator.{IsFinite};
 
 use super::calls::{Call, Input, Pair, Side, Way};
+use super::closed::wait_closed;
 use super::reply::{Looks, Outcome, Refusal, Reply, looks};
 use super::send::deadline_of;
 use crate::tests::Host;
@@ -29,8 +30,15 @@ pub fn receive<R: Host, A: Allocator + Copy>(
         Call::TryIter => tell_loop(rt, rx.try_iter().take(most), most),
         Call::Iter => tell_loop(rt, rx.iter().take(most), most),
         Call::IntoIter => tell_loop(rt, other(rt, rx).into_iter().take(most), most),
+        Call::Closed(Side::Receiver, way) => wait_closed(rt, rx, way, input),
         Call::Unpolled(Side::Receiver) => {
-            drop((rx.recv(), rx.stream(), rx.iter(), rx.try_iter()));
+            drop((
+                rx.recv(),
+                rx.stream(),
+                rx.iter(),
+                rx.try_iter(),
+                rx.closed(),
+            ));
             drop(rx.recv_many(&mut Vec::new(alloc), most));
             Reply::new(rt, Outcome::Done)
         }

@@ -1,5 +1,6 @@
 //! The calls of a sender.
 use super::calls::{Call, Input, Pair, Pairs, Side, Way};
+use super::closed::wait_closed;
 use super::receive::{change_priority, retain, take_where};
 use super::reply::{Looks, Outcome, Refusal, Reply, looks};
 use crate::tests::Host;
@@ -30,8 +31,9 @@ pub fn send<R: Host, A: Allocator + Copy>(
         Call::TakeWhere(Side::Sender) => take_where(rt, tx, input.chosen),
         Call::Retain(Side::Sender) => retain(rt, tx, input.chosen),
         Call::ChangePriority(Side::Sender) => change_priority(rt, tx, input),
+        Call::Closed(Side::Sender, way) => wait_closed(rt, tx, way, input),
         Call::Unpolled(Side::Sender) => {
-            drop(tx.send(msg, priority));
+            drop((tx.send(msg, priority), tx.closed()));
             drop(tx.sendv(input.pairs.peekable()));
             Reply::new(rt, Outcome::Done)
         }

@@ -6,7 +6,7 @@ use crate::tests::driver::receive::{receive, tell_many as tell_batch, tell_one a
 use crate::tests::driver::reply::{Outcome, Reply};
 use crate::tests::driver::send::{send, tell_many, tell_one};
 use crate::tests::{Host, expect_equal_at, expect_true, is_pending, new_task, ready, rest};
-use async_priority_channel::bounded;
+use async_priority_channel::{End, Role, bounded};
 use futures::StreamExt;
 use futures::task::Poll;
 use futures::test::MockTask;
@@ -166,6 +166,50 @@ fn wake_senders<R: Host>(rt: &R, tasks: &[MockTask; 2], round: Round) {
     let told = tell_many(rt, sent);
     mirrored.expect(rt, round, (Call::Sendv(Way::Poll), input(8, 2, 0)), told);
     mirrored.agree(rt, round, Call::TryIter, input(0, 0, 9));
+}
+
+// Two futures wait for the close by this handle, which makes no other call but the last.
+fn wake_at_the_close<S: Role, R: Host>(
+    rt: &R,
+    tasks: &[MockTask; 2],
+    (call, input_of_call): (Call, Input),
+    end: &End<S, u64, u64, R>,
+    mut mirrored: Mirrored<R>,
+) {
+    let round = (Situation::Waiting, call, input_of_call);
+    mirrored.agree(rt, round, Call::Sendv(Way::Try), input(1, 2, 0));
+    let mut first = end.closed();
+    let mut second = end.closed();
+    expect_pending(rt, is_pending(tasks[0].poll(&mut first)));
+    expect_pending(rt, is_pending(tasks[1].poll(&mut second)));
+    if !mirrored.model.waits(call, input_of_call) {
+        mirrored.agree(rt, round, call, input_of_call);
+        expect_woken(rt, tasks, round, mirrored.model.is_closed);
+    }
+    end.close();
+    expect_woken(rt, tasks, round, true);
+    let answers = [
+        ready(tasks[0].poll(&mut first)),
+        ready(tasks[1].poll(&mut second)),
+    ];
+    expect_equal_at(rt, round, answers, [Some(Ok(())), Some(Ok(()))]);
+}
+
+#[test]
+fn a_wait_for_the_close_is_woken_by_what_closes(rt: HostRuntime) {
+    let tasks = [new_task(&rt), new_task(&rt)];
+    for call in ALL {
+        for input in inputs() {
+            let (tx, rx) = bounded(&rt, rt.alloc(), CAPACITY).expect(&rt, "a channel");
+            let other = tx.clone().expect(&rt, "a sender");
+            let mirrored = Mirrored::new(&rt, rt.alloc(), (other, rx), CAPACITY, (2, 1));
+            wake_at_the_close(&rt, &tasks, (call, input), &tx, mirrored);
+            let (tx, rx) = bounded(&rt, rt.alloc(), CAPACITY).expect(&rt, "a channel");
+            let other = rx.clone().expect(&rt, "a receiver");
+            let mirrored = Mirrored::new(&rt, rt.alloc(), (tx, other), CAPACITY, (1, 2));
+            wake_at_the_close(&rt, &tasks, (call, input), &rx, mirrored);
+        }
+    }
 }
 
 #[test]

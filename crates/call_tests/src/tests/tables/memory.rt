@@ -38,7 +38,7 @@ fn pending_in(situation: Situation) -> u64 {
 // Whether the call takes no memory of a reserved channel.
 fn takes_none(call: Call, is_blocked: bool) -> bool {
     match call {
-        Call::RecvMany(_) | Call::Retain(_) => false,
+        Call::RecvMany(_) | Call::Retain(_) | Call::Closed(_, Way::Poll) => false,
         _ => call.way() != Way::Poll || !is_blocked,
     }
 }
@@ -172,6 +172,8 @@ fn dropped_futures_leave_their_places(rt: HostRuntime) {
     let ends = bounded_reserved(&rt, &alloc, 1).expect(&rt, "a channel");
     let mut handles = Handles::new(&rt, &alloc, ends);
     for call in [
+        Call::Closed(Side::Sender, Way::Poll),
+        Call::Closed(Side::Receiver, Way::Poll),
         Call::Recv(Way::Poll),
         Call::Stream(Way::Poll),
         Call::IntoStream(Way::Poll),

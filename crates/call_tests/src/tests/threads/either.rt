@@ -29,8 +29,9 @@ pub fn is_batch(call: Call) -> bool {
     matches!(call, Call::RecvMany(_))
 }
 
+/// Whether it waits for room or for a message.
 pub fn waits(call: Call) -> bool {
-    !matches!(call.way(), Way::Try | Way::Poll)
+    !matches!(call.way(), Way::Try | Way::Poll) && !matches!(call, Call::Closed(..))
 }
 
 /// The calls that wait for a limited time.

@@ -47,7 +47,7 @@ enum By {
 
 // The calls in turn. A send that is dropped would take its message with it.
 fn turn_of(by: By, side: Side, turn: u64) -> Call {
-    let call = ALL[(turn % 55) as usize];
+    let call = ALL[(turn % 65) as usize];
     if by == By::AllCalls && call.side() == side && call.way() != Way::Poll && moves(call) {
         return call;
     }

@@ -121,6 +121,8 @@ pub fn ask_sender<R: Host, A: Allocator + Copy>(rt: &R, tx: &Tx<R, A>, call: &[T
             told_sent_all(rt, tx.sendv_timeout(pairs(rt, msgs), Duration::ZERO))
         }
         ["close"] => told(rt, tx.close()),
+        ["closed_blocking"] => told(rt, tx.closed_blocking()),
+        ["closed_timeout"] => told(rt, tx.closed_timeout(Duration::ZERO)),
         ["debug"] => told(rt, tx),
         _ => panic!(rt; "a sender has no call {call:?}"),
     }
@@ -167,6 +169,8 @@ pub fn ask_receiver<R: Host, A: Allocator + Copy>(
         }
         ["count"] => told(rt, rx.try_iter().count()),
         ["close"] => told(rt, rx.close()),
+        ["closed_blocking"] => told(rt, rx.closed_blocking()),
+        ["closed_timeout"] => told(rt, rx.closed_timeout(Duration::ZERO)),
         ["debug"] => told(rt, rx),
         _ => panic!(rt; "a receiver has no call {call:?}"),
     }

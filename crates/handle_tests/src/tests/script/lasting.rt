@@ -1,7 +1,10 @@
 //! Futures, streams and guards by their names, and the tasks that poll them.
 use super::handles::{Handle, Rx, Tx};
 use super::words::{Bulk, Host, Text, letter, number, pairs, told, told_sent, told_sent_all};
-use async_priority_channel::{CloseOnDrop, IntoStream, Recv, RecvMany, RecvStream, Send, Sendv};
+use async_priority_channel::{
+    CloseOnDrop, Closed, IntoStream, Receiving, Recv, RecvMany, RecvStream, Role, Send, Sending,
+    Sendv,
+};
 use futures::StreamExt;
 use futures::task::Poll;
 use futures::test::MockTask;
@@ -18,6 +21,8 @@ pub enum Lasting<'a, R: Host, A: Allocator + Copy> {
     Stream(RecvStream<'a, char, u64, R, A>),
     IntoStream(IntoStream<char, u64, R, A>),
     Guard(CloseOnDrop<'a, char, u64, R, A>),
+    ClosedOfSender(Closed<'a, Sending, char, u64, R, A>),
+    ClosedOfReceiver(Closed<'a, Receiving, char, u64, R, A>),
 }
 
 fn begin_by_sender<'a, R: Host, A: Allocator + Copy>(
@@ -31,6 +36,7 @@ fn begin_by_sender<'a, R: Host, A: Allocator + Copy>(
         }
         ["sendv", msgs @ ..] => Lasting::Sendv(tx.sendv(pairs(rt, msgs))),
         ["close_on_drop"] => Lasting::Guard(tx.close_on_drop()),
+        ["closed"] => Lasting::ClosedOfSender(tx.closed()),
         _ => panic!(rt; "a sender has no call {call:?}"),
     }
 }
@@ -49,6 +55,7 @@ fn begin_by_receiver<'a, R: Host, A: Allocator + Copy>(
         }
         ["stream"] => Lasting::Stream(rx.stream()),
         ["close_on_drop"] => Lasting::Guard(rx.close_on_drop()),
+        ["closed"] => Lasting::ClosedOfReceiver(rx.closed()),
         _ => panic!(rt; "a receiver has no call {call:?}"),
     }
 }
@@ -125,6 +132,14 @@ fn poll_into_stream<R: Host, A: Allocator + Copy>(
     told_polled(rt, task.poll(&mut stream.next()))
 }
 
+fn poll_closed<S: Role, R: Host, A: Allocator + Copy>(
+    rt: &R,
+    closed: &mut Closed<'_, S, char, u64, R, A>,
+    task: &MockTask,
+) -> String {
+    told_polled(rt, task.poll(closed))
+}
+
 pub fn poll<R: Host, A: Allocator + Copy>(
     rt: &R,
     lasting: &mut Lasting<'_, R, A>,
@@ -137,6 +152,8 @@ pub fn poll<R: Host, A: Allocator + Copy>(
         Lasting::RecvMany(recv_many) => poll_recv_many(rt, recv_many, task),
         Lasting::Stream(stream) => poll_stream(rt, stream, task),
         Lasting::IntoStream(stream) => poll_into_stream(rt, stream, task),
+        Lasting::ClosedOfSender(closed) => poll_closed(rt, closed, task),
+        Lasting::ClosedOfReceiver(closed) => poll_closed(rt, closed, task),
         Lasting::Guard(_) => panic!(rt; "a guard is no future"),
     }
 }

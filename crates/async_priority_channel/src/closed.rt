@@ -1,0 +1,204 @@
+//! The calls that wait for the close of a channel.
+ghost use Rattle.std.specs.Prelude.{◌≡◌, None, IfOk, IfErr, IsSome, false};
+ghost use Rattle.futures.specs.Task.{Covers, Keeps};
+ghost use Rattle.futures.specs.Poll.{IfReady, OnPending};
+
+use crate::end::{End, Role};
+use crate::handle::Handle;
+use crate::waiting::Closed;
+use futures::task::{Context, Poll};
+use priority_channel_waiting::closing::{SeenClosed, Watch};
+use priority_channel_waiting::until::{Deadline, Endless, Until};
+use priority_channel_waiting::waiter::Waiter;
+use std::alloc::{AllocError, Allocator};
+use std::sync::{Wait, WaitMethods};
+use std::time::{Clock, Duration, Instant};
+
+impl<S: Role, T, P: Ord, R: Wait + Clone, A: Allocator + Copy> End<S, T, P, R, A> {
+    /// Waits for the close of the channel, as a future, which does nothing until it is polled. It
+    /// is ready at once if the channel is closed, also if messages are still pending. A task that
+    /// waits for it and for something else, by `select`, stops when nobody listens any more.
+    ///
+    /// The error is that memory for waiting was refused. If the future is dropped, its task is not
+    /// woken by the close.
+    ///
+    /// ```
+    /// let (tx, rx) = unbounded::<&str, u64, _, _>(&rt, rt.alloc())?;
+    /// let receiving = thread::spawn(&rt, move || drop(rx))?;
+    /// assert_eq!(rt; block_on(&rt, tx.closed())?, Ok(()));
+    /// assert!(rt; tx.is_closed());
+    /// receiving.join(&rt);
+    /// ```
+    pub fn closed(&self) -> Closed<'_, S, T, P, R, A>
+        ensures { result ≡ record { channel = self.now; ticket = None; is_done = false } }
+    {
+        Closed::new(self)
+    }
+
+    /// Waits for the close of the channel on this thread, which sleeps meanwhile. It returns at
+    /// once if the channel is closed. Otherwise it asks for memory for its waiter, and for its
+    /// entry in the list of those who wait. The error is that this was refused. The channel is then
+    /// as it was.
+    ///
+    /// Messages do not wake the thread. If nobody closes the channel, it waits without end. It
+    /// blocks an executor, so a task uses `closed`.
+    ///
+    /// ```
+    /// let (tx, rx) = unbounded(&rt, rt.alloc())?;
+    /// let waiting = thread::spawn(&rt, move || (tx.closed_blocking(), tx))?;
+    /// drop(rx);
+    /// let (waited, tx) = waiting.join(&rt);
+    /// assert_eq!(rt; waited, Ok(()));
+    /// assert_eq!(rt; tx.try_send("Foo", 0), Err(TrySendError::Closed(("Foo", 0))));
+    /// ```
+    pub fn closed_blocking(&self) -> Result<(), AllocError> {
+        match self.handle.wait_closed(&Endless)? {
+            Ok(_) => Ok(()),
+            Err(never) => match never {},
+        }
+    }
+
+    /// As `closed_blocking`, but waits no longer than `timeout`, and returns whether the channel is
+    /// closed. If the timeout is zero, it does not wait. There is no limit if the timeout ends past
+    /// the range of the clock.
+    ///
+    /// False is returned only if the channel was open after the clock was read at or past the
+    /// deadline, or if the clock cannot be read.
+    ///
+    /// ```
+    /// let (tx, rx) = unbounded::<&str, u64, _, _>(&rt, rt.alloc())?;
+    /// let limit = Duration::from_millis(5);
+    /// assert_eq!(rt; tx.closed_timeout(limit), Ok(false));
+    /// drop(rx);
+    /// assert_eq!(rt; tx.closed_timeout(limit), Ok(true));
+    /// ```
+    pub fn closed_timeout(&self, timeout: Duration) -> Result<bool, AllocError>
+    where
+        R: Clock,
+    {
+        let deadline = Deadline::after(self.handle.rt(), timeout);
+        Ok(self.handle.wait_closed(&deadline)?.is_ok())
+    }
+
+    /// As `closed_timeout`, but waits no longer than until `deadline`.
+    ///
+    /// ```
+    /// let (tx, rx) = unbounded::<&str, u64, _, _>(&rt, rt.alloc())?;
+    /// let limit = Duration::from_millis(5);
+    /// let deadline = Instant::now(&rt)?.checked_add(limit).ok_or("too late")?;
+    /// assert_eq!(rt; tx.closed_deadline(deadline), Ok(false));
+    /// assert!(rt; deadline <= Instant::now(&rt)?);
+    /// rx.close();
+    /// assert_eq!(rt; tx.closed_deadline(deadline), Ok(true));
+    /// ```
+    pub fn closed_deadline(&self, deadline: Instant) -> Result<bool, AllocError>
+    where
+        R: Clock,
+    {
+        let deadline = Deadline::at(self.handle.rt(), deadline);
+        Ok(self.handle.wait_closed(&deadline)?.is_ok())
+    }
+}
+
+impl<T, P: Ord, R: Wait + Clone, A: Allocator + Copy> Handle<T, P, R, A> {
+    fn see_closed(&self) -> Option<SeenClosed> {
+        SeenClosed::of(self.look().core())
+    }
+
+    fn listen(&self, ticket: Option<u64>, waiter: &Waiter<A>) -> Watch {
+        let mut held = self.hold();
+        let watch = held.listen(ticket, waiter);
+        held.unlock();
+        watch
+    }
+
+    /// Takes a waiter for the close off the list, if it has a ticket.
+    pub fn unlisten(&self, ticket: Option<u64>) {
+        if let Some(ticket) = ticket {
+            let mut held = self.hold();
+            held.unlisten(ticket);
+            held.unlock();
+        }
+    }
+
+    // Waits until the channel is seen closed, or the time is over. The clock is read before each
+    // look, so a look that is the last one comes at the deadline or later.
+    fn wait_closed<U: Until>(&self, until: &U) -> Result<Result<SeenClosed, U::Over>, AllocError>
+        ensures { IfOk result (λ waited. IfErr waited (U.has_come until.now)) }
+    {
+        let left = until.left();
+        if let Some(seen) = self.see_closed() {
+            return Ok(Ok(seen));
+        }
+        if let Err(over) = left {
+            return Ok(Err(over));
+        }
+        let waiter = Waiter::new(self.alloc())?;
+        match self.listen(None, &waiter) {
+            Watch::Listed(ticket) => Ok(self.sleep_until_closed(ticket, until, &waiter)),
+            Watch::Closed(seen) => Ok(Ok(seen)),
+            Watch::Refused => Err(AllocError),
+        }
+    }
+
+    // Sleeps while it is listed, and looks again after each wake.
+    fn sleep_until_closed<U: Until>(
+        &self,
+        ticket: u64,
+        until: &U,
+        waiter: &Waiter<A>,
+    ) -> Result<SeenClosed, U::Over>
+        ensures { IfErr result (U.has_come until.now) }
+    {
+        for _ in self.rt().forever() {
+            match until.left() {
+                Ok(left) => waiter.park(self.rt(), left),
+                Err(over) => return self.look_last(ticket).ok_or(over),
+            }
+            if let Some(seen) = self.see_closed() {
+                return Ok(seen);
+            }
+        }
+        unreachable!()
+    }
+
+    // Takes the thread off the list, and looks a last time.
+    fn look_last(&self, ticket: u64) -> Option<SeenClosed> {
+        let mut held = self.hold();
+        held.unlisten(ticket);
+        let seen = SeenClosed::of(held.core());
+        held.unlock();
+        seen
+    }
+
+    /// A poll of a future that waits for the close: over its fields, and not done.
+    pub fn poll_closed(
+        &self,
+        cx: &mut Context<'_>,
+        ticket: &mut Option<u64>,
+        waiter: &mut Option<Waiter<A>>,
+    ) -> Poll<Result<(), AllocError>>
+        ensures registered { OnPending result (Covers cx.new (λ source.
+            source ≡ self.now.closing)) }
+        ensures kept { Keeps cx.old cx.new }
+        ensures answered { IfReady result (λ _. ticket.new ≡ None) }
+        ensures listed { OnPending result (IsSome ticket.new) }
+    {
+        let given = ticket.take();
+        if self.see_closed().is_some() {
+            return Poll::Ready(Ok(()));
+        }
+        let Some(waiter) = self.register_for_close(cx, waiter) else {
+            self.unlisten(given);
+            return Poll::Ready(Err(AllocError));
+        };
+        match self.listen(given, waiter) {
+            Watch::Listed(listed) => {
+                *ticket = Some(listed);
+                Poll::Pending
+            }
+            Watch::Closed(_) => Poll::Ready(Ok(())),
+            Watch::Refused => Poll::Ready(Err(AllocError)),
+        }
+    }
+}
