@@ -2,7 +2,9 @@
 #![tactic(auto)]
 
 mod aging;
+mod batches;
 mod blind_bound;
+mod cancel;
 mod ends;
 mod own_queue;
 mod replies;
@@ -14,5 +16,7 @@ fn main(rt: HostRuntime) -> anyhow::Result<()> {
     replies::run(rt)?;
     aging::run(&rt)?;
     blind_bound::run(&rt)?;
+    cancel::run(&rt)?;
+    batches::run(rt)?;
     timer::run(rt)
 }
