@@ -19,9 +19,8 @@ pub trait Role: Copy {
 
 /// A handle of a channel: a `Sender` or a `Receiver`. Both have `close`, `close_on_drop`, `closed`
 /// with its variants, `downgrade`, `same_channel`, `clone`, `take_where`, `retain`,
-/// `change_priority`, and the queries
-/// `is_closed`, `is_empty`, `is_full`, `len`, `capacity`, `sender_count`, `receiver_count` and
-/// `count_where`.
+/// `change_priority`, and the queries `is_closed`, `is_empty`, `is_full`, `len`, `capacity`,
+/// `sender_count`, `receiver_count` and `count_where`.
 ///
 /// A handle can be moved to other threads, lent to them, and cloned. The channel closes when its
 /// last sender or its last receiver is dropped.

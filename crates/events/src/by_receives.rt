@@ -1,9 +1,13 @@
 //! The loop as one receive after another, of whichever channel has something first.
+//!
+//! It is one task: to start a task takes longer than to receive, so `block_on` goes round the loop
+//! and not round each receive.
 use crate::board::Board;
 use crate::event::{Event, Rank, Signal};
 use async_priority_channel::{Receiver, RecvFault};
+use futures::FutureExt;
 use futures::executor::block_on;
-use futures::future::{Either, select};
+use futures::future::{Either, Loop, loop_fn, select};
 use std::alloc::AllocGlobal;
 use std::io::Write;
 use std::random::RandomSource;
@@ -20,15 +24,12 @@ where
     R: Wait + Clone + RandomSource + AllocGlobal,
     W: Write + Drop,
 {
-    let mut board = board;
-    for _ in 0..u64::MAX {
-        match next(rt, events, ticks)? {
-            Ok(signal) => board.handle(signal)?,
-            // One of the channels has ended.
-            Err(RecvFault::Closed(_)) => break,
-            Err(fault) => return Err(fault.into()),
-        }
-    }
+    // Where both have something, `select` takes the first. Ticks are few, and so hold up no event
+    // for long. The receive that comes second is given up, and takes nothing.
+    let until_one_ends = loop_fn(board, |board| {
+        select(ticks.recv(), events.recv()).map(move |first| go_on(board, signal(first)))
+    });
+    let mut board = block_on(rt, until_one_ends)??;
     // Of the two, one is left to be waited for.
     for (event, _) in events {
         board.handle(Signal::Event(event))?;
@@ -39,18 +40,27 @@ where
     Ok(board)
 }
 
-// Where both have something, `select` takes the first. Ticks are few, and so hold up no event for
-// long. The receive that comes second is given up, and takes nothing.
-fn next<'a, R>(
-    rt: &R,
-    events: &'a Receiver<Event, Rank, R>,
-    ticks: &'a Receiver<(), (), R>,
-) -> anyhow::Result<Result<Signal, RecvFault>>
-where
-    R: Wait + Clone + RandomSource + AllocGlobal,
-{
-    match block_on(rt, select(ticks.recv(), events.recv()))? {
-        Either::Left((tick, _)) => Ok(tick.map(|_| Signal::Tick)),
-        Either::Right((event, _)) => Ok(event.map(|(event, _)| Signal::Event(event))),
+// What was received, beside the receive that was given up.
+fn signal<A: Drop, B: Drop>(
+    first: Either<(Result<((), ()), RecvFault>, A), (Result<(Event, Rank), RecvFault>, B)>,
+) -> Result<Signal, RecvFault> {
+    match first {
+        Either::Left((tick, _)) => tick.map(|_| Signal::Tick),
+        Either::Right((event, _)) => event.map(|(event, _)| Signal::Event(event)),
+    }
+}
+
+fn go_on<W: Write + Drop>(
+    mut board: Board<W>,
+    came: Result<Signal, RecvFault>,
+) -> anyhow::Result<Loop<Board<W>, Board<W>>> {
+    match came {
+        Ok(signal) => {
+            board.handle(signal)?;
+            Ok(Loop::Continue(board))
+        }
+        // One of the channels has ended.
+        Err(RecvFault::Closed(_)) => Ok(Loop::Break(board)),
+        Err(fault) => Err(fault.into()),
     }
 }

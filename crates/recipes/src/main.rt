@@ -2,7 +2,9 @@
 #![tactic(auto)]
 
 mod aging;
+mod batches;
 mod blind_bound;
+mod cancel;
 mod ends;
 mod own_queue;
 mod producer;
@@ -15,6 +17,8 @@ fn main(rt: HostRuntime) -> anyhow::Result<()> {
     replies::run(rt)?;
     aging::run(&rt)?;
     blind_bound::run(&rt)?;
+    cancel::run(&rt)?;
+    batches::run(rt)?;
     timer::run(rt)?;
     producer::run(rt)
 }

@@ -1,0 +1,122 @@
+//! Which job is next, which lines are read, and what a failure ends.
+
+use crate::admit::admit_lines;
+use crate::desk::Desk;
+use crate::reports::Reports;
+use crate::worker::work;
+use std::alloc::AllocGlobal;
+use std::fmt::Debug;
+use std::io::{self, BufReader, ErrorKind, Read, Write};
+use std::process::Abort;
+use std::sync::atomic::{AtomicUsize, Ordering};
+use std::sync::{Arc, Wait};
+use std::time::{Clock, Duration};
+use std::{str, thread};
+
+fn expect_equal<X: PartialEq + Debug + Drop>(rt: &impl Abort, got: X, wanted: X) {
+    assert_eq!(rt; got, wanted);
+}
+
+#[test]
+fn the_most_urgent_of_those_that_are_here_is_next(rt: HostRuntime) {
+    let lines = b"a -1 x\nb 3 x\nno job\nc 9 fail\nd 3 x\ne 9 x\n";
+    let (intake, desk) = Desk::open(&rt, 6).expect(&rt, "a desk");
+    let mut told = Vec::new(rt.alloc());
+    let reports = Reports::new(&mut told);
+    // With a place to spare, so that it does not wait for a worker.
+    admit_lines(&rt, lines.as_slice(), &intake, &reports).expect(&rt, "lines are admitted");
+    drop(intake);
+    work(&rt, &desk, &reports).expect(&rt, "jobs are done");
+    drop(reports);
+    let wanted = "bad no job\nfailed c\ndone e\ndone b\ndone d\ndone a\n";
+    expect_equal(&rt, str::from_utf8(&told), Ok(wanted));
+}
+
+// Gives a line at a time, and counts them.
+#[derive(Drop)]
+struct Lines {
+    rest: &'static [u8],
+    read: Arc<AtomicUsize>,
+}
+
+impl Read for Lines {
+    fn read(&mut self, buf: &mut [u8]) -> io::Result<usize> {
+        self.read.fetch_add(1, Ordering::SeqCst);
+        let end = self.rest.iter().position(|byte| *byte == b'\n');
+        let len = end.map_or(0, |end| end.saturating_add(1)).min(buf.len());
+        self.rest.read(&mut buf[..len])
+    }
+}
+
+// In milliseconds.
+const PATIENCE: u64 = 10_000;
+
+fn await_count<R: Abort + Clock>(rt: &R, read: &AtomicUsize, wanted: usize) {
+    for _ in 0..PATIENCE {
+        if read.load(Ordering::SeqCst) == wanted {
+            break;
+        }
+        thread::sleep(rt, Duration::from_millis(1));
+    }
+    // Long enough for one too many to be read.
+    thread::sleep(rt, Duration::from_millis(20));
+    expect_equal(rt, read.load(Ordering::SeqCst), wanted);
+}
+
+fn end_one<R: Abort + Wait + Clone>(rt: &R, desk: &Desk<R>) {
+    desk.jobs().next().expect(rt, "a job");
+    desk.free_place();
+}
+
+#[test]
+fn a_line_is_not_read_before_there_is_a_place(rt: HostRuntime) {
+    let read = Arc::new(rt.alloc(), AtomicUsize::new(0)).expect(&rt, "memory");
+    let lines = Lines {
+        rest: b"a 1 x\nb 2 x\nc 3 x\n",
+        read: Arc::try_clone(&read).expect(&rt, "memory"),
+    };
+    let (intake, desk) = Desk::open(&rt, 2).expect(&rt, "a desk");
+    let admitting = thread::spawn(&rt, move || {
+        let lines = BufReader::new(rt.alloc(), lines)?;
+        admit_lines(&rt, lines, &intake, &Reports::new(io::sink()))
+    })
+    .expect(&rt, "a thread");
+    await_count(&rt, &read, 2);
+    end_one(&rt, &desk);
+    await_count(&rt, &read, 3);
+    end_one(&rt, &desk);
+    // This one finds the end.
+    await_count(&rt, &read, 4);
+    admitting.join(&rt).expect(&rt, "lines are admitted");
+    expect_equal(&rt, desk.jobs().count(), 1);
+}
+
+// Whoever reads the reports has gone.
+#[derive(Drop)]
+struct NoReader;
+
+impl Write for NoReader {
+    fn write(&mut self, _: &[u8]) -> io::Result<usize> {
+        Err(io::Error::from(ErrorKind::BrokenPipe))
+    }
+
+    fn flush(&mut self) -> io::Result<()> {
+        Ok(())
+    }
+}
+
+#[test]
+fn nothing_more_is_admitted_once_a_worker_has_failed(rt: HostRuntime) {
+    let (intake, desk) = Desk::open(&rt, 2).expect(&rt, "a desk");
+    let reports = Reports::new(NoReader);
+    admit_lines(&rt, b"a 1 x\n".as_slice(), &intake, &reports).expect(&rt, "a line is admitted");
+    let worked = work(&rt, &desk, &reports);
+    expect_equal(
+        &rt,
+        worked.map_err(|error| error.kind()),
+        Err(ErrorKind::BrokenPipe),
+    );
+    drop(desk); // with the last worker
+    let more = admit_lines(&rt, b"b 1 x\n".as_slice(), &intake, &reports);
+    expect_equal(&rt, more.is_err(), true);
+}
