@@ -1,5 +1,6 @@
 //! Many calls, one after another.
 ghost use Rattle.std.specs.Prelude.{◌≡◌, true, All, length, drop};
+ghost use Rattle.priority_channel_core.specs.machine.State.{nobody};
 ghost use Rattle.priority_channel_core.specs.machine.Good.{IsGood};
 ghost use Rattle.std.specs.Iterator.Adapters.{peekable_can};
 ghost use Rattle.priority_channel_core.specs.code.Lists.{HasList};
@@ -134,45 +135,27 @@ impl<T: Drop, P: Ord + Drop, W: Clone, A: Allocator + Copy> PriorityQueueChannel
             }
             Call::ChangePriority(test, priority) => {
                 let changed = self.change_priority(&test, priority);
-                Response::new(Answer::ChangePriority(changed), Wakes::nobody(self.alloc))
+                self.without_wakes(Answer::ChangePriority(changed))
             }
             Call::Close => {
                 let (was_open, wakes) = self.close();
                 Response::new(Answer::Close(was_open), wakes)
             }
-            Call::IsClosed => Response::new(
-                Answer::IsClosed(self.is_closed()),
-                Wakes::nobody(self.alloc),
-            ),
-            Call::IsEmpty => Response::new(
-                Answer::IsEmpty(self.is_empty()),
-                Wakes::nobody(self.alloc),
-            ),
-            Call::IsFull => Response::new(
-                Answer::IsFull(self.is_full()),
-                Wakes::nobody(self.alloc),
-            ),
-            Call::Len => Response::new(Answer::Len(self.len()), Wakes::nobody(self.alloc)),
-            Call::Capacity => Response::new(
-                Answer::Capacity(self.capacity()),
-                Wakes::nobody(self.alloc),
-            ),
-            Call::SenderCount => Response::new(
-                Answer::SenderCount(self.sender_count()),
-                Wakes::nobody(self.alloc),
-            ),
-            Call::ReceiverCount => Response::new(
-                Answer::ReceiverCount(self.receiver_count()),
-                Wakes::nobody(self.alloc),
-            ),
-            Call::CloneSender => Response::new(
-                Answer::CloneSender(self.clone_sender()),
-                Wakes::nobody(self.alloc),
-            ),
-            Call::CloneReceiver => Response::new(
-                Answer::CloneReceiver(self.clone_receiver()),
-                Wakes::nobody(self.alloc),
-            ),
+            Call::IsClosed => self.without_wakes(Answer::IsClosed(self.is_closed())),
+            Call::IsEmpty => self.without_wakes(Answer::IsEmpty(self.is_empty())),
+            Call::IsFull => self.without_wakes(Answer::IsFull(self.is_full())),
+            Call::Len => self.without_wakes(Answer::Len(self.len())),
+            Call::Capacity => self.without_wakes(Answer::Capacity(self.capacity())),
+            Call::SenderCount => self.without_wakes(Answer::SenderCount(self.sender_count())),
+            Call::ReceiverCount => self.without_wakes(Answer::ReceiverCount(self.receiver_count())),
+            Call::CloneSender => {
+                let is_cloned = self.clone_sender();
+                self.without_wakes(Answer::CloneSender(is_cloned))
+            }
+            Call::CloneReceiver => {
+                let is_cloned = self.clone_receiver();
+                self.without_wakes(Answer::CloneReceiver(is_cloned))
+            }
             Call::DropSender => Response::new(Answer::DropSender, self.drop_sender()),
             Call::DropReceiver => Response::new(Answer::DropReceiver, self.drop_receiver()),
             Call::PollSend(msg, priority, ticket, waker) => {
@@ -189,8 +172,15 @@ impl<T: Drop, P: Ord + Drop, W: Clone, A: Allocator + Copy> PriorityQueueChannel
             }
             Call::GiveUp(ticket) => {
                 self.give_up(ticket);
-                Response::new(Answer::GiveUp, Wakes::nobody(self.alloc))
+                self.without_wakes(Answer::GiveUp)
             }
         }
+    }
+
+    fn without_wakes<M>(&self, answer: Answer<T, P, M>) -> Response<T, P, W, M, A>
+        ensures answer { result.answer ≡ answer }
+        ensures handed { result.handed ≡ nobody }
+    {
+        Response::new(answer, Wakes::nobody(self.alloc))
     }
 }

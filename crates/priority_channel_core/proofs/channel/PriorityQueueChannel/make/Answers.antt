@@ -15,10 +15,10 @@ returns-in-TakeWhere-clause-meets g c =
 
 pub returns-in-ChangePriority-clause-step : goal.returns-in-ChangePriority-clause-step
 returns-in-ChangePriority-clause-step g c =
-    makes_change _ _ _ _ _ _ _ _ c.in-ChangePriority.test c.in-ChangePriority.priority c.change_priority-changed.result c.in-ChangePriority.is c.new-in-ChangePriority.ensures.answer
-    (rw (c.new-in-ChangePriority.ensures.handed, c.nobody.ensures) c.change_priority-changed.ensures.step)
+    makes_change _ _ _ _ _ _ _ _ c.in-ChangePriority.test c.in-ChangePriority.priority c.change_priority-changed.result c.in-ChangePriority.is c.without_wakes.ensures.answer
+    (rw c.without_wakes.ensures.handed c.change_priority-changed.ensures.step)
 
 pub returns-in-ChangePriority-clause-meets : goal.returns-in-ChangePriority-clause-meets
 returns-in-ChangePriority-clause-meets g c =
     change_meets (λ test pair. Tells g.F.Fn test pair true) _ _ c.in-ChangePriority.test c.in-ChangePriority.priority c.change_priority-changed.result _ _ _
-    c.in-ChangePriority.is c.new-in-ChangePriority.ensures.answer c.change_priority-changed.ensures.first
+    c.in-ChangePriority.is c.without_wakes.ensures.answer c.change_priority-changed.ensures.first
