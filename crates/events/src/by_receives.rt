@@ -2,12 +2,15 @@
 //!
 //! It is one task: to start a task takes longer than to receive, so `block_on` goes round the loop
 //! and not round each receive.
+ghost use Rattle.std.specs.Prelude.{◌≡◌, ◌⊎◌};
+
 use crate::board::Board;
 use crate::event::{Event, Rank, Signal};
-use async_priority_channel::{Receiver, RecvFault};
-use futures::FutureExt;
+use async_priority_channel::{Receiver, Recv, RecvFault};
 use futures::executor::block_on;
-use futures::future::{Either, Loop, loop_fn, select};
+use futures::future::{Loop, loop_fn};
+use futures::task::{Context, Poll};
+use futures::{Future, FutureExt};
 use std::alloc::AllocGlobal;
 use std::io::Write;
 use std::random::RandomSource;
@@ -24,10 +27,12 @@ where
     R: Wait + Clone + RandomSource + AllocGlobal,
     W: Write + Drop,
 {
-    // Where both have something, `select` takes the first. Ticks are few, and so hold up no event
-    // for long. The receive that comes second is given up, and takes nothing.
     let until_one_ends = loop_fn(board, |board| {
-        select(ticks.recv(), events.recv()).map(move |first| go_on(board, signal(first)))
+        let next = Next {
+            tick: ticks.recv(),
+            event: events.recv(),
+        };
+        next.map(move |came| go_on(board, came))
     });
     let mut board = block_on(rt, until_one_ends)??;
     // Of the two, one is left to be waited for.
@@ -40,13 +45,28 @@ where
     Ok(board)
 }
 
-// What was received, beside the receive that was given up.
-fn signal<A: Drop, B: Drop>(
-    first: Either<(Result<((), ()), RecvFault>, A), (Result<(Event, Rank), RecvFault>, B)>,
-) -> Result<Signal, RecvFault> {
-    match first {
-        Either::Left((tick, _)) => tick.map(|_| Signal::Tick),
-        Either::Right((event, _)) => event.map(|(event, _)| Signal::Event(event)),
+// The next signal, as `select` would give it. Where both channels have something it is the tick:
+// ticks are few, and so hold up no event for long. The other receive is given up, and takes nothing.
+#[derive(Drop)]
+struct Next<'t, 'e, R: Wait + Clone> {
+    tick: Recv<'t, (), (), R>,
+    event: Recv<'e, Event, Rank, R>,
+}
+
+impl<R: Wait + Clone> Future for Next<'_, '_, R> {
+    type Output = Result<Signal, RecvFault>;
+
+    ghost needs = { λ next source. (source ≡ next.tick.channel.message)
+        ⊎ (source ≡ next.event.channel.message) };
+
+    fn poll(&mut self, cx: &mut Context<'_>) -> Poll<Self::Output> {
+        if let Poll::Ready(tick) = self.tick.poll(cx) {
+            return Poll::Ready(tick.map(|_| Signal::Tick));
+        }
+        match self.event.poll(cx) {
+            Poll::Ready(event) => Poll::Ready(event.map(|(event, _)| Signal::Event(event))),
+            Poll::Pending => Poll::Pending,
+        }
     }
 }
 
