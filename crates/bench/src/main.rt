@@ -7,6 +7,7 @@
 #![tactic(auto)]
 
 mod calls;
+mod choosing;
 mod handles;
 mod load;
 mod measure;
@@ -28,7 +29,7 @@ use std::thread::Threads;
 use std::time::{Clock, CpuClock};
 
 // Each ends with its count of messages.
-const ROWS: [&str; 21] = [
+const ROWS: [&str; 24] = [
     // How priorities come, how many pairs are pending.
     "core random 0 1000",
     "core equal 100 1000",
@@ -37,6 +38,10 @@ const ROWS: [&str; 21] = [
     "drain random 100 1000",
     // How priorities come, how many pairs are pending where there is room for no more.
     "evicting rising 100 1000",
+    // How priorities come, how many pairs are pending.
+    "change random 100 1000",
+    "count random 100 1000",
+    "receive_if random 100 1000",
     // By which calls, how many messages are pending.
     "handles try 0 1000",
     "handles blocking 100 1000",
@@ -104,6 +109,15 @@ where
         }
         ["evicting", load, pending, count] => {
             one_thread::evicting(&rt, load.parse()?, pending.parse()?, count.parse()?)
+        }
+        ["change", load, pending, count] => {
+            choosing::change(&rt, load.parse()?, pending.parse()?, count.parse()?)
+        }
+        ["count", load, pending, count] => {
+            choosing::count(&rt, load.parse()?, pending.parse()?, count.parse()?)
+        }
+        ["receive_if", load, pending, count] => {
+            choosing::receive(&rt, load.parse()?, pending.parse()?, count.parse()?)
         }
         ["handles", calls, pending, count] => {
             handles::steady(&rt, calls.parse()?, pending.parse()?, count.parse()?)

@@ -110,7 +110,7 @@ pub fn send_all(core: &mut Core, load: Load, count: u64) -> anyhow::Result<()> {
 
 // Neither makes an error of `anyhow`, for which it would clear much memory each time.
 
-fn send(core: &mut Core, msg: u64, priority: i64) -> bool {
+pub fn send(core: &mut Core, msg: u64, priority: i64) -> bool {
     let (sent, wakes) = core.try_send(msg, priority);
     let_go(wakes);
     sent.is_ok()
@@ -134,7 +134,7 @@ fn evict(core: &mut Core, msg: u64, priority: i64) -> Option<u64> {
     }
 }
 
-fn let_go(wakes: Wakes<u64>) {
+pub fn let_go(wakes: Wakes<u64>) {
     let (room, message) = wakes.into_lists();
     drop(room);
     drop(message);
