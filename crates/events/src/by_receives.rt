@@ -45,8 +45,9 @@ where
     Ok(board)
 }
 
-// The next signal, as `select` would give it. Where both channels have something it is the tick:
-// ticks are few, and so hold up no event for long. The other receive is given up, and takes nothing.
+// The next signal, as `select` would give it: but the prover does not follow a closure over what
+// `select` gives. Where both channels have something it is the tick: ticks are few, and so hold up
+// no event for long. The other receive is given up, and takes nothing.
 #[derive(Drop)]
 struct Next<'t, 'e, R: Wait + Clone> {
     tick: Recv<'t, (), (), R>,
