@@ -50,7 +50,7 @@ impl<A: Allocator> Waits<A> {
     }
 }
 
-/// What the channel's lock guards: the core, and those who wait for the close.
+/// What the channel's lock guards: the core, and the waiters for the close.
 #[derive(Drop)]
 struct Guarded<T, P: Ord, A: Allocator + Copy> {
     core: Core<T, P, A>,
@@ -202,7 +202,7 @@ impl<T, P: Ord, R: Wait + Clone, A: Allocator + Copy> Handle<T, P, R, A> {
     }
 
     /// Releases the lock, and then wakes the waiters that the call under this lock took off the
-    /// waiting lists. If the channel is closed by now, it wakes those who wait for the close too.
+    /// waiting lists. If the channel is closed by now, it wakes the waiters for the close too.
     #[inline(always)]
     pub fn release(&self, held: Held<'_, T, P, A>, wakes: Wakes<Waiter<A>, A>) {
         if let Some(seen) = SeenClosed::of(&held.guarded.core) {

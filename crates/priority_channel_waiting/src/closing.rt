@@ -9,8 +9,8 @@ use priority_channel_core::waiting_list::WaitingList;
 use std::alloc::Allocator;
 use std::marker::Model;
 
-/// Those who wait for the close of a channel, beside its core and under the same lock. Nothing else
-/// than the close wakes them.
+/// The waiters for the close of a channel, beside its core and under the same lock. Nothing but the
+/// close wakes them.
 #[derive(Drop)]
 pub struct Closing<A: Allocator> {
     waiters: WaitingList<Waiter<A>, A>,
