@@ -24,7 +24,7 @@ where
         let Ok(was) = core.change_priority(&|msg, _| *msg == wanted, priority) else {
             bail!("{wanted} is not pending");
         };
-        sum = add_at(sum, position, was as u64);
+        sum = add_at(sum, position, was.unsigned_abs());
     }
     let end = rt.thread_cpu_time()?;
     Ok(Measure::of_time(end.saturating_sub(start), sum))
