@@ -4,7 +4,7 @@
 //! channel is closed, but not before the next one. If it pauses by `closed_timeout`, the pause ends
 //! as soon as the last receiver is gone.
 
-use async_priority_channel::{Sender, unbounded};
+use async_priority_channel::{Receiver, Sender, unbounded};
 use std::alloc::AllocGlobal;
 use std::sync::Wait;
 use std::thread::{self, Threads};
@@ -23,6 +23,13 @@ fn produce<R: Wait + Clone + Clock>(tx: &Sender<u64, (), R>) -> anyhow::Result<u
     Ok(reading)
 }
 
+// One reading, after which the receiver is gone.
+fn receive_one<R: Wait + Clone + Print>(rt: &R, rx: Receiver<u64, (), R>) -> anyhow::Result<()> {
+    let (reading, ()) = rx.recv_blocking()?;
+    println!(rt; "producer: reading {reading}")?;
+    Ok(())
+}
+
 pub fn run<R>(rt: R) -> anyhow::Result<()>
 where
     R: Threads + Wait + Clock + Copy + Print + AllocGlobal + Send + 'static,
@@ -30,11 +37,9 @@ where
     let (tx, rx) = unbounded(&rt, rt.alloc())?;
     let last = rx.clone()?;
     let producer = thread::spawn(&rt, move || produce(&tx))?;
-    for listener in [rx, last] {
-        let (reading, ()) = listener.recv_blocking()?;
-        println!(rt; "producer: reading {reading}")?;
-    }
-    // The last receiver is gone, so nobody waits for an hour.
+    receive_one(&rt, rx)?;
+    receive_one(&rt, last)?;
+    // The last receiver is gone, so the producer does not wait for an hour.
     let count = producer.join(&rt)?;
     println!(rt; "producer: stopped after {count} readings")?;
     Ok(())
