@@ -259,6 +259,7 @@ pub use priority_channel_core::errors::{
 };
 pub use priority_channel_laws::laws;
 pub use priority_channel_recorded as recorded;
+pub use priority_channel_waiting::law::closing_law;
 pub use priority_channel_waiting::timeouts::{RecvTimeoutError, SendTimeoutError};
 pub use receiver::{Receiver, Receiving};
 pub use sender::{Sender, Sending};

@@ -3,3 +3,5 @@ pub mod Holdings
 pub mod Tries
 pub mod Ends
 pub mod Closers
+pub mod Listed
+pub mod Watchers

@@ -3,3 +3,4 @@ pub mod Tails
 pub mod Holding
 pub mod Ends
 pub mod Closers
+pub mod CloseLaw

@@ -7,6 +7,7 @@
 
 pub mod attempts;
 pub mod closing;
+pub mod law;
 pub mod line;
 mod reading;
 pub mod spins;

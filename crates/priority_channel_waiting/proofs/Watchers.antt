@@ -1,0 +1,216 @@
+-- What each event preserves of the watchers and the list of those that wait.
+use Rattle.std.proofs.Common.{◌≡◌, ◌≢◌, ℕ, ◌<◌, ◌≤◌, ◌⊎◌, true, false, List, [], ◌∷◌, refl, ap, sym, ◌∙◌, subst, arith, inl, inr, eq-eqb}
+use Rattle.std.specs.Prelude.{◌==◌, if◌then◌else◌, Option, Some, None, Contains}
+use Rattle.std.specs.List.{list_any}
+use Rattle.std.proofs.lemmas.Bool.Decides.{eqb_tells}
+use Rattle.std.proofs.lemmas.List.Elements.{at_from_Contains}
+use Rattle.std.proofs.lemmas.List.Folds.{list_any_at}
+use Rattle.priority_channel_core.specs.Waiting.{without_given, listing, Listing}
+use Rattle.priority_channel_core.specs.Future.{Standing, ticket_of}
+use Rattle.priority_channel_core.specs.Future.Standing.{New, Waiting, Called, Done}
+use Rattle.priority_channel_waiting.specs.Closers.{Closers}
+use Rattle.priority_channel_waiting.specs.declared.closing.Watch.TheVariants.{Listed, Closed, Refused}
+use Rattle.priority_channel_waiting.specs.CloseLaw.{CloseWorld, CloseEvent, opening, turned, called_by, Happens, Leads, NobodyIsForgotten}
+use Rattle.priority_channel_waiting.specs.CloseLaw.CloseEvent.{Looks, GivesUp, Closes}
+use Rattle.priority_channel_waiting.proofs.Listed.{Lists, lists, without-has, without-only}
+
+-- the law holds of the new world, and each ticket there was its watcher's before, or was given since
+record Goes (old new : CloseWorld) : Type 0 where
+  keeps : NobodyIsForgotten new
+  grows : old.closers.next_ticket ≤ new.closers.next_ticket
+  once : (i t : ℕ) → ticket_of (new.watchers i) ≡ Some t → (ticket_of (old.watchers i) ≡ Some t) ⊎ (old.closers.next_ticket ≤ t)
+
+module _ (old : CloseWorld) (k : NobodyIsForgotten old) where
+  -- one watcher has a new standing, and the list changes only at its ticket
+  module _ (i : ℕ) (s : Standing ℕ) where
+    abbrev now : ℕ → Standing ℕ
+    now = turned i s old.watchers
+
+    at : (j : ℕ) → ((j ≡ i) × (now j ≡ s)) ⊎ ((j ≢ i) × (now j ≡ old.watchers j))
+    at j = elim (eqb_tells j i) [ inl h ↦ let e = h.0 in inl (h.1, rw e refl) | inr h ↦ let e = h.0 in inr (h.1, rw e refl) ]
+
+    ticket_at : (j t : ℕ) → ticket_of (now j) ≡ Some t → ((j ≡ i) × (ticket_of s ≡ Some t)) ⊎ ((j ≢ i) × (ticket_of (old.watchers j) ≡ Some t))
+    ticket_at j t has = elim (at j) [ inl e ↦ inl (e.0, ap ticket_of (sym e.1) ∙ has) | inr e ↦ inr (e.0, ap ticket_of (sym e.1) ∙ has) ]
+
+    turns : (closers : Closers) → old.closers.next_ticket ≤ closers.next_ticket
+        → ((t w : ℕ) → s ≡ Waiting t w → (old.is_closed ≡ false) × Contains closers.waiters (t, w))
+        → ((t w : ℕ) → ticket_of (old.watchers i) ≢ Some t → Contains old.closers.waiters (t, w) → Contains closers.waiters (t, w))
+        → ((t w : ℕ) → Contains closers.waiters (t, w) → (Contains old.closers.waiters (t, w) × (ticket_of (old.watchers i) ≢ Some t)) ⊎ (s ≡ Waiting t w))
+        → ((t : ℕ) → ticket_of s ≡ Some t → (t < closers.next_ticket) × ((ticket_of (old.watchers i) ≡ Some t) ⊎ (old.closers.next_ticket ≤ t)))
+        → Goes old (record old { closers = closers; watchers = now })
+    turns closers grows own others only ticket = record {
+      keeps = record {
+        listed = λ t w. (
+          (λ c. elim (only t w c) [
+            | inl was ↦
+                let found = (k.listed t w).0 was.0 in
+                elim (at found.0) [
+                  | inl e ↦ absurd (was.1 (ap (λ (j : ℕ). ticket_of (old.watchers j)) (sym e.0) ∙ ap ticket_of found.1))
+                  | inr e ↦ (found.0, e.1 ∙ found.1)
+                ]
+            | inr is ↦ (i, (let e : (i == i) ≡ true = eq-eqb i i refl in rw e is))
+          ]),
+          λ found. elim (at found.0) [
+            | inl e ↦ (own t w (sym e.1 ∙ found.1)).1
+            | inr e ↦
+                let was : old.watchers found.0 ≡ Waiting t w = sym e.1 ∙ found.1 in
+                others t w (λ mine. e.0 (k.tickets_differ found.0 i t (ap ticket_of was) mine)) ((k.listed t w).1 (found.0, was))
+          ],
+        );
+        open_if_waiting = λ j t w is. elim (at j) [ inl e ↦ (own t w (sym e.1 ∙ is)).0 | inr e ↦ k.open_if_waiting j t w (sym e.1 ∙ is) ];
+        tickets_were_given = λ j t has. elim (ticket_at j t has) [ inl e ↦ (ticket t e.1).0 | inr e ↦ let b = k.tickets_were_given j t e.1 in omega arith ];
+        tickets_differ = λ j l t has has'.
+            elim (ticket_at j t has) [
+              | inl e ↦ elim (ticket_at l t has') [ inl e' ↦ e.0 ∙ sym e'.0 | inr e' ↦ absurd (not_both l t e'.0 e'.1 e.1) ]
+              | inr e ↦ elim (ticket_at l t has') [ inl e' ↦ absurd (not_both j t e.0 e.1 e'.1) | inr e' ↦ k.tickets_differ j l t e.1 e'.1 ]
+            ];
+      };
+      grows = grows;
+      once = λ j t has.
+          elim (ticket_at j t has) [
+            | inl e ↦ let same = e.0 in rw same (ticket t e.1).1
+            | inr e ↦ inl e.1
+          ];
+    }
+      where
+        not_both : (j t : ℕ) → j ≢ i → ticket_of (old.watchers j) ≡ Some t → ticket_of s ≡ Some t → ⊥
+        not_both j t ne has is =
+            elim (ticket t is).1 [
+              | inl mine ↦ ne (k.tickets_differ j i t has mine)
+              | inr new ↦ let b = k.tickets_were_given j t has in absurd (omega arith)
+            ]
+
+  ends : (i : ℕ) → Goes old (record old {
+    closers = record old.closers { waiters = without_given (ticket_of (old.watchers i)) old.closers.waiters };
+    watchers = turned i Done old.watchers;
+  })
+  ends i =
+      let xs = old.closers.waiters in let given = ticket_of (old.watchers i) in
+      turns i Done (record old.closers { waiters = without_given given xs }) (omega arith) (λ t w is. absurd (cc)) (without-has xs given)
+      (λ t w c. inl (without-only xs given t w c)) (λ t has. absurd (cc))
+
+  waits : (i w : ℕ) (l : Listing ℕ) → old.is_closed ≡ false → listing (ticket_of (old.watchers i)) w old.closers.waiters old.closers.next_ticket ≡ l
+      → Goes old (record old {
+        closers = record { waiters = l.waiters; next_ticket = l.next_ticket };
+        watchers = turned i (Waiting l.ticket w) old.watchers;
+      })
+  waits i w l opens is =
+      let xs = old.closers.waiters in let given = ticket_of (old.watchers i) in
+      let lists = subst (Lists xs given old.closers.next_ticket w) is (lists xs given old.closers.next_ticket w (k.tickets_were_given i)) in
+      turns i (Waiting l.ticket w) (record { waiters = l.waiters; next_ticket = l.next_ticket }) lists.grows
+      (λ t v e. let a : l.ticket ≡ t = cc in let b : w ≡ v = cc in (opens, rw (← a, ← b) lists.own)) lists.others
+      (λ t v c. elim (lists.only t v c) [ inl was ↦ inl was | inr new ↦ inr (let a = new.0 in let b = new.1 in rw (a, b) refl) ])
+      (λ t e. let a : l.ticket ≡ t = cc in rw (← a) (lists.below, lists.ticket))
+
+  -- a waiter that is in the list is woken when all are taken
+  pub woken : (s : Standing ℕ) (t w : ℕ) → s ≡ Waiting t w → Contains old.closers.waiters (t, w) → called_by old.closers.waiters s ≡ Called t w
+  woken s t w is c =
+      let xs = old.closers.waiters in let at = at_from_Contains xs (t, w) c in
+      let yes : list_any (λ (a : ℕ × ℕ). a.1 == w) xs ≡ true = list_any_at (λ (a : ℕ × ℕ). a.1 == w) xs at.0 (t, w) at.1 (eq-eqb _ w (ap (λ (a : ℕ × ℕ). a.1) (at.2 (t, w)))) in
+      rw is (rw yes refl)
+
+  called-ticket : (s : Standing ℕ) → ticket_of (called_by old.closers.waiters s) ≡ ticket_of s
+  called-ticket (Waiting t w) =
+      elim (list_any (λ (a : ℕ × ℕ). a.1 == w) old.closers.waiters) as (λ b. ticket_of (if b then Called t w else Waiting t w) ≡ Some t) [ true ↦ refl | false ↦ refl ]
+  called-ticket (Called t w) = refl
+  called-ticket New = refl
+  called-ticket Done = refl
+
+  called-waited : (s : Standing ℕ) (t w : ℕ) → called_by old.closers.waiters s ≡ Waiting t w → (u : ℕ) × (v : ℕ) × (s ≡ Waiting u v)
+  called-waited (Waiting u v) t w is = (u, v, refl)
+  called-waited (Called u v) t w is = absurd (cc)
+  called-waited New t w is = absurd (cc)
+  called-waited Done t w is = absurd (cc)
+
+  nobody_waits : (i t w : ℕ) → called_by old.closers.waiters (old.watchers i) ≡ Waiting t w → ⊥
+  nobody_waits i t w is =
+      let was = called-waited (old.watchers i) t w is in
+      let now = woken (old.watchers i) was.0 was.1 was.2 ((k.listed was.0 was.1).1 (i, was.2)) in absurd (cc)
+
+  shuts : Goes old (record {
+    is_closed = true;
+    closers = record old.closers { waiters = [] };
+    watchers = λ i. called_by old.closers.waiters (old.watchers i);
+  })
+  shuts = record {
+    keeps = record {
+      listed = λ t w. ((λ c. absurd (let l = c.1 in omega arith)), λ found. absurd (nobody_waits found.0 t w found.1));
+      open_if_waiting = λ i t w is. absurd (nobody_waits i t w is);
+      tickets_were_given = λ i t has. k.tickets_were_given i t (sym (called-ticket (old.watchers i)) ∙ has);
+      tickets_differ = λ i j t has has'. k.tickets_differ i j t (sym (called-ticket (old.watchers i)) ∙ has) (sym (called-ticket (old.watchers j)) ∙ has');
+    };
+    grows = omega arith;
+    once = λ i t has. inl (sym (called-ticket (old.watchers i)) ∙ has);
+  }
+
+-- where nobody is listed, no ticket comes off
+none_off : (xs : List (ℕ × ℕ)) (given : Option ℕ) → ((t w : ℕ) → Contains xs (t, w) → ⊥) → without_given given xs ≡ xs
+none_off [] None none = refl
+none_off [] (Some u) none = refl
+none_off (x ∷ more) given none = absurd (none x.0 x.1 (0, omega arith, refl))
+
+goes : (old new : CloseWorld) (event : CloseEvent) → NobodyIsForgotten old → Happens old event new → Goes old new
+goes old new (Looks i w) k (Listed ticket, watches, same) = subst (Goes old) (sym same) (waits old k i w _ watches.0 watches.1)
+goes old new (Looks i w) k (Closed seen, watches, same) =
+    let none = none_off old.closers.waiters (ticket_of (old.watchers i)) (λ t v c.
+    let found = (k.listed t v).0 c in let opens = k.open_if_waiting found.0 t v found.1 in let closed = watches.0 in absurd (cc)) in
+    let closers = watches.1 in let ended = ends old k i in
+    subst (Goes old) (sym same) (rw closers (rw none at ended))
+goes old new (Looks i w) k (Refused, watches, same) = let closers = watches.1 in subst (Goes old) (sym same) (rw closers (ends old k i))
+goes old new (GivesUp i) k same = subst (Goes old) (sym same) (ends old k i)
+goes old new Closes k same = subst (Goes old) (sym same) (shuts old k)
+
+go : (old new : CloseWorld) (events : List CloseEvent) → NobodyIsForgotten old → Leads old events new → Goes old new
+go old new [] k same = subst (Goes old) (sym same) (record { keeps = k; grows = omega arith; once = λ i t has. inl has })
+go old new (event ∷ more) k leads =
+    let first = goes old leads.0 event k leads.1 in
+    let rest = go leads.0 new more first.keeps leads.2 in
+    let grows = first.grows in
+    record {
+      keeps = rest.keeps;
+      grows = let more' = rest.grows in omega arith;
+      once = λ i t has. elim (rest.once i t has) [ inl was ↦ first.once i t was | inr since ↦ inr (omega arith) ];
+    }
+
+forgotten_at_opening : NobodyIsForgotten opening
+forgotten_at_opening = record {
+  listed = λ t w. ((λ c. absurd (let l = c.1 in omega arith)), λ found. let is = found.1 in absurd (cc));
+  open_if_waiting = λ i t w is. refl;
+  tickets_were_given = λ i t has. absurd (cc);
+  tickets_differ = λ i j t has has'. absurd (cc);
+}
+
+pub nobody_is_forgotten : (world : CloseWorld) (events : List CloseEvent) → Leads opening events world → NobodyIsForgotten world
+nobody_is_forgotten world events leads = (go opening world events forgotten_at_opening leads).keeps
+
+pub close_wakes : (old new : CloseWorld) (events : List CloseEvent) → Leads opening events old → Happens old Closes new
+    → (i t w : ℕ) → old.watchers i ≡ Waiting t w → new.watchers i ≡ Called t w
+close_wakes old new events leads closes i t w waits =
+    let k = nobody_is_forgotten old events leads in
+    ap (λ (world : CloseWorld). world.watchers i) closes ∙ woken old k (old.watchers i) t w waits ((k.listed t w).1 (i, waits))
+
+closed_after : (old new : CloseWorld) (event : CloseEvent) → Happens old event new → old.is_closed ≡ true → new.is_closed ≡ true
+closed_after old new (Looks i w) h closed = ap (λ (world : CloseWorld). world.is_closed) h.2 ∙ closed
+closed_after old new (GivesUp i) h closed = ap (λ (world : CloseWorld). world.is_closed) h ∙ closed
+closed_after old new Closes h closed = ap (λ (world : CloseWorld). world.is_closed) h
+
+pub stays_closed : (old new : CloseWorld) (events : List CloseEvent) → Leads old events new → old.is_closed ≡ true → new.is_closed ≡ true
+stays_closed old new [] h closed = ap (λ (world : CloseWorld). world.is_closed) h ∙ closed
+stays_closed old new (event ∷ more) h closed = stays_closed h.0 new more h.2 (closed_after old h.0 event h.1 closed)
+
+pub given_once : (earlier later : CloseWorld) (before after : List CloseEvent) → Leads opening before earlier → Leads earlier after later
+    → (i t : ℕ) → ticket_of (later.watchers i) ≡ Some t → t < earlier.closers.next_ticket → ticket_of (earlier.watchers i) ≡ Some t
+given_once earlier later before after leads more i t has lt =
+    elim ((go earlier later after (nobody_is_forgotten earlier before leads) more).once i t has) [ inl was ↦ was | inr since ↦ absurd (omega arith) ]
+
+pub occurs : (waits woken : CloseWorld) × Happens opening (Looks 0 7) waits × (waits.watchers 0 ≡ Waiting 0 7)
+    × Happens waits Closes woken × (woken.watchers 0 ≡ Called 0 7)
+occurs =
+    let watchers = turned 0 (Waiting 0 7) opening.watchers in (
+      record { is_closed = false; closers = record { waiters = (0, 7) ∷ []; next_ticket = 1 }; watchers = watchers },
+      record { is_closed = true; closers = record { waiters = []; next_ticket = 1 }; watchers = λ which. called_by ((0, 7) ∷ []) (watchers which) },
+      (Listed 0, (refl, refl), refl),
+      refl,
+      refl,
+      refl,
+    )

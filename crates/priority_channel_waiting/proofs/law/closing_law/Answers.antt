@@ -1,0 +1,17 @@
+use Rattle.priority_channel_waiting.proofs.Watchers.{nobody_is_forgotten, close_wakes, stays_closed, given_once, occurs}
+use Rattle.priority_channel_waiting.proofs.law.closing_law.Goals as goal
+
+pub returns-clause-forgotten : goal.returns-clause-forgotten
+returns-clause-forgotten c = nobody_is_forgotten
+
+pub returns-clause-woken : goal.returns-clause-woken
+returns-clause-woken c = close_wakes
+
+pub returns-clause-closed : goal.returns-clause-closed
+returns-clause-closed c = stays_closed
+
+pub returns-clause-once : goal.returns-clause-once
+returns-clause-once c = given_once
+
+pub returns-clause-occurs : goal.returns-clause-occurs
+returns-clause-occurs c = occurs
