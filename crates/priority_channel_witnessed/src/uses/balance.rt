@@ -1,5 +1,5 @@
 //! The end of a channel, with its balance.
-ghost use Rattle.std.specs.Prelude.{◌≡◌, [], map, vec_len};
+ghost use Rattle.std.specs.Prelude.{◌≡◌, [], map, IfOk, IfErr};
 ghost use Rattle.priority_channel_laws.specs.Accepted.{Conserves};
 ghost use Rattle.priority_channel_witnessed.specs.History.{operation_of};
 
@@ -8,15 +8,21 @@ use priority_channel_core::channel::PriorityQueueChannel;
 use std::alloc::Allocator;
 use std::sync::Wait;
 
-/// Ends a channel. All pairs that its callers sent, on however many threads, were received,
-/// displaced by a more urgent one, taken out by a test, or are left, each once.
+/// Ends a channel, where these are all passes that are out. Then all pairs that its callers sent,
+/// on however many threads, also those whose passes have left, were received, displaced by a more
+/// urgent one, taken out by a test, or are left, each once. Else the channel and the passes come
+/// back.
 pub fn settle<T, P: Ord, W: Clone, J: Recording, A: Allocator + Copy, R: Wait>(
     rt: &R,
     channel: Witnessed<T, P, W, J, A>,
     passes: Vec<Pass<T, P, W, J>, A>,
-) -> (PriorityQueueChannel<T, P, W, A>, Seen<T, P, W, J>)
-    requires all { vec_len passes ≡ J.parts }
-    ensures balanced { Conserves [] (map operation_of result.1) result.0.state.pending }
+) -> Result<
+    (PriorityQueueChannel<T, P, W, A>, Seen<T, P, W, J>),
+    (Witnessed<T, P, W, J, A>, Vec<Pass<T, P, W, J>, A>),
+>
+    ensures balanced { IfOk result
+        (λ ended. Conserves [] (map operation_of ended.1) ended.0.state.pending) }
+    ensures back { IfErr result (λ back. back.1 ≡ passes) }
 {
-    channel.end(rt, passes)
+    channel.try_end(rt, passes)
 }
