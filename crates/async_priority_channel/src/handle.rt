@@ -216,11 +216,10 @@ impl<T, P: Ord, R: Wait + Clone, A: Allocator + Copy> Handle<T, P, R, A> {
     #[inline(never)]
     fn release_closed(
         &self,
-        held: Held<'_, T, P, A>,
+        mut held: Held<'_, T, P, A>,
         wakes: Wakes<Waiter<A>, A>,
         seen: SeenClosed,
     ) {
-        let mut held = held;
         let closers = held.guarded.closing.take(seen, self.alloc());
         held.unlock();
         wake_all(&self.rt, wakes);
