@@ -1,5 +1,4 @@
 -- An error that does not tell that the time is over tells nothing of it.
-use Rattle.std.specs.Prelude.{Result, Ok, Err, IfErr}
 use Rattle.priority_channel_waiting.specs.declared.timeouts.Ended.{Ended}
 use Rattle.priority_channel_waiting.specs.declared.timeouts.Ended.TheVariants.{Over, Closed, Memory}
 use Rattle.priority_channel_waiting.specs.Ends.{OnOver}
