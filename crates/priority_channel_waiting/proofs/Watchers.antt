@@ -5,14 +5,14 @@ use Rattle.std.specs.List.{list_any}
 use Rattle.std.proofs.lemmas.Bool.Decides.{eqb_tells}
 use Rattle.std.proofs.lemmas.List.Elements.{at_from_Contains}
 use Rattle.std.proofs.lemmas.List.Folds.{list_any_at}
-use Rattle.priority_channel_core.specs.Waiting.{without_given, listing, Listing}
+use Rattle.priority_channel_core.specs.Waiting.{without_given, listing}
 use Rattle.priority_channel_core.specs.Future.{Standing, ticket_of}
 use Rattle.priority_channel_core.specs.Future.Standing.{New, Waiting, Called, Done}
 use Rattle.priority_channel_waiting.specs.Closers.{Closers}
 use Rattle.priority_channel_waiting.specs.declared.closing.Watch.TheVariants.{Listed, Closed, Refused}
 use Rattle.priority_channel_waiting.specs.CloseLaw.{CloseWorld, CloseEvent, opening, turned, called_by, Happens, Leads, NobodyIsForgotten}
 use Rattle.priority_channel_waiting.specs.CloseLaw.CloseEvent.{Looks, GivesUp, Closes}
-use Rattle.priority_channel_waiting.proofs.Listed.{Lists, lists, without-has, without-only}
+use Rattle.priority_channel_waiting.proofs.Listed.{Turns, ends, Waits, waits}
 
 -- the law holds of the new world, and each ticket there was its watcher's before, or was given since
 record Goes (old new : CloseWorld) : Type 0 where
@@ -32,16 +32,12 @@ module _ (old : CloseWorld) (k : NobodyIsForgotten old) where
     ticket_at : (j t : ℕ) → ticket_of (now j) ≡ Some t → ((j ≡ i) × (ticket_of s ≡ Some t)) ⊎ ((j ≢ i) × (ticket_of (old.watchers j) ≡ Some t))
     ticket_at j t has = elim (at j) [ inl e ↦ inl (e.0, ap ticket_of (sym e.1) ∙ has) | inr e ↦ inr (e.0, ap ticket_of (sym e.1) ∙ has) ]
 
-    turns : (closers : Closers) → old.closers.next_ticket ≤ closers.next_ticket
-        → ((t w : ℕ) → s ≡ Waiting t w → (old.is_closed ≡ false) × Contains closers.waiters (t, w))
-        → ((t w : ℕ) → ticket_of (old.watchers i) ≢ Some t → Contains old.closers.waiters (t, w) → Contains closers.waiters (t, w))
-        → ((t w : ℕ) → Contains closers.waiters (t, w) → (Contains old.closers.waiters (t, w) × (ticket_of (old.watchers i) ≢ Some t)) ⊎ (s ≡ Waiting t w))
-        → ((t : ℕ) → ticket_of s ≡ Some t → (t < closers.next_ticket) × ((ticket_of (old.watchers i) ≡ Some t) ⊎ (old.closers.next_ticket ≤ t)))
-        → Goes old (record old { closers = closers; watchers = now })
-    turns closers grows own others only ticket = record {
+    turns : (new : Closers) → Turns old.closers.waiters (ticket_of (old.watchers i)) old.closers.next_ticket s new
+        → ((t w : ℕ) → s ≡ Waiting t w → old.is_closed ≡ false) → Goes old (record old { closers = new; watchers = now })
+    turns new turn opens = record {
       keeps = record {
         listed = λ t w. (
-          (λ c. elim (only t w c) [
+          (λ c. elim (turn.only t w c) [
             | inl was ↦
                 let found = (k.listed t w).0 was.0 in
                 elim (at found.0) [
@@ -51,56 +47,47 @@ module _ (old : CloseWorld) (k : NobodyIsForgotten old) where
             | inr is ↦ (i, (let e : (i == i) ≡ true = eq-eqb i i refl in rw e is))
           ]),
           λ found. elim (at found.0) [
-            | inl e ↦ (own t w (sym e.1 ∙ found.1)).1
+            | inl e ↦ turn.own t w (sym e.1 ∙ found.1)
             | inr e ↦
                 let was : old.watchers found.0 ≡ Waiting t w = sym e.1 ∙ found.1 in
-                others t w (λ mine. e.0 (k.tickets_differ found.0 i t (ap ticket_of was) mine)) ((k.listed t w).1 (found.0, was))
+                turn.others t w (λ mine. e.0 (k.tickets_differ found.0 i t (ap ticket_of was) mine)) ((k.listed t w).1 (found.0, was))
           ],
         );
-        open_if_waiting = λ j t w is. elim (at j) [ inl e ↦ (own t w (sym e.1 ∙ is)).0 | inr e ↦ k.open_if_waiting j t w (sym e.1 ∙ is) ];
-        tickets_were_given = λ j t has. elim (ticket_at j t has) [ inl e ↦ (ticket t e.1).0 | inr e ↦ let b = k.tickets_were_given j t e.1 in omega arith ];
+        open_if_waiting = λ j t w is. elim (at j) [ inl e ↦ opens t w (sym e.1 ∙ is) | inr e ↦ k.open_if_waiting j t w (sym e.1 ∙ is) ];
+        tickets_were_given = λ j t has. elim (ticket_at j t has) [ inl e ↦ (turn.ticket t e.1).0 | inr e ↦ let b = k.tickets_were_given j t e.1 in omega arith ];
         tickets_differ = λ j l t has has'.
             elim (ticket_at j t has) [
               | inl e ↦ elim (ticket_at l t has') [ inl e' ↦ e.0 ∙ sym e'.0 | inr e' ↦ absurd (not_both l t e'.0 e'.1 e.1) ]
               | inr e ↦ elim (ticket_at l t has') [ inl e' ↦ absurd (not_both j t e.0 e.1 e'.1) | inr e' ↦ k.tickets_differ j l t e.1 e'.1 ]
             ];
       };
-      grows = grows;
+      grows = turn.grows;
       once = λ j t has.
           elim (ticket_at j t has) [
-            | inl e ↦ let same = e.0 in rw same (ticket t e.1).1
+            | inl e ↦ let same = e.0 in rw same (turn.ticket t e.1).1
             | inr e ↦ inl e.1
           ];
     }
       where
         not_both : (j t : ℕ) → j ≢ i → ticket_of (old.watchers j) ≡ Some t → ticket_of s ≡ Some t → ⊥
         not_both j t ne has is =
-            elim (ticket t is).1 [
+            elim (turn.ticket t is).1 [
               | inl mine ↦ ne (k.tickets_differ j i t has mine)
               | inr new ↦ let b = k.tickets_were_given j t has in absurd (omega arith)
             ]
 
-  ends : (i : ℕ) → Goes old (record old {
+  ended : (i : ℕ) → Goes old (record old {
     closers = record old.closers { waiters = without_given (ticket_of (old.watchers i)) old.closers.waiters };
     watchers = turned i Done old.watchers;
   })
-  ends i =
-      let xs = old.closers.waiters in let given = ticket_of (old.watchers i) in
-      turns i Done (record old.closers { waiters = without_given given xs }) (omega arith) (λ t w is. absurd (cc)) (without-has xs given)
-      (λ t w c. inl (without-only xs given t w c)) (λ t has. absurd (cc))
+  ended i = turns i Done _ (ends old.closers.waiters (ticket_of (old.watchers i)) old.closers.next_ticket) (λ t w is. absurd (cc))
 
-  waits : (i w : ℕ) (l : Listing ℕ) → old.is_closed ≡ false → listing (ticket_of (old.watchers i)) w old.closers.waiters old.closers.next_ticket ≡ l
-      → Goes old (record old {
-        closers = record { waiters = l.waiters; next_ticket = l.next_ticket };
-        watchers = turned i (Waiting l.ticket w) old.watchers;
-      })
-  waits i w l opens is =
-      let xs = old.closers.waiters in let given = ticket_of (old.watchers i) in
-      let lists = subst (Lists xs given old.closers.next_ticket w) is (lists xs given old.closers.next_ticket w (k.tickets_were_given i)) in
-      turns i (Waiting l.ticket w) (record { waiters = l.waiters; next_ticket = l.next_ticket }) lists.grows
-      (λ t v e. let a : l.ticket ≡ t = cc in let b : w ≡ v = cc in (opens, rw (← a, ← b) lists.own)) lists.others
-      (λ t v c. elim (lists.only t v c) [ inl was ↦ inl was | inr new ↦ inr (let a = new.0 in let b = new.1 in rw (a, b) refl) ])
-      (λ t e. let a : l.ticket ≡ t = cc in rw (← a) (lists.below, lists.ticket))
+  listed : (i w t : ℕ) (new : Closers) → old.is_closed ≡ false
+      → listing (ticket_of (old.watchers i)) w old.closers.waiters old.closers.next_ticket ≡ record { ticket = t; waiters = new.waiters; next_ticket = new.next_ticket }
+      → Goes old (record old { closers = new; watchers = turned i (Waiting t w) old.watchers })
+  listed i w t new opens is =
+      let xs = old.closers.waiters in let given = ticket_of (old.watchers i) in let next = old.closers.next_ticket in
+      turns i (Waiting t w) new (subst (Waits xs given next w) is (waits xs given next w (k.tickets_were_given i))) (λ t v e. opens)
 
   -- a waiter that is in the list is woken when all are taken
   pub woken : (s : Standing ℕ) (t w : ℕ) → s ≡ Waiting t w → Contains old.closers.waiters (t, w) → called_by old.closers.waiters s ≡ Called t w
@@ -116,16 +103,14 @@ module _ (old : CloseWorld) (k : NobodyIsForgotten old) where
   called-ticket New = refl
   called-ticket Done = refl
 
-  called-waited : (s : Standing ℕ) (t w : ℕ) → called_by old.closers.waiters s ≡ Waiting t w → (u : ℕ) × (v : ℕ) × (s ≡ Waiting u v)
-  called-waited (Waiting u v) t w is = (u, v, refl)
-  called-waited (Called u v) t w is = absurd (cc)
-  called-waited New t w is = absurd (cc)
-  called-waited Done t w is = absurd (cc)
+  not_waiting : (s : Standing ℕ) → ((t w : ℕ) → s ≡ Waiting t w → Contains old.closers.waiters (t, w)) → (t w : ℕ) → called_by old.closers.waiters s ≡ Waiting t w → ⊥
+  not_waiting (Waiting u v) listed t w is = let now = woken (Waiting u v) u v refl (listed u v refl) in absurd (cc)
+  not_waiting (Called u v) listed t w is = absurd (cc)
+  not_waiting New listed t w is = absurd (cc)
+  not_waiting Done listed t w is = absurd (cc)
 
   nobody_waits : (i t w : ℕ) → called_by old.closers.waiters (old.watchers i) ≡ Waiting t w → ⊥
-  nobody_waits i t w is =
-      let was = called-waited (old.watchers i) t w is in
-      let now = woken (old.watchers i) was.0 was.1 was.2 ((k.listed was.0 was.1).1 (i, was.2)) in absurd (cc)
+  nobody_waits i = not_waiting (old.watchers i) (λ t w is. (k.listed t w).1 (i, is))
 
   shuts : Goes old (record {
     is_closed = true;
@@ -150,14 +135,14 @@ none_off [] (Some u) none = refl
 none_off (x ∷ more) given none = absurd (none x.0 x.1 (0, omega arith, refl))
 
 goes : (old new : CloseWorld) (event : CloseEvent) → NobodyIsForgotten old → Happens old event new → Goes old new
-goes old new (Looks i w) k (Listed ticket, watches, same) = subst (Goes old) (sym same) (waits old k i w _ watches.0 watches.1)
+goes old new (Looks i w) k (Listed ticket, watches, same) = subst (Goes old) (sym same) (listed old k i w ticket new.closers watches.0 watches.1)
 goes old new (Looks i w) k (Closed seen, watches, same) =
     let none = none_off old.closers.waiters (ticket_of (old.watchers i)) (λ t v c.
     let found = (k.listed t v).0 c in let opens = k.open_if_waiting found.0 t v found.1 in let closed = watches.0 in absurd (cc)) in
-    let closers = watches.1 in let ended = ends old k i in
-    subst (Goes old) (sym same) (rw closers (rw none at ended))
-goes old new (Looks i w) k (Refused, watches, same) = let closers = watches.1 in subst (Goes old) (sym same) (rw closers (ends old k i))
-goes old new (GivesUp i) k same = subst (Goes old) (sym same) (ends old k i)
+    let closers = watches.1 in let off = ended old k i in
+    subst (Goes old) (sym same) (rw closers (rw none at off))
+goes old new (Looks i w) k (Refused, watches, same) = let closers = watches.1 in subst (Goes old) (sym same) (rw closers (ended old k i))
+goes old new (GivesUp i) k same = subst (Goes old) (sym same) (ended old k i)
 goes old new Closes k same = subst (Goes old) (sym same) (shuts old k)
 
 go : (old new : CloseWorld) (events : List CloseEvent) → NobodyIsForgotten old → Leads old events new → Goes old new

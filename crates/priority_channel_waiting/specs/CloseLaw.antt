@@ -15,7 +15,8 @@ pub record CloseWorld : Type 0 where
   pub closers : Closers
   pub watchers : ℕ → Standing ℕ
 
--- a watcher looks, with this waiter, or gives up; or a call closes the channel
+-- A watcher looks, with this waiter, or gives up; or a call closes the channel. Other calls change
+-- nothing here.
 pub data CloseEvent : Type 0 where
   Looks : ℕ → ℕ → CloseEvent
   GivesUp : ℕ → CloseEvent
@@ -36,7 +37,7 @@ standing_by waiter _ = Done
 abbrev pub turned : ℕ → Standing ℕ → (ℕ → Standing ℕ) → ℕ → Standing ℕ
 turned which standing watchers = λ other. if other == which then standing else watchers other
 
--- one that waits is called if its waiter is among those that were taken off the list
+-- one that waits is called if its waiter is among those that the close took off the list
 abbrev pub called_by : List (ℕ × ℕ) → Standing ℕ → Standing ℕ
 called_by taken (Waiting ticket waiter) =
     if list_any (λ a. a.1 == waiter) taken then Called ticket waiter else Waiting ticket waiter
