@@ -5,6 +5,6 @@ mod balance;
 mod service;
 mod worker;
 
-pub use balance::settle;
+pub use balance::{settle, try_settle};
 pub use service::accept;
 pub use worker::take;

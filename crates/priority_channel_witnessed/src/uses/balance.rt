@@ -1,5 +1,5 @@
 //! The end of a channel, with its balance.
-ghost use Rattle.std.specs.Prelude.{◌≡◌, [], map, IfOk, IfErr};
+ghost use Rattle.std.specs.Prelude.{◌≡◌, [], map, vec_len, IfOk, IfErr};
 ghost use Rattle.priority_channel_laws.specs.Accepted.{Conserves};
 ghost use Rattle.priority_channel_witnessed.specs.History.{operation_of};
 
@@ -8,11 +8,22 @@ use priority_channel_core::channel::PriorityQueueChannel;
 use std::alloc::Allocator;
 use std::sync::Wait;
 
-/// Ends a channel, where these are all passes that are out. Then all pairs that its callers sent,
-/// on however many threads, also those whose passes have left, were received, displaced by a more
-/// urgent one, taken out by a test, or are left, each once. Else the channel and the passes come
-/// back.
+/// Ends a channel. All pairs that its callers sent, on however many threads, were received,
+/// displaced by a more urgent one, taken out by a test, or are left, each once.
 pub fn settle<T, P: Ord, W: Clone, J: Recording, A: Allocator + Copy, R: Wait>(
+    rt: &R,
+    channel: Witnessed<T, P, W, J, A>,
+    passes: Vec<Pass<T, P, W, J>, A>,
+) -> (PriorityQueueChannel<T, P, W, A>, Seen<T, P, W, J>)
+    requires all { vec_len passes ≡ J.parts }
+    ensures balanced { Conserves [] (map operation_of result.1) result.0.state.pending }
+{
+    channel.end(rt, passes)
+}
+
+/// The same where passes came and went: the calls of those that left are among the others. Where
+/// these are not all passes that are out, the channel and the passes come back.
+pub fn try_settle<T, P: Ord, W: Clone, J: Recording, A: Allocator + Copy, R: Wait>(
     rt: &R,
     channel: Witnessed<T, P, W, J, A>,
     passes: Vec<Pass<T, P, W, J>, A>,
