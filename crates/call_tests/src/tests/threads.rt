@@ -4,10 +4,10 @@ use std::thread::{self, Threads};
 use std::time::{Clock, Duration};
 
 mod clocks;
-mod closed;
 mod either;
 mod gate;
 mod limits;
+mod places;
 mod queue;
 mod refusals;
 mod relays;
@@ -24,4 +24,16 @@ impl<R: Host + Threads + Copy + Send + Sync + 'static> Threaded for R {}
 /// Gives another thread the time to begin to wait.
 fn let_others_wait<R: Clock>(rt: &R) {
     thread::sleep(rt, Duration::from_millis(15));
+}
+
+/// Waits until another thread has made it so. A watch has to stand beside it.
+fn wait_until<R: Clock, F: Fn() -> bool>(rt: &R, is_so: F)
+    requires { F.IsAlwaysCallable is_so }
+{
+    for _ in 0..u64::MAX {
+        if is_so() {
+            return;
+        }
+        thread::sleep(rt, Duration::from_millis(1));
+    }
 }

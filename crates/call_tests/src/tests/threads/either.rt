@@ -29,13 +29,17 @@ pub fn is_batch(call: Call) -> bool {
     matches!(call, Call::RecvMany(_))
 }
 
-/// Whether it waits for room or for a message.
+/// Whether it waits for the close, and not for room or for a message.
+pub fn is_for_close(call: Call) -> bool {
+    matches!(call, Call::Closed(..))
+}
+
 pub fn waits(call: Call) -> bool {
-    !matches!(call.way(), Way::Try | Way::Poll) && !matches!(call, Call::Closed(..))
+    !matches!(call.way(), Way::Try | Way::Poll)
 }
 
 /// The calls that wait for a limited time.
-pub const TIMED: [Call; 8] = [
+pub const TIMED: [Call; 12] = [
     Call::Send(Way::Timeout),
     Call::Send(Way::Deadline),
     Call::Sendv(Way::Timeout),
@@ -44,6 +48,10 @@ pub const TIMED: [Call; 8] = [
     Call::Recv(Way::Deadline),
     Call::RecvMany(Way::Timeout),
     Call::RecvMany(Way::Deadline),
+    Call::Closed(Side::Sender, Way::Timeout),
+    Call::Closed(Side::Sender, Way::Deadline),
+    Call::Closed(Side::Receiver, Way::Timeout),
+    Call::Closed(Side::Receiver, Way::Deadline),
 ];
 
 /// Whether it may send, or take out by a receiver.
@@ -71,10 +79,10 @@ pub type Answer = (Outcome, usize, u64);
 
 /// That of a call that was blocked, once it can go on.
 pub fn done(call: Call) -> Answer {
-    match call.side() {
-        Side::Sender => (Outcome::Done, 0, 0),
-        Side::Receiver => (Outcome::Done, 1, 7),
+    if call.side() == Side::Sender || is_for_close(call) {
+        return (Outcome::Done, 0, 0);
     }
+    (Outcome::Done, 1, 7)
 }
 
 /// That of a call that was blocked and has ended by this.
@@ -88,12 +96,12 @@ pub fn refused(call: Call, outcome: Outcome) -> Answer {
 
 /// That by a close.
 pub fn closed(call: Call) -> Answer {
-    match call {
-        Call::Iter | Call::IntoIter | Call::Stream(_) | Call::IntoStream(_) => {
-            refused(call, Outcome::Ended)
-        }
-        _ => refused(call, Outcome::Closed),
-    }
+    let outcome = match call {
+        Call::Iter | Call::IntoIter | Call::Stream(_) | Call::IntoStream(_) => Outcome::Ended,
+        Call::Closed(..) => Outcome::Done,
+        _ => Outcome::Closed,
+    };
+    refused(call, outcome)
 }
 
 fn answer_of(reply: &Reply) -> Answer {
@@ -144,6 +152,15 @@ impl<R: Host, A: Allocator + Copy> Either<R, A> {
         match self {
             Either::Sender(tx) => tx.try_send(7, 7).is_ok(),
             Either::Receiver(rx) => rx.try_recv().is_ok(),
+        }
+    }
+
+    /// Brings what a call of the other side waits for. Tells whether it could.
+    pub fn bring(&self, call: Call) -> bool {
+        if is_for_close(call) {
+            self.close()
+        } else {
+            self.help()
         }
     }
 

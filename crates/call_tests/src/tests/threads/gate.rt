@@ -1,7 +1,6 @@
 //! A place at which a test halts a thread.
 use std::sync::atomic::{AtomicBool, Ordering};
 use std::thread;
-use std::time::{Clock, Duration};
 
 /// Where a thread halts until another one lets it go on.
 #[derive(Drop)]
@@ -30,18 +29,9 @@ impl Gate {
         self.is_open.store(true, Ordering::SeqCst);
     }
 
+    /// Whether a thread halts here.
     pub fn is_reached(&self) -> bool {
         self.is_reached.load(Ordering::SeqCst)
-    }
-
-    /// Waits until a thread halts here.
-    pub fn wait<R: Clock>(&self, rt: &R) {
-        for _ in 0..u64::MAX {
-            if self.is_reached() {
-                return;
-            }
-            thread::sleep(rt, Duration::from_millis(1));
-        }
     }
 
     /// Comes by.

@@ -1,6 +1,6 @@
 //! Threads that wait for the same, in a queue: whoever leaves it, and however, those behind go on.
 use super::either::{Either, SIDES, block, call_of, long};
-use super::watch::Watch;
+use super::watch::within;
 use super::{Threaded, let_others_wait};
 use crate::tests::driver::calls::{Call, Side, Way};
 use crate::tests::driver::reply::Outcome;
@@ -59,8 +59,16 @@ fn block_six<R: Threaded>(rt: &R, side: Side) -> (Waiting, Either<R>) {
     (waiting, other)
 }
 
-// By one step.
-fn help_six<R: Threaded>(rt: &R, other: &Either<R>) -> bool {
+// By one step, or one after the other.
+fn help_six<R: Threaded>(rt: &R, other: &Either<R>, at_once: bool) -> bool {
+    if !at_once {
+        let mut could = true;
+        for _ in 0..6 {
+            could = other.help() && could;
+            let_others_wait(rt);
+        }
+        return could;
+    }
     match other {
         Either::Sender(tx) => tx.try_sendv((1..7u64).map(|i| (i, i)).peekable()).is_ok(),
         Either::Receiver(rx) => rx.try_recv_many(&mut Vec::new(rt.alloc()), 6) == Ok(6),
@@ -74,82 +82,91 @@ fn each_of_many_goes_on(rt: HostRuntime) {
     for side in SIDES {
         for at_once in [false, true] {
             let (waiting, other) = block_six(&rt, side);
-            let watch = Watch::begin(&rt, "each of six waits", (side, at_once));
-            if at_once {
-                expect_true(&rt, help_six(&rt, &other), "the channel is open");
-            } else {
-                for _ in 0..6 {
-                    expect_true(&rt, other.help(), "the channel is open");
-                    let_others_wait(&rt);
-                }
-            }
-            expect_all(&rt, waiting, side, Outcome::Done);
-            watch.end(&rt);
+            within(&rt, "each of six waits", (side, at_once), || {
+                expect_true(&rt, help_six(&rt, &other, at_once), "the channel is open");
+                expect_all(&rt, waiting, side, Outcome::Done);
+            });
             let pending = if side == Side::Sender { 6 } else { 0 };
             expect_equal_at(&rt, (side, at_once), other.len(), pending);
         }
     }
 }
 
-fn close_on_many<R: Threaded>(rt: &R, side: Side, ways: &[Way], each: u64) {
-    let (blocked, other) = block(rt, rt.alloc(), call_of(side, Way::Blocking));
-    let mut waiting = Vec::new(rt.alloc());
-    for _ in 0..each {
-        for way in ways {
-            begin(rt, &mut waiting, &blocked, call_of(side, *way), long());
-        }
-    }
-    let_others_wait(rt);
-    let_others_wait(rt);
-    let watch = Watch::begin(rt, "the end of many waits by a close", side);
-    expect_true(rt, other.close(), "it was open");
-    expect_all(rt, waiting, side, Outcome::Closed);
-    watch.end(rt);
-}
-
+// One close ends the waits of that side, and those for the close by both.
 #[test]
 fn a_close_ends_many_waits(rt: HostRuntime) {
-    for side in SIDES {
-        close_on_many(&rt, side, &WAYS, 10);
+    for (side, other_side) in [
+        (Side::Sender, Side::Receiver),
+        (Side::Receiver, Side::Sender),
+    ] {
+        let (blocked, other) = block(&rt, rt.alloc(), call_of(side, Way::Blocking));
+        let mut waiting = Vec::new(rt.alloc());
+        let mut closing = Vec::new(rt.alloc());
+        for _ in 0..8 {
+            for way in WAYS {
+                begin(&rt, &mut waiting, &blocked, call_of(side, way), long());
+            }
+        }
+        for way in WAYS {
+            begin(&rt, &mut closing, &blocked, Call::Closed(side, way), long());
+            begin(
+                &rt,
+                &mut closing,
+                &other,
+                Call::Closed(other_side, way),
+                long(),
+            );
+        }
+        let_others_wait(&rt);
+        let_others_wait(&rt);
+        within(&rt, "the end of many waits by a close", side, || {
+            expect_true(&rt, other.close(), "it was open");
+            expect_all(&rt, waiting, side, Outcome::Closed);
+            expect_all(&rt, closing, side, Outcome::Done);
+        });
     }
 }
 
-#[test]
-fn a_close_ends_ten_receives_of_tasks(rt: HostRuntime) {
-    close_on_many(&rt, Side::Receiver, &[Way::Future], 10);
+// Of three that wait the time of one is over: of the first, of one between two, or of the last.
+fn leave<R: Threaded>(rt: &R, side: Side, before: u64) {
+    let (blocked, other) = block(rt, rt.alloc(), call_of(side, Way::Blocking));
+    let pending = blocked.len();
+    let mut waiting = Vec::new(rt.alloc());
+    let mut leaving = Vec::new(rt.alloc());
+    for place in 0..3u64 {
+        if place == before {
+            let limit = Duration::from_millis(60);
+            begin(
+                rt,
+                &mut leaving,
+                &blocked,
+                call_of(side, Way::Timeout),
+                limit,
+            );
+        } else {
+            begin(
+                rt,
+                &mut waiting,
+                &blocked,
+                call_of(side, Way::Blocking),
+                long(),
+            );
+        }
+        let_others_wait(rt);
+    }
+    within(rt, "those beside one that has left", (side, before), || {
+        expect_all(rt, leaving, side, Outcome::Timeout);
+        expect_true(rt, other.help() && other.help(), "the channel is open");
+        expect_all(rt, waiting, side, Outcome::Done);
+    });
+    expect_equal_at(rt, (side, before), blocked.len(), pending);
 }
 
-// The time of one is over: of the first, of one between two, or of the last.
 #[test]
 fn those_beside_one_whose_time_is_over_go_on(rt: HostRuntime) {
     for side in SIDES {
-        let call = call_of(side, Way::Blocking);
         for before in 0..3u64 {
-            let (blocked, other) = block(&rt, rt.alloc(), call);
-            let pending = blocked.len();
-            let watch = Watch::begin(&rt, "those beside one that has left", (side, before));
-            let mut waiting = Vec::new(rt.alloc());
-            let mut leaving = Vec::new(rt.alloc());
-            for place in 0..3u64 {
-                if place == before {
-                    let timed = call_of(side, Way::Timeout);
-                    begin(
-                        &rt,
-                        &mut leaving,
-                        &blocked,
-                        timed,
-                        Duration::from_millis(60),
-                    );
-                } else {
-                    begin(&rt, &mut waiting, &blocked, call, long());
-                }
-                let_others_wait(&rt);
-            }
-            expect_all(&rt, leaving, side, Outcome::Timeout);
-            expect_true(&rt, other.help() && other.help(), "the channel is open");
-            expect_all(&rt, waiting, side, Outcome::Done);
-            watch.end(&rt);
-            expect_equal_at(&rt, (side, before), blocked.len(), pending);
+            leave(&rt, side, before);
         }
     }
 }
@@ -168,28 +185,31 @@ fn wake_in_vain<R: Threaded>(own: &Either<R>, other: &Either<R>) -> bool {
     }
 }
 
-// It is listed again, for what comes later. The thread may be faster; then it is tried again.
+// Tells whether a thread that waits was woken in vain. It is listed again, for what comes later.
+fn waits_on<R: Threaded>(rt: &R, side: Side) -> bool {
+    let call = call_of(side, Way::Blocking);
+    let (blocked, other) = block(rt, rt.alloc(), call);
+    let mut waiting = Vec::new(rt.alloc());
+    begin(rt, &mut waiting, &blocked, call, long());
+    let_others_wait(rt);
+    within(rt, "a thread that was woken for nothing", side, || {
+        let is_seen = wake_in_vain(&blocked, &other);
+        if is_seen {
+            let_others_wait(rt);
+            expect_true(rt, other.help(), "the channel is open");
+        }
+        expect_all(rt, waiting, side, Outcome::Done);
+        is_seen
+    })
+}
+
+// The thread may be faster; then it is tried again.
 #[test]
 fn a_thread_that_was_woken_in_vain_waits_on(rt: HostRuntime) {
     for side in SIDES {
-        let call = call_of(side, Way::Blocking);
         let mut is_seen = false;
-        for round in 0..100u32 {
-            if is_seen {
-                break;
-            }
-            let (blocked, other) = block(&rt, rt.alloc(), call);
-            let mut waiting = Vec::new(rt.alloc());
-            begin(&rt, &mut waiting, &blocked, call, long());
-            let_others_wait(&rt);
-            let watch = Watch::begin(&rt, "a thread that was woken for nothing", (side, round));
-            is_seen = wake_in_vain(&blocked, &other);
-            if is_seen {
-                let_others_wait(&rt);
-                expect_true(&rt, other.help(), "the channel is open");
-            }
-            expect_all(&rt, waiting, side, Outcome::Done);
-            watch.end(&rt);
+        for _ in 0..100u32 {
+            is_seen = is_seen || waits_on(&rt, side);
         }
         expect_equal_at(&rt, side, is_seen, true);
     }
@@ -203,6 +223,14 @@ fn echo<R: Wait + Clone>(there: &Receiver<u64, u64, R>, back: &Sender<u64, u64, 
         }
     }
     true
+}
+
+// Each number comes back before the next one is sent.
+fn send_and_receive<R: Threaded>(rt: &R, tx: &Sender<u64, u64, R>, rx: &Receiver<u64, u64, R>) {
+    for number in 0..100u64 {
+        expect_equal(rt, tx.send_blocking(number, 0), Ok(()));
+        expect_equal(rt, rx.recv_blocking(), Ok((number, 0)));
+    }
 }
 
 // The one that has answered looks again for the next number, while the others sleep: most numbers
@@ -219,19 +247,16 @@ fn a_number_at_a_time_reaches_one_of_many(rt: HostRuntime) {
         working.push(thread).expect(&rt, "memory");
     }
     for hundred in 0..20u64 {
-        let watch = Watch::begin(&rt, "a hundred numbers that come back", hundred);
-        for number in 0..100u64 {
-            expect_equal(&rt, tx.send_blocking(number, 0), Ok(()));
-            expect_equal(&rt, rx.recv_blocking(), Ok((number, 0)));
-        }
-        watch.end(&rt);
+        within(&rt, "a hundred numbers that come back", hundred, || {
+            send_and_receive(&rt, &tx, &rx);
+        });
         // Until all of them sleep.
         let_others_wait(&rt);
     }
-    let watch = Watch::begin(&rt, "the end of loops by a last drop", ());
-    drop(tx);
-    for thread in working {
-        expect_true(&rt, thread.join(&rt), "each number was sent back");
-    }
-    watch.end(&rt);
+    within(&rt, "the end of loops by a last drop", 6u64, || {
+        drop(tx);
+        for thread in working {
+            expect_true(&rt, thread.join(&rt), "each number was sent back");
+        }
+    });
 }

@@ -1,14 +1,16 @@
 //! Memory that is refused to waits, and how much of it they ask for.
 use super::either::{
-    Either, SIDES, TIMED, block, call_of, done, is_batch, is_bulk, long, refused, waits,
+    Either, SIDES, TIMED, block, call_of, done, is_batch, is_bulk, is_for_close, long, refused,
+    waits,
 };
-use super::watch::Watch;
-use super::{Threaded, let_others_wait};
+use super::places::{PLACES, Place, at, before};
+use super::watch::{beside, within};
+use super::{Threaded, let_others_wait, wait_until};
 use crate::tests::driver::all::ALL;
 use crate::tests::driver::calls::{Call, Side, Way};
 use crate::tests::driver::reply::Outcome;
 use crate::tests::{expect_equal_at, expect_true};
-use async_priority_channel::{bounded, bounded_reserved};
+use async_priority_channel::{Sender, bounded, bounded_reserved};
 use refusing::Refusing;
 use std::alloc::Global;
 use std::thread;
@@ -17,67 +19,44 @@ use std::time::Duration;
 // A wait asks for a waiter, and for an entry in the list of those that wait. A batch asks for its
 // memory too, a loop never fails, and a task asks for more.
 fn asks_for_two(call: Call) -> bool {
-    let is_on_a_thread = waits(call) && call.way() != Way::Future;
-    is_on_a_thread && matches!(call, Call::Send(_) | Call::Sendv(_) | Call::Recv(_))
+    waits(call)
+        && call.way() != Way::Future
+        && matches!(
+            call,
+            Call::Send(_) | Call::Sendv(_) | Call::Recv(_) | Call::Closed(..)
+        )
 }
 
 // A wait is refused its nth request, where none waits before it or where one does.
-fn refuse_a_wait<R: Threaded>(rt: &R, call: Call, n: u64, is_second: bool) {
+fn refuse_a_wait<R: Threaded>(rt: &R, call: Call, n: u64, place: Place) {
     let alloc = Refusing::new(rt.alloc());
     let (blocked, other) = block(rt, &alloc, call);
-    let before = call_of(call.side(), Way::Blocking);
-    let round = (call, n, is_second);
-    let watch = Watch::begin(rt, "a wait without memory", round);
-    let (first, (answer, was_refused)) = thread::join(
+    let round = (call, n, place);
+    let (first, (answer, met_none)) = at(
         rt,
+        ("a wait without memory", round),
+        place,
+        (rt, &alloc, call),
+        (&blocked, &other),
         || {
-            if !is_second {
-                return done(before);
-            }
-            blocked.make(rt, &alloc, before, long())
-        },
-        || {
-            let_others_wait(rt);
             alloc.refuse_nth(n);
             let answer = blocked.make(rt, &alloc, call, long());
-            let was_refused = !alloc.refuse_none();
-            // Nobody waits any more, and all goes on.
-            expect_true(rt, other.help(), "the channel is open");
-            (answer, was_refused)
+            (answer, alloc.refuse_none())
         },
     );
-    watch.end(rt);
-    expect_equal_at(rt, round, first, done(before));
-    expect_equal_at(
-        rt,
-        round,
-        (answer, was_refused),
-        (refused(call, Outcome::Memory), true),
-    );
+    let wanted = (done(before(call)), refused(call, Outcome::Memory), false);
+    expect_equal_at(rt, round, (first, answer, met_none), wanted);
 }
 
 #[test]
 fn each_request_of_a_wait_may_be_refused(rt: HostRuntime) {
     for call in ALL {
-        if asks_for_two(call) {
-            for n in 1..3u64 {
-                refuse_a_wait(&rt, call, n, false);
-                // A bulk send leaves no other send blocked.
-                if !is_bulk(call) {
-                    refuse_a_wait(&rt, call, n, true);
-                }
+        for place in PLACES {
+            if asks_for_two(call) && place.is_for(call) {
+                refuse_a_wait(&rt, call, 1, place);
+                refuse_a_wait(&rt, call, 2, place);
             }
         }
-    }
-}
-
-// Until threads have made so many requests.
-fn wait_for_requests<R: Threaded>(rt: &R, alloc: &Refusing<Global>, count: u64) {
-    for _ in 0..u64::MAX {
-        if alloc.count() >= count {
-            return;
-        }
-        thread::sleep(rt, Duration::from_millis(1));
     }
 }
 
@@ -89,24 +68,24 @@ fn the_next_that_cannot_be_listed_is_told(rt: HostRuntime) {
         let call = call_of(side, Way::Blocking);
         let (blocked, other) = block(&rt, &alloc, call);
         let before = alloc.count();
-        let watch = Watch::begin(&rt, "the next of two waits", side);
-        let (first, (second, could)) = thread::join(
+        let (first, (second, could)) = beside(
             &rt,
+            "the next of two waits",
+            side,
             || blocked.make(&rt, &alloc, call, long()),
             || {
-                wait_for_requests(&rt, &alloc, before.wrapping_add(2));
+                wait_until(&rt, || alloc.count() >= before.wrapping_add(2));
                 thread::join(
                     &rt,
                     || blocked.make(&rt, &alloc, call, long()),
                     || {
-                        wait_for_requests(&rt, &alloc, before.wrapping_add(4));
+                        wait_until(&rt, || alloc.count() >= before.wrapping_add(4));
                         alloc.refuse_all();
                         other.help()
                     },
                 )
             },
         );
-        watch.end(&rt);
         let wanted = (done(call), refused(call, Outcome::Memory), true);
         expect_equal_at(&rt, side, (first, second, could), wanted);
     }
@@ -119,23 +98,38 @@ fn a_loop_goes_on_without_memory(rt: HostRuntime) {
         let alloc = Refusing::new(rt.alloc());
         let (blocked, other) = block(&rt, &alloc, call);
         alloc.refuse_all();
-        let watch = Watch::begin(&rt, "a loop without memory", call);
-        let (answer, asked) = thread::join(
+        let (answer, (asked, could)) = beside(
             &rt,
+            "a loop without memory",
+            call,
             || blocked.make(&rt, &alloc, call, long()),
             || {
                 let before = alloc.count();
                 thread::sleep(&rt, Duration::from_millis(200));
-                let asked = alloc.count().saturating_sub(before);
-                expect_true(&rt, other.help(), "the channel is open");
-                asked
+                (alloc.count().saturating_sub(before), other.help())
             },
         );
-        watch.end(&rt);
-        expect_equal_at(&rt, call, answer, done(call));
+        expect_equal_at(&rt, call, (answer, could), (done(call), true));
         // One request a millisecond, or fewer on a busy machine.
         expect_equal_at(&rt, (call, asked), 5 < asked && asked < 500, true);
     }
+}
+
+// Sends sixteen, each to a loop that waits. Tells how many requests came from the fifth on.
+fn send_slowly<R: Threaded>(
+    rt: &R,
+    alloc: &Refusing<Global>,
+    tx: &Sender<u64, u64, R, &Refusing<Global>>,
+) -> u64 {
+    let mut before = 0;
+    for round in 0..16u64 {
+        let_others_wait(rt);
+        if round == 4 {
+            before = alloc.count();
+        }
+        expect_true(rt, tx.try_send(round, round).is_ok(), "there is room");
+    }
+    alloc.count().saturating_sub(before)
 }
 
 // Its waiter is made once. What each wait asks for is the channel's list, since a wake takes the
@@ -144,23 +138,13 @@ fn a_loop_goes_on_without_memory(rt: HostRuntime) {
 fn a_loop_keeps_its_waiter(rt: HostRuntime) {
     let alloc = Refusing::new(rt.alloc());
     let (tx, rx) = bounded_reserved(&rt, &alloc, 16).expect(&rt, "a channel");
-    let watch = Watch::begin(&rt, "a loop that waits again and again", ());
-    let (received, asked) = thread::join(
+    let (received, asked) = beside(
         &rt,
+        "a loop that waits again and again",
+        16u64,
         || rx.iter().take(16).count(),
-        || {
-            let mut before = 0;
-            for round in 0..16u64 {
-                let_others_wait(&rt);
-                if round == 4 {
-                    before = alloc.count();
-                }
-                expect_true(&rt, tx.try_send(round, round).is_ok(), "there is room");
-            }
-            alloc.count().saturating_sub(before)
-        },
+        || send_slowly(&rt, &alloc, &tx),
     );
-    watch.end(&rt);
     // With a waiter of its own each of the last twelve waits would ask twice.
     expect_equal_at(&rt, asked, (received, asked < 18), (16, true));
 }
@@ -172,20 +156,16 @@ fn a_wait_leaves_no_place_behind(rt: HostRuntime) {
     for call in TIMED {
         let alloc = Refusing::new(rt.alloc());
         let (blocked, other) = block(&rt, &alloc, call);
+        let too_many = if is_batch(call) { 3 } else { 2 };
         for round in 0..50u64 {
-            let needed = if is_batch(call) { 2 } else { 1 };
-            let (nth, millis) = if round == 0 {
-                (0, 100)
-            } else {
-                (needed + 1, 2)
-            };
+            let (nth, millis) = if round == 0 { (0, 100) } else { (too_many, 2) };
             alloc.refuse_nth(nth);
-            let watch = Watch::begin(&rt, "the end of a limit", (call, round));
-            let answer = blocked.make(&rt, &alloc, call, Duration::from_millis(millis));
-            watch.end(&rt);
-            let met_none = alloc.refuse_none();
-            let wanted = (Outcome::Timeout, round > 0);
-            expect_equal_at(&rt, (call, round), (answer.0, met_none), wanted);
+            let limit = Duration::from_millis(millis);
+            let answer = within(&rt, "the end of a limit", (call, round), || {
+                blocked.make(&rt, &alloc, call, limit)
+            });
+            let got = (answer.0, alloc.refuse_none());
+            expect_equal_at(&rt, (call, round), got, (Outcome::Timeout, nth > 0));
         }
         expect_true(&rt, other.help(), "the channel is open");
     }
@@ -195,19 +175,20 @@ fn a_wait_leaves_no_place_behind(rt: HostRuntime) {
 #[test]
 fn memory_for_a_message_is_not_waited_for(rt: HostRuntime) {
     for call in ALL {
-        if !waits(call) || call.side() != Side::Sender {
+        if !waits(call) || call.side() != Side::Sender || is_for_close(call) {
             continue;
         }
         for limit in [Duration::ZERO, long(), Duration::MAX] {
             let alloc = Refusing::new(rt.alloc());
             let (tx, rx) = bounded(&rt, &alloc, 2).expect(&rt, "a channel");
+            let tx = Either::Sender(tx);
             alloc.refuse_all();
-            let watch = Watch::begin(&rt, "a send without memory", (call, limit));
-            let answer = Either::Sender(tx).make(&rt, &alloc, call, limit);
-            watch.end(&rt);
             let round = (call, limit);
-            expect_equal_at(&rt, round, (answer.0, answer.2), (Outcome::Memory, 7));
-            expect_true(&rt, rx.is_empty(), "nothing was sent");
+            let answer = within(&rt, "a send without memory", round, || {
+                tx.make(&rt, &alloc, call, limit)
+            });
+            let got = (answer.0, answer.2, rx.is_empty());
+            expect_equal_at(&rt, round, got, (Outcome::Memory, 7, true));
         }
     }
 }
@@ -221,17 +202,12 @@ fn what_need_not_wait_asks_for_nothing(rt: HostRuntime) {
         }
         let alloc = Refusing::new(rt.alloc());
         let (blocked, other) = block(&rt, &alloc, call);
-        let has_room = other.help() && (is_bulk(call) || other.help());
-        expect_true(&rt, has_room, "the channel is open");
+        let could = other.bring(call) && (is_bulk(call) || is_for_close(call) || other.help());
         alloc.refuse_nth(1);
-        let watch = Watch::begin(&rt, "what need not wait", call);
-        let answer = blocked.make(&rt, &alloc, call, long());
-        watch.end(&rt);
-        expect_equal_at(
-            &rt,
-            call,
-            (answer.0, alloc.refuse_none()),
-            (Outcome::Done, true),
-        );
+        let answer = within(&rt, "what need not wait", call, || {
+            blocked.make(&rt, &alloc, call, long())
+        });
+        let got = (could, answer.0, alloc.refuse_none());
+        expect_equal_at(&rt, call, got, (true, Outcome::Done, true));
     }
 }

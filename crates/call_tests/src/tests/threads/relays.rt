@@ -1,7 +1,7 @@
 //! Many threads that pass messages on: nothing is lost or made up, and all of it ends.
 use super::Threaded;
 use super::either::{call_of, moves};
-use super::watch::Watch;
+use super::watch::{MUCH_PATIENCE, beside, within, within_millis};
 use crate::tests::driver::all::ALL;
 use crate::tests::driver::calls::{Call, Input, Pair, Pairs, Side, Way};
 use crate::tests::driver::receive::receive;
@@ -11,7 +11,7 @@ use async_priority_channel::{Ends, Receiver, RecvError, RecvFault, Sender, bound
 use futures::executor::block_on;
 use std::alloc::Global;
 use std::sync::Wait;
-use std::thread;
+use std::thread::{self, JoinHandle};
 use std::time::Duration;
 
 // How many messages went a way, and their sum.
@@ -121,20 +121,23 @@ fn relay<R: Threaded>(
     for i in 0..load.senders {
         let tx = tx.clone().expect(rt, "a sender");
         let first = i.wrapping_mul(each);
-        let thread = thread::spawn(rt, move || deliver(&host, &tx, by, first, each)).expect(
-            rt, "a thread",
-        );
-        sending.push(thread).expect(rt, "memory");
+        let thread = thread::spawn(rt, move || deliver(&host, &tx, by, first, each));
+        sending
+            .push(thread.expect(rt, "a thread"))
+            .expect(rt, "memory");
     }
     drop(tx);
-    let (mut back, mut came) = ((0, 0), (0, 0));
-    for thread in sending {
-        back = sum(back, thread.join(rt));
+    within_millis(rt, MUCH_PATIENCE, ("a relay", by, load), || {
+        (join_all(rt, sending), join_all(rt, receiving))
+    })
+}
+
+fn join_all<R: Threaded>(rt: &R, threads: Vec<JoinHandle<Total>>) -> Total {
+    let mut all = (0, 0);
+    for thread in threads {
+        all = sum(all, thread.join(rt));
     }
-    for thread in receiving {
-        came = sum(came, thread.join(rt));
-    }
-    (back, came)
+    all
 }
 
 const LOADS: [Load; 3] = [
@@ -165,11 +168,9 @@ fn tasks_on_many_threads_relay_all(rt: HostRuntime) {
                 unbounded(&rt, rt.alloc())
             };
             let ends = made.expect(&rt, "a channel");
-            let watch = Watch::begin_long(&rt, "a relay", (load, is_bounded));
-            let (back, came) = relay(&rt, ends, By::Futures, load);
-            watch.end(&rt);
+            let totals = relay(&rt, ends, By::Futures, load);
             let all = sum_below(load.senders.wrapping_mul(load.each));
-            expect_equal_at(&rt, (load, is_bounded), (back, came), ((0, 0), all));
+            expect_equal_at(&rt, (load, is_bounded), totals, ((0, 0), all));
         }
     }
 }
@@ -182,14 +183,12 @@ fn by_all_calls_nothing_is_lost_or_made_up(rt: HostRuntime) {
         receivers: 4,
     };
     let ends = bounded(&rt, rt.alloc(), 8).expect(&rt, "a channel");
-    let watch = Watch::begin_long(&rt, "many messages by all kinds of calls", load);
     let (back, came) = relay(&rt, ends, By::AllCalls, load);
-    watch.end(&rt);
     expect_equal(&rt, sum(back, came), sum_below(4000));
 }
 
 // Sends so many by one call, on its thread or by a task.
-fn send_all<R: Threaded>(rt: &R, tx: &Sender<u64, u64, R>, by: Way, count: u64) -> bool {
+fn send_all<R: Threaded>(rt: &R, tx: Sender<u64, u64, R>, by: Way, count: u64) -> bool {
     let all = (0..count).map(|i| (i, i)).peekable();
     match by {
         Way::Future => matches!(block_on(rt, tx.sendv(all)), Ok(Ok(()))),
@@ -222,14 +221,20 @@ fn a_bulk_send_and_receives_take_turns(rt: HostRuntime) {
         for receives_by in [Way::Blocking, Way::Future] {
             let (tx, rx) = bounded(&rt, rt.alloc(), 1).expect(&rt, "a channel");
             let round = (sends_by, receives_by);
-            let watch = Watch::begin_long(&rt, "a bulk send into a channel for one", round);
-            let sending = thread::spawn(&rt, move || send_all(&rt, &tx, sends_by, 5000)).expect(
-                &rt, "a thread",
+            let got = within_millis(
+                &rt,
+                MUCH_PATIENCE,
+                ("a bulk send into a channel for one", round),
+                || {
+                    thread::join(
+                        &rt,
+                        // The receives end as the sender is dropped.
+                        move || send_all(&rt, tx, sends_by, 5000),
+                        || receive_all(&rt, &rx, receives_by),
+                    )
+                },
             );
-            let received = receive_all(&rt, &rx, receives_by);
-            let are_sent = sending.join(&rt);
-            watch.end(&rt);
-            expect_equal_at(&rt, round, (are_sent, received), (true, sum_below(5000)));
+            expect_equal_at(&rt, round, got, (true, sum_below(5000)));
         }
     }
 }
@@ -258,10 +263,14 @@ fn what_was_pending_comes_beside_a_close(rt: HostRuntime) {
         .try_sendv((0..1000u64).map(|i| (i, i)).peekable())
         .is_ok();
     expect_true(&rt, sent, "there is room");
-    let watch = Watch::begin(&rt, "what was pending, beside a close", ());
-    let (came, was_open) = thread::join(&rt, || collect(&rt, &rx, By::Futures), || tx.close());
-    watch.end(&rt);
-    expect_equal(&rt, (came, was_open), (sum_below(1000), true));
+    let got = beside(
+        &rt,
+        "what was pending, beside a close",
+        1000u64,
+        || collect(&rt, &rx, By::Futures),
+        || tx.close(),
+    );
+    expect_equal(&rt, got, (sum_below(1000), true));
     expect_equal(&rt, rx.recv_blocking(), Err(RecvFault::Closed(RecvError)));
 }
 
@@ -303,12 +312,12 @@ fn pass_on<R: Wait + Clone>(
 fn two_threads_go_on_side_by_side(rt: HostRuntime) {
     let (there_tx, there_rx) = bounded(&rt, rt.alloc(), 1).expect(&rt, "a channel");
     let (back_tx, back_rx) = bounded(&rt, rt.alloc(), 1).expect(&rt, "a channel");
-    let watch = Watch::begin(&rt, "numbers that are passed to and fro", ());
-    let could = thread::join(
+    let could = beside(
         &rt,
+        "numbers that are passed to and fro",
+        LAST,
         || pass_on(&there_tx, &back_rx, Some(1)),
         || pass_on(&back_tx, &there_rx, None),
     );
-    watch.end(&rt);
     expect_equal(&rt, could, (true, true));
 }

@@ -1,18 +1,41 @@
 //! Calls beside those of other threads: a bulk call is one step, and a thread that has waited wakes
 //! those that wait for what it leaves.
 use super::clocks::{Paced, Plan, Times, second};
-use super::either::{Either, TIMED, block, done, long, moves};
-use super::let_others_wait;
-use super::watch::Watch;
+use super::either::{Answer, Either, TIMED, block, done, is_for_close, long, moves};
+use super::watch::{MUCH_PATIENCE, beside, within_millis};
+use super::{Threaded, let_others_wait, wait_until};
 use crate::tests::driver::all::ALL;
 use crate::tests::driver::calls::{Call, Way};
 use crate::tests::{Host, expect_equal, expect_equal_at, is_pending, new_task};
-use async_priority_channel::{TryRecvManyError, bounded, unbounded};
+use async_priority_channel::{Receiver, Sender, TryRecvManyError, bounded, unbounded};
 use refusing::Refusing;
 use std::alloc::{Allocator, Global};
+use std::fmt::Debug;
 use std::sync::atomic::{AtomicBool, Ordering};
 use std::thread;
-use std::time::{Clock, Duration};
+use std::time::Duration;
+
+// Sends three by one call, again and again. Tells how many were sent by one at most.
+fn send_threes<R: Host>(tx: &Sender<u64, u64, R>) -> usize {
+    let mut most = 0;
+    for _ in 0..100_000u32 {
+        let three = [(1, 1), (2, 2), (3, 3)].into_iter().peekable();
+        let unsent = tx
+            .try_sendv(three)
+            .map_err(|error| error.into_inner().count());
+        most = most.max(3usize.saturating_sub(unsent.err().unwrap_or(0)));
+    }
+    most
+}
+
+fn receive_until<R: Host>(rx: &Receiver<u64, u64, R>, is_over: &AtomicBool) {
+    for _ in 0..u64::MAX {
+        let _ = rx.try_recv();
+        if is_over.load(Ordering::SeqCst) {
+            return;
+        }
+    }
+}
 
 // One thread sends three by one call into a channel for one, while another receives. One step finds
 // room for one at most.
@@ -20,32 +43,49 @@ use std::time::{Clock, Duration};
 fn a_bulk_try_does_not_wait_for_room(rt: HostRuntime) {
     let is_over = AtomicBool::new(false);
     let (tx, rx) = bounded(&rt, rt.alloc(), 1).expect(&rt, "a channel");
-    let watch = Watch::begin_long(&rt, "many bulk sends", ());
-    let (most, ()) = thread::join(
-        &rt,
-        || {
-            let mut most = 0;
-            for _ in 0..100_000u32 {
-                let three = [(1, 1), (2, 2), (3, 3)].into_iter().peekable();
-                let unsent = tx
-                    .try_sendv(three)
-                    .map_err(|error| error.into_inner().count());
-                most = most.max(3usize.saturating_sub(unsent.err().unwrap_or(0)));
-            }
-            is_over.store(true, Ordering::SeqCst);
-            most
-        },
-        || {
-            for _ in 0..u64::MAX {
-                let _ = rx.try_recv();
-                if is_over.load(Ordering::SeqCst) {
-                    return;
-                }
-            }
-        },
-    );
-    watch.end(&rt);
+    let (most, ()) = within_millis(&rt, MUCH_PATIENCE, "many bulk sends", || {
+        thread::join(
+            &rt,
+            || {
+                let most = send_threes(&tx);
+                is_over.store(true, Ordering::SeqCst);
+                most
+            },
+            || receive_until(&rx, &is_over),
+        )
+    });
     expect_equal(&rt, most, 1);
+}
+
+// Sends four by one call, again and again. Tells whether one was split.
+fn send_fours<R: Host>(tx: &Sender<u64, u64, R>, is_over: &AtomicBool) -> bool {
+    let mut is_split = false;
+    for _ in 0..u64::MAX {
+        let four = [(1, 1), (2, 2), (3, 3), (4, 4)].into_iter().peekable();
+        if let Err(error) = tx.try_sendv(four) {
+            is_split = is_split | (error.into_inner().count() != 4);
+        }
+        if is_over.load(Ordering::SeqCst) {
+            break;
+        }
+    }
+    is_split
+}
+
+// Receives up to four by one call, again and again. Tells whether one had neither four nor none.
+fn receive_fours<R: Host>(rt: &R, rx: &Receiver<u64, u64, R>) -> bool {
+    let mut is_less = false;
+    let mut batch = Vec::new(rt.alloc());
+    for _ in 0..5_000u32 {
+        batch.clear();
+        // Memory is reserved before, so that what comes meanwhile has some too.
+        let has_memory = batch.reserve(4).is_ok();
+        match rx.try_recv_many(&mut batch, 4) {
+            Ok(4) | Err(TryRecvManyError::Empty) if has_memory => {}
+            _ => is_less = true,
+        }
+    }
+    is_less
 }
 
 // One thread sends four by one call while another receives four at a time: none of these is split.
@@ -53,44 +93,25 @@ fn a_bulk_try_does_not_wait_for_room(rt: HostRuntime) {
 fn a_batch_is_one_step(rt: HostRuntime) {
     let is_over = AtomicBool::new(false);
     let (tx, rx) = bounded(&rt, rt.alloc(), 4).expect(&rt, "a channel");
-    let watch = Watch::begin(&rt, "many batches", ());
-    let (is_split, is_less) = thread::join(
+    let got = beside(
         &rt,
+        "many batches",
+        4u64,
+        || send_fours(&tx, &is_over),
         || {
-            let mut is_split = false;
-            for _ in 0..u64::MAX {
-                let four = [(1, 1), (2, 2), (3, 3), (4, 4)].into_iter().peekable();
-                if let Err(error) = tx.try_sendv(four) {
-                    is_split = is_split | (error.into_inner().count() != 4);
-                }
-                if is_over.load(Ordering::SeqCst) {
-                    break;
-                }
-            }
-            is_split
-        },
-        || {
-            let mut is_less = false;
-            let mut batch = Vec::new(rt.alloc());
-            for _ in 0..5_000u32 {
-                batch.clear();
-                // Memory is reserved before, so that what comes meanwhile has some too.
-                let has_memory = batch.reserve(4).is_ok();
-                match rx.try_recv_many(&mut batch, 4) {
-                    Ok(4) | Err(TryRecvManyError::Empty) if has_memory => {}
-                    _ => is_less = true,
-                }
-            }
+            let is_less = receive_fours(&rt, &rx);
             is_over.store(true, Ordering::SeqCst);
             is_less
         },
     );
-    watch.end(&rt);
-    expect_equal(&rt, (is_split, is_less), (false, false));
+    expect_equal(&rt, got, (false, false));
 }
 
 /// A place at which a thread halts as it waits.
 trait Halt {
+    /// From now on a thread halts here.
+    fn arm(&self);
+
     fn is_reached(&self) -> bool;
 
     /// Lets the thread go on.
@@ -105,6 +126,9 @@ struct Reading<'a> {
 }
 
 impl Halt for Reading<'_> {
+    // The clock has its plan from the first.
+    fn arm(&self) {}
+
     fn is_reached(&self) -> bool {
         self.times.gate.is_reached()
     }
@@ -119,6 +143,10 @@ impl Halt for Reading<'_> {
 
 /// A request for memory, before the thread is listed.
 impl Halt for Refusing<Global> {
+    fn arm(&self) {
+        self.hold_nth(1);
+    }
+
     fn is_reached(&self) -> bool {
         self.is_holding()
     }
@@ -128,35 +156,20 @@ impl Halt for Refusing<Global> {
     }
 }
 
-fn wait_until_reached<H: Halt>(rt: &impl Clock, halt: &H) {
-    for _ in 0..u64::MAX {
-        if halt.is_reached() {
-            return;
-        }
-        thread::sleep(rt, Duration::from_millis(1));
-    }
-}
-
 // Lets the thread go on, until it has answered.
-fn let_answer<H: Halt>(rt: &impl Clock, halt: &H, has_answered: &AtomicBool) {
+fn let_answer<R: Threaded, H: Halt>(rt: &R, halt: &H, has_answered: &AtomicBool) {
     halt.let_go();
-    for _ in 0..u64::MAX {
-        if has_answered.load(Ordering::SeqCst) {
-            return;
-        }
-        thread::sleep(rt, Duration::from_millis(1));
-    }
+    wait_until(rt, || has_answered.load(Ordering::SeqCst));
 }
 
 // Brings what the thread waits for, and more of it than there is place for, so that a task waits
 // until the thread has gone on. Tells whether that task is woken then.
-fn is_task_woken<H: Host, R: Host, A: Allocator + Copy, S: Halt>(
+fn is_task_woken<H: Threaded, R: Host, A: Allocator + Copy, S: Halt>(
     host: &H,
     other: &Either<R, A>,
     halt: &S,
     has_answered: &AtomicBool,
 ) -> bool {
-    wait_until_reached(host, halt);
     let could = other.help() && other.help();
     let task = new_task(host);
     // A waker wakes its task also as it is dropped, so the future lives until that was looked at.
@@ -177,32 +190,68 @@ fn is_task_woken<H: Host, R: Host, A: Allocator + Copy, S: Halt>(
     could && is_woken
 }
 
+// A close has nobody else to wake.
+fn comes<H: Threaded, R: Host, A: Allocator + Copy, S: Halt>(
+    host: &H,
+    call: Call,
+    other: &Either<R, A>,
+    halt: &S,
+    has_answered: &AtomicBool,
+) -> bool {
+    wait_until(host, || halt.is_reached());
+    if !is_for_close(call) {
+        return is_task_woken(host, other, halt, has_answered);
+    }
+    let was_open = other.close();
+    let_answer(host, halt, has_answered);
+    was_open
+}
+
+// What the call waits for comes as it halts, and the other side goes on once it has answered.
+fn expect_turns<H, N, R, A, S>(
+    host: &H,
+    round: N,
+    (rt, alloc, call): (&R, A, Call),
+    limit: Duration,
+    halt: &S,
+)
+where
+    H: Threaded,
+    N: Copy + Debug + Drop + Send,
+    R: Host + Send + Sync,
+    A: Allocator + Copy + Send + Sync,
+    S: Halt + Sync,
+{
+    let (blocked, other) = block(rt, alloc, call);
+    halt.arm();
+    let has_answered = AtomicBool::new(false);
+    let (answer, could) = beside(
+        host,
+        "what comes as a thread waits",
+        round,
+        || {
+            let answer = blocked.make(rt, alloc, call, limit);
+            has_answered.store(true, Ordering::SeqCst);
+            answer
+        },
+        || comes(host, call, &other, halt, &has_answered),
+    );
+    expect_equal_at(host, round, (answer, could), (done(call), true));
+}
+
 #[test]
 fn a_thread_that_has_waited_wakes_the_other_side(rt: HostRuntime) {
     for call in TIMED {
         for reading in [2u64, 3] {
             for is_late in [false, true] {
-                let round = (call, reading, is_late);
                 let times = Times::new(Plan::HaltsAt(reading));
                 let paced = Paced::new(&rt, &times);
-                let (blocked, other) = block(&paced, rt.alloc(), call);
-                let has_answered = AtomicBool::new(false);
                 let halt = Reading {
                     times: &times,
                     is_late,
                 };
-                let watch = Watch::begin(&rt, "what comes as a thread waits", round);
-                let (answer, is_woken) = thread::join(
-                    &rt,
-                    || {
-                        let answer = blocked.make(&paced, rt.alloc(), call, second());
-                        has_answered.store(true, Ordering::SeqCst);
-                        answer
-                    },
-                    || is_task_woken(&rt, &other, &halt, &has_answered),
-                );
-                watch.end(&rt);
-                expect_equal_at(&rt, round, (answer, is_woken), (done(call), true));
+                let round = (call, reading, is_late);
+                expect_turns(&rt, round, (&paced, rt.alloc(), call), second(), &halt);
             }
         }
     }
@@ -213,25 +262,10 @@ fn a_thread_that_has_waited_wakes_the_other_side(rt: HostRuntime) {
 #[test]
 fn a_call_that_looks_again_wakes_the_other_side(rt: HostRuntime) {
     for call in ALL {
-        if !moves(call) || call.way() == Way::Try {
-            continue;
+        if (moves(call) || is_for_close(call)) && call.way() != Way::Try {
+            let alloc = Refusing::new(rt.alloc());
+            expect_turns(&rt, call, (&rt, &alloc, call), long(), &alloc);
         }
-        let alloc = Refusing::new(rt.alloc());
-        let (blocked, other) = block(&rt, &alloc, call);
-        alloc.hold_nth(1);
-        let has_answered = AtomicBool::new(false);
-        let watch = Watch::begin(&rt, "what comes between two looks", call);
-        let (answer, is_woken) = thread::join(
-            &rt,
-            || {
-                let answer = blocked.make(&rt, &alloc, call, long());
-                has_answered.store(true, Ordering::SeqCst);
-                answer
-            },
-            || is_task_woken(&rt, &other, &alloc, &has_answered),
-        );
-        watch.end(&rt);
-        expect_equal_at(&rt, call, (answer, is_woken), (done(call), true));
     }
 }
 
@@ -240,18 +274,18 @@ fn a_call_that_looks_again_wakes_the_other_side(rt: HostRuntime) {
 fn a_batch_that_was_waited_for_is_all_of_one_step(rt: HostRuntime) {
     let (tx, rx) = unbounded(&rt, rt.alloc()).expect(&rt, "a channel");
     let mut batch = Vec::new(rt.alloc());
-    let watch = Watch::begin(&rt, "a batch that a send has to bring", ());
-    let (received, is_sent) = thread::join(
+    let got = beside(
         &rt,
+        "a batch that a send has to bring",
+        2u64,
         || rx.recv_many_blocking(&mut batch, 2),
         || {
             let_others_wait(&rt);
-            tx.try_sendv([('a', 1u64), ('b', 2), ('c', 3)].into_iter().peekable())
-                .is_ok()
+            let three = [('a', 1u64), ('b', 2), ('c', 3)];
+            tx.try_sendv(three.into_iter().peekable()).is_ok()
         },
     );
-    watch.end(&rt);
-    expect_equal(&rt, (is_sent, received), (true, Ok(2)));
+    expect_equal(&rt, got, (Ok(2), true));
     expect_equal(&rt, batch.as_slice(), [('c', 3), ('b', 2)].as_slice());
     expect_equal(&rt, rx.try_recv(), Ok(('a', 1)));
 }

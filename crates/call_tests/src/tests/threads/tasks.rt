@@ -1,14 +1,13 @@
 //! Futures in a task with others, and in the task of another thread.
 use super::let_others_wait;
-use super::watch::Watch;
-use crate::tests::{expect_equal, expect_equal_at, expect_true};
+use super::watch::beside;
+use crate::tests::{expect_equal, expect_equal_at};
 use async_priority_channel::bounded;
 use futures::executor::block_on;
 use futures::future::{join, poll_immediate};
 use futures::task::{Context, Poll};
 use futures::{Future, StreamExt};
 use std::sync::atomic::{AtomicU64, Ordering};
-use std::thread;
 
 // Counts the polls of a future, and of others beside it.
 #[derive(Drop)]
@@ -32,6 +31,10 @@ impl<F: Future> Future for Counted<'_, F> {
     }
 }
 
+fn count<F>(inner: F, polls: &AtomicU64) -> Counted<'_, F> {
+    Counted { inner, polls }
+}
+
 // A waker wakes its task also as it is dropped: two futures of one task could wake each other for
 // ever.
 #[test]
@@ -39,27 +42,22 @@ fn two_receives_in_one_task_rest_while_they_wait(rt: HostRuntime) {
     let polls = AtomicU64::new(0);
     let (first_tx, first_rx) = bounded(&rt, rt.alloc(), 1).expect(&rt, "a channel");
     let (second_tx, second_rx) = bounded(&rt, rt.alloc(), 1).expect(&rt, "a channel");
-    let watch = Watch::begin(&rt, "two receives in one task", ());
-    let sending = thread::spawn(&rt, move || {
-        let_others_wait(&rt);
-        let first = first_tx.try_send(1u8, 1u8).is_ok();
-        let_others_wait(&rt);
-        first && second_tx.try_send(2u8, 2u8).is_ok()
-    })
-    .expect(&rt, "a thread");
-    let first = Counted {
-        inner: first_rx.recv(),
-        polls: &polls,
-    };
-    let second = Counted {
-        inner: second_rx.recv(),
-        polls: &polls,
-    };
-    let received = block_on(&rt, join(first, second)).expect(&rt, "an executor");
-    let could = sending.join(&rt);
-    watch.end(&rt);
-    expect_true(&rt, could, "there is room");
-    expect_equal(&rt, received, (Ok((1, 1)), Ok((2, 2))));
+    let (received, could) = beside(
+        &rt,
+        "two receives in one task",
+        2u64,
+        || {
+            let first = count(first_rx.recv(), &polls);
+            block_on(&rt, join(first, count(second_rx.recv(), &polls))).expect(&rt, "an executor")
+        },
+        || {
+            let_others_wait(&rt);
+            let first = first_tx.try_send(1u8, 1u8).is_ok();
+            let_others_wait(&rt);
+            first && second_tx.try_send(2u8, 2u8).is_ok()
+        },
+    );
+    expect_equal(&rt, (received, could), ((Ok((1, 1)), Ok((2, 2))), true));
     let polls = polls.load(Ordering::SeqCst);
     expect_equal_at(&rt, polls, polls < 10, true);
 }
@@ -71,17 +69,17 @@ fn futures_go_on_in_the_task_of_another_thread(rt: HostRuntime) {
     let mut receiving = rx.recv();
     let polled = block_on(&rt, poll_immediate(&mut receiving)).expect(&rt, "an executor");
     expect_equal(&rt, polled, None);
-    let watch = Watch::begin(&rt, "a receive that a send has to wake", ());
-    let (received, sent) = thread::join(
+    let got = beside(
         &rt,
+        "a receive that a send has to wake",
+        1u64,
         move || block_on(&rt, receiving).expect(&rt, "an executor"),
         || {
             let_others_wait(&rt);
             tx.try_send('x', 1u64)
         },
     );
-    watch.end(&rt);
-    expect_equal(&rt, (sent, received), (Ok(()), Ok(('x', 1))));
+    expect_equal(&rt, got, (Ok(('x', 1)), Ok(())));
 }
 
 #[test]
@@ -90,15 +88,15 @@ fn a_stream_goes_on_in_the_task_of_another_thread(rt: HostRuntime) {
     let mut stream = rx.into_stream();
     let polled = block_on(&rt, poll_immediate(stream.next())).expect(&rt, "an executor");
     expect_equal(&rt, polled, None);
-    let watch = Watch::begin(&rt, "a stream that sends have to wake", ());
-    let (count, sent) = thread::join(
+    let got = beside(
         &rt,
+        "a stream that sends have to wake",
+        2u64,
         move || block_on(&rt, stream.count()).expect(&rt, "an executor"),
         move || {
             let_others_wait(&rt);
             tx.send_blocking(7u64, 1u64).is_ok() && tx.send_blocking(8, 2).is_ok()
         },
     );
-    watch.end(&rt);
-    expect_equal(&rt, (sent, count), (true, 2));
+    expect_equal(&rt, got, (2, true));
 }

@@ -1,13 +1,13 @@
 //! What ends a wait: a call of the other side, a close by either, the drop of the other side's last
 //! handle, and the limit.
-use super::either::{Either, TIMED, block, closed, done, long, refused, waits};
-use super::watch::Watch;
-use super::{Threaded, let_others_wait};
+use super::either::{Either, TIMED, block, closed, done, is_for_close, long, refused, waits};
+use super::watch::{beside, within};
+use super::{Threaded, let_others_wait, wait_until};
 use crate::tests::driver::all::ALL;
 use crate::tests::driver::calls::{Call, Side};
 use crate::tests::driver::reply::Outcome;
-use crate::tests::{expect_equal, expect_equal_at, expect_true};
-use std::thread;
+use crate::tests::{expect_equal_at, expect_true};
+use std::sync::atomic::{AtomicBool, Ordering};
 use std::time::Duration;
 
 #[derive(Clone, Copy, Debug, PartialEq)]
@@ -21,27 +21,6 @@ enum End {
 
 const ENDS: [End; 4] = [End::Partner, End::Close, End::OwnClose, End::LastDrop];
 
-// Ends a wait, once it is on, and tells whether it could.
-fn end_wait<R: Threaded>(rt: &R, own: Either<R>, other: Either<R>, call: Call, end: End) -> bool {
-    // A bulk send has sent its 7 before it waits.
-    for _ in 0..u64::MAX {
-        if own.len() == pending_after(call) {
-            break;
-        }
-        thread::sleep(rt, Duration::from_millis(1));
-    }
-    let_others_wait(rt);
-    match end {
-        End::Partner => other.help(),
-        End::Close => other.close(),
-        End::OwnClose => own.close(),
-        End::LastDrop => {
-            drop(other);
-            true
-        }
-    }
-}
-
 // As many as before: where one was received, another one was sent.
 fn pending_after(call: Call) -> u64 {
     match call.side() {
@@ -50,32 +29,71 @@ fn pending_after(call: Call) -> u64 {
     }
 }
 
+// Ends a wait, once it is on. Tells whether it could, and gives the handle back if it is left.
+fn end_wait<R: Threaded>(
+    own: &Either<R>,
+    other: Either<R>,
+    call: Call,
+    end: End,
+) -> (bool, Option<Either<R>>) {
+    let could = match end {
+        // Nothing else is to end the wait than the drop of the last handle.
+        End::LastDrop => return (true, None),
+        End::Partner => other.bring(call),
+        End::Close => other.close(),
+        End::OwnClose => own.close(),
+    };
+    (could, Some(other))
+}
+
+// A message that comes and goes is not what it waits for.
+fn is_kept<R: Threaded>(
+    rt: &R,
+    own: &Either<R>,
+    other: &Either<R>,
+    has_answered: &AtomicBool,
+) -> bool {
+    let could = other.help() && own.help();
+    let_others_wait(rt);
+    could && !has_answered.load(Ordering::SeqCst)
+}
+
 fn wait_for_its_end<R: Threaded>(rt: &R, call: Call, end: End) {
     let (blocked, other) = block(rt, rt.alloc(), call);
-    let own = blocked.another(rt);
-    // Nothing but the drop of the last handle is to end the wait there.
-    let kept = match end {
-        End::LastDrop => None,
-        _ => Some(other.another(rt)),
-    };
-    let watch = Watch::begin(rt, "the end of a wait", (call, end));
-    let host = *rt;
-    let ending = thread::spawn(rt, move || end_wait(&host, own, other, call, end)).expect(
-        rt, "a thread",
+    let has_answered = AtomicBool::new(false);
+    let round = (call, end);
+    let (answer, (could, left)) = beside(
+        rt,
+        "the end of a wait",
+        round,
+        || {
+            let answer = blocked.make(rt, rt.alloc(), call, long());
+            has_answered.store(true, Ordering::SeqCst);
+            answer
+        },
+        || {
+            // A bulk send has sent its 7 before it waits.
+            wait_until(rt, || blocked.len() == pending_after(call));
+            let_others_wait(rt);
+            if is_for_close(call) {
+                expect_true(
+                    rt,
+                    is_kept(rt, &blocked, &other, &has_answered),
+                    "it waits on",
+                );
+            }
+            end_wait(&blocked, other, call, end)
+        },
     );
-    let answer = blocked.make(rt, rt.alloc(), call, long());
-    let has_ended = ending.join(rt);
-    watch.end(rt);
-    expect_true(rt, has_ended, "what was to end the wait could be done");
-    let wanted = match end {
-        End::Partner => done(call),
-        _ => closed(call),
-    };
-    expect_equal_at(rt, (call, end), answer, wanted);
-    expect_equal_at(rt, (call, end), blocked.len(), pending_after(call));
+    expect_true(rt, could, "what was to end the wait could be done");
+    let by_partner = end == End::Partner;
+    let wanted = if by_partner { done(call) } else { closed(call) };
+    expect_equal_at(rt, round, answer, wanted);
+    expect_equal_at(rt, round, blocked.len(), pending_after(call));
     // A second close is none.
-    expect_equal_at(rt, (call, end), blocked.close(), end == End::Partner);
-    drop(kept);
+    let is_open = by_partner && !is_for_close(call);
+    expect_equal_at(rt, round, blocked.close(), is_open);
+    drop(left);
 }
 
 #[test]
@@ -92,14 +110,14 @@ fn each_wait_ends_soon(rt: HostRuntime) {
 #[test]
 fn what_is_pending_in_a_closed_channel_comes(rt: HostRuntime) {
     for call in ALL {
-        if waits(call) && call.side() == Side::Receiver {
+        if waits(call) && call.side() == Side::Receiver && !is_for_close(call) {
             let (blocked, other) = block(&rt, rt.alloc(), call);
             expect_true(&rt, other.help() && other.close(), "the channel is open");
-            let watch = Watch::begin(&rt, "what is pending in a closed channel", call);
-            let first = blocked.make(&rt, rt.alloc(), call, long());
-            let second = blocked.make(&rt, rt.alloc(), call, long());
-            watch.end(&rt);
-            expect_equal_at(&rt, call, (first, second), (done(call), closed(call)));
+            let answers = within(&rt, "what is pending in a closed channel", call, || {
+                let first = blocked.make(&rt, rt.alloc(), call, long());
+                (first, blocked.make(&rt, rt.alloc(), call, long()))
+            });
+            expect_equal_at(&rt, call, answers, (done(call), closed(call)));
         }
     }
 }
@@ -109,9 +127,10 @@ fn what_is_pending_in_a_closed_channel_comes(rt: HostRuntime) {
 fn each_limit_ends_a_wait(rt: HostRuntime) {
     for call in TIMED {
         let (blocked, other) = block(&rt, rt.alloc(), call);
-        let watch = Watch::begin(&rt, "the end of a limit", call);
-        let answer = blocked.make(&rt, rt.alloc(), call, Duration::from_millis(15));
-        watch.end(&rt);
+        let limit = Duration::from_millis(15);
+        let answer = within(&rt, "the end of a limit", call, || {
+            blocked.make(&rt, rt.alloc(), call, limit)
+        });
         expect_equal_at(&rt, call, answer, refused(call, Outcome::Timeout));
         expect_equal_at(&rt, call, blocked.len(), pending_after(call));
         expect_true(&rt, other.help(), "the channel is open");

@@ -1,65 +1,68 @@
 //! A thread beside a wait, which ends the test where the wait does not end.
 use super::Threaded;
-use std::alloc::Global;
 use std::fmt::Debug;
-use std::sync::Arc;
 use std::sync::atomic::{AtomicBool, Ordering};
-use std::thread::{self, JoinHandle, Threads};
+use std::thread;
 use std::time::{Clock, Duration};
 
-// For how many milliseconds it lets a wait last, and somewhat longer on a busy machine; and for how
-// many the work of many threads.
-const PATIENCE: u64 = 4_000;
+/// For how many milliseconds a wait may last, and somewhat longer on a busy machine.
+pub const PATIENCE: u64 = 4_000;
 
-const MUCH_PATIENCE: u64 = 30_000;
+/// The same of the work of many threads.
+pub const MUCH_PATIENCE: u64 = 30_000;
 
-/// Stands beside a wait. It has to be ended.
-pub struct Watch {
-    is_over: Arc<AtomicBool, Global>,
-    watching: JoinHandle<()>,
+/// Waits for what another thread may have to bring. The test fails where that lasts too long, and
+/// tells what was waited for, and in which round of a table.
+pub fn within<R, N, T, F>(rt: &R, what: &str, round: N, wait: F) -> T
+where
+    R: Threaded,
+    N: Debug + Drop + Send,
+    F: FnOnce() -> T,
+    requires { F.pre wait }
+{
+    within_millis(rt, PATIENCE, (what, round), wait)
 }
 
-impl Watch {
-    /// From now on the test fails where it waits too long for this, in this round of a table.
-    pub fn begin<R, N>(rt: &R, what: &'static str, round: N) -> Watch
-    where
-        R: Threaded,
-        N: Debug + Drop + Send + 'static,
-    {
-        Watch::begin_for(rt, PATIENCE, what, round)
-    }
+/// As `within`, of two threads.
+pub fn beside<R, N, F, G, X, Y>(rt: &R, what: &str, round: N, first: F, second: G) -> (X, Y)
+where
+    R: Threaded,
+    N: Debug + Drop + Send,
+    F: FnOnce() -> X + Send,
+    G: FnOnce() -> Y,
+    X: Send,
+    requires { F.pre first × G.pre second }
+{
+    let both = move ||
+        requires { F.pre first × G.pre second }
+    { thread::join(rt, first, second) };
+    within_millis(rt, PATIENCE, (what, round), both)
+}
 
-    /// As `begin`, for the work of many threads.
-    pub fn begin_long<R, N>(rt: &R, what: &'static str, round: N) -> Watch
-    where
-        R: Threaded,
-        N: Debug + Drop + Send + 'static,
+/// As `within`, for so many milliseconds.
+pub fn within_millis<R, N, T, F>(rt: &R, millis: u64, whence: N, wait: F) -> T
+where
+    R: Threaded,
+    N: Debug + Drop + Send,
+    F: FnOnce() -> T,
+    requires { F.pre wait }
+{
+    let is_over = AtomicBool::new(false);
+    let is_over = &is_over;
+    let waiting = move ||
+        requires { F.pre wait }
     {
-        Watch::begin_for(rt, MUCH_PATIENCE, what, round)
-    }
-
-    fn begin_for<R, N>(rt: &R, millis: u64, what: &'static str, round: N) -> Watch
-    where
-        R: Threaded,
-        N: Debug + Drop + Send + 'static,
-    {
-        let is_over = Arc::new(rt.alloc(), AtomicBool::new(false)).expect(rt, "memory");
-        let theirs = Arc::try_clone(&is_over).expect(rt, "memory");
-        let rt = *rt;
-        let watching = thread::spawn(&rt, move || {
-            if !ends_in_time(&rt, millis, &theirs) {
-                panic!(rt; "waited {millis} ms without success for {what}, at {round:?}");
-            }
-        })
-        .expect(&rt, "a thread");
-        Watch { is_over, watching }
-    }
-
-    /// What was waited for has come.
-    pub fn end<R: Threads>(self, rt: &R) {
-        let Watch { is_over, watching } = self;
+        let came = wait();
         is_over.store(true, Ordering::SeqCst);
-        watching.join(rt);
+        came
+    };
+    let ((), came) = thread::join(rt, move || watch(rt, millis, is_over, whence), waiting);
+    came
+}
+
+fn watch<R: Threaded, N: Debug + Drop>(rt: &R, millis: u64, is_over: &AtomicBool, whence: N) {
+    if !ends_in_time(rt, millis, is_over) {
+        panic!(rt; "waited {millis} ms without success for {whence:?}");
     }
 }
 

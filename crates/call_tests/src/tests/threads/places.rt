@@ -1,0 +1,69 @@
+//! A call that waits as the first of its side, or behind another one.
+use super::either::{Answer, Either, call_of, done, is_bulk, is_for_close, long};
+use super::watch::beside;
+use super::{Threaded, let_others_wait};
+use crate::tests::Host;
+use crate::tests::driver::calls::{Call, Way};
+use std::alloc::Allocator;
+use std::fmt::Debug;
+
+/// Where a call waits.
+#[derive(Clone, Copy, Debug, PartialEq)]
+pub enum Place {
+    First,
+    /// Behind a blocking call, which reads no clock.
+    Second,
+}
+
+pub const PLACES: [Place; 2] = [Place::First, Place::Second];
+
+impl Place {
+    /// Whether the call can wait there. A bulk send leaves no other send blocked, and waits for the
+    /// close are in no queue.
+    pub fn is_for(self, call: Call) -> bool {
+        self == Place::First || !is_bulk(call) && !is_for_close(call)
+    }
+}
+
+/// The call that waits before one at the second place.
+pub fn before(call: Call) -> Call {
+    call_of(call.side(), Way::Blocking)
+}
+
+/// Does this once the call before that place waits, which is helped then if it still waits. Tells
+/// what the call before was told, if there was one.
+pub fn at<H, N, R, A, B, F>(
+    host: &H,
+    told: (&str, N),
+    place: Place,
+    made: (&R, A, Call),
+    ends: (&Either<R, A>, &Either<R, A>),
+    then: F,
+) -> (Answer, B)
+where
+    H: Threaded,
+    N: Debug + Drop + Send,
+    R: Host + Sync,
+    A: Allocator + Copy + Send + Sync,
+    F: FnOnce() -> B,
+    requires { F.pre then }
+{
+    let ((what, round), (rt, alloc, call), (blocked, other)) = (told, made, ends);
+    beside(
+        host,
+        what,
+        round,
+        move || match place {
+            Place::First => done(before(call)),
+            Place::Second => blocked.make(rt, alloc, before(call), long()),
+        },
+        move ||
+            requires { F.pre then }
+        {
+            let_others_wait(host);
+            let came = then();
+            other.help();
+            came
+        },
+    )
+}
