@@ -2,11 +2,11 @@
 //! answer: for tests that go over all calls.
 //!
 //! A new call of a handle gets a name in `Call`, a line in `ALL`, and an arm in `send`,
-//! `receive` or `handles` and in `model`.
+//! `receive`, `either` or `handles` and in `model`.
 
 pub mod all;
 pub mod calls;
-pub mod closed;
+mod either;
 pub mod handles;
 pub mod model;
 pub mod receive;

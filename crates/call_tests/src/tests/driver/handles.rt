@@ -4,9 +4,8 @@ use super::receive::receive;
 use super::reply::{Outcome, Reply};
 use super::send::send;
 use crate::tests::Host;
-use async_priority_channel::{Ends, Receiver, Sender};
+use async_priority_channel::{End, Ends, Receiver, Role, Sender};
 use std::alloc::{Allocator, Global};
-use std::process::Abort;
 use std::sync::Wait;
 
 /// Senders and receivers of one channel, of which the last of either kind makes the calls.
@@ -55,29 +54,10 @@ impl<R: Host, A: Allocator + Copy> Handles<R, A> {
     }
 }
 
-/// A handle of either kind.
-trait End: Clone + Drop {
-    /// Another one, by the clone of a weak handle, which also tells whether the channel is closed.
-    fn upgraded(&self, rt: &impl Abort) -> (Option<Self>, bool);
-}
-
-impl<R: Wait + Clone, A: Allocator + Copy> End for Sender<u64, u64, R, A> {
-    fn upgraded(&self, rt: &impl Abort) -> (Option<Self>, bool) {
-        let weak = self.downgrade().expect(rt, "a weak sender");
-        let weak = weak.clone().expect(rt, "a weak sender");
-        (weak.upgrade(), weak.is_closed())
-    }
-}
-
-impl<R: Wait + Clone, A: Allocator + Copy> End for Receiver<u64, u64, R, A> {
-    fn upgraded(&self, rt: &impl Abort) -> (Option<Self>, bool) {
-        let weak = self.downgrade().expect(rt, "a weak receiver");
-        let weak = weak.clone().expect(rt, "a weak receiver");
-        (weak.upgrade(), weak.is_closed())
-    }
-}
-
-fn clone_last<H: End>(rt: &impl Abort, handles: &mut Vec<H>) -> Outcome {
+fn clone_last<S: Role, R: Host, A: Allocator + Copy>(
+    rt: &R,
+    handles: &mut Vec<End<S, u64, u64, R, A>>,
+) -> Outcome {
     let Some(last) = handles.last() else {
         return Outcome::Impossible;
     };
@@ -86,18 +66,31 @@ fn clone_last<H: End>(rt: &impl Abort, handles: &mut Vec<H>) -> Outcome {
     Outcome::Done
 }
 
-fn upgrade_last<H: End>(rt: &impl Abort, handles: &mut Vec<H>) -> Outcome {
+fn upgrade_last<S: Role, R: Host, A: Allocator + Copy>(
+    rt: &R,
+    handles: &mut Vec<End<S, u64, u64, R, A>>,
+) -> Outcome {
     let Some(last) = handles.last() else {
         return Outcome::Impossible;
     };
-    let (other, is_closed) = last.upgraded(rt);
+    let (other, is_closed) = upgraded(rt, last);
     if let Some(other) = other {
         handles.push(other).expect(rt, "memory for handles");
     }
     Outcome::Was(is_closed)
 }
 
-fn drop_last<H: End>(handles: &mut Vec<H>) -> Outcome {
+// Another one, by the clone of a weak handle, which also tells whether the channel is closed.
+fn upgraded<S: Role, R: Host, A: Allocator + Copy>(
+    rt: &R,
+    end: &End<S, u64, u64, R, A>,
+) -> (Option<End<S, u64, u64, R, A>>, bool) {
+    let weak = end.downgrade().expect(rt, "a weak handle");
+    let weak = weak.clone().expect(rt, "a weak handle");
+    (weak.upgrade(), weak.is_closed())
+}
+
+fn drop_last<H: Drop>(handles: &mut Vec<H>) -> Outcome {
     match handles.pop() {
         Some(_) => Outcome::Done,
         None => Outcome::Impossible,

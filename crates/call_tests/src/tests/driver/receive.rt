@@ -2,17 +2,15 @@
 ghost use Rattle.std.specs.Iterator.{IsFinite};
 
 use super::calls::{Call, Input, Pair, Side, Way};
-use super::closed::wait_closed;
-use super::reply::{Looks, Outcome, Refusal, Reply, looks};
+use super::either::make_by_either;
+use super::reply::{Outcome, Refusal, Reply};
 use super::send::deadline_of;
 use crate::tests::Host;
-use async_priority_channel::{End, Receiver, Role};
+use async_priority_channel::Receiver;
 use futures::StreamExt;
 use futures::executor::block_on;
 use futures::future::poll_immediate;
 use std::alloc::Allocator;
-use std::random::RandomSource;
-use std::sync::Wait;
 
 /// Makes a call of a receiver. A batch gets its memory from the allocator that is given.
 pub fn receive<R: Host, A: Allocator + Copy>(
@@ -30,30 +28,27 @@ pub fn receive<R: Host, A: Allocator + Copy>(
         Call::TryIter => tell_loop(rt, rx.try_iter().take(most), most),
         Call::Iter => tell_loop(rt, rx.iter().take(most), most),
         Call::IntoIter => tell_loop(rt, other(rt, rx).into_iter().take(most), most),
-        Call::Closed(Side::Receiver, way) => wait_closed(rt, rx, way, input),
         Call::Unpolled(Side::Receiver) => {
-            drop((
-                rx.recv(),
-                rx.stream(),
-                rx.iter(),
-                rx.try_iter(),
-                rx.closed(),
-            ));
-            drop(rx.recv_many(&mut Vec::new(alloc), most));
+            drop_unpolled(rx, &mut Vec::new(alloc));
             Reply::new(rt, Outcome::Done)
         }
-        Call::Look(Side::Receiver) => Reply::new(rt, Outcome::Looks(look(rx))),
-        Call::Close(Side::Receiver) => Reply::new(rt, Outcome::Was(rx.close())),
-        Call::CloseOnDrop(Side::Receiver) => {
-            drop(rx.close_on_drop());
-            Reply::new(rt, Outcome::Done)
-        }
-        Call::TakeWhere(Side::Receiver) => take_where(rt, rx, input.chosen),
-        Call::Retain(Side::Receiver) => retain(rt, rx, input.chosen),
-        Call::ChangePriority(Side::Receiver) => change_priority(rt, rx, input),
         Call::RecvIf => receive_if(rt, rx, input.chosen),
-        _peek => peek(rt, rx, call),
+        Call::PeekWith => peek(rt, rx),
+        Call::PeekPriority => peek_priority(rt, rx),
+        _by_either => make_by_either(rt, rx, call, input),
     }
+}
+
+fn drop_unpolled<R: Host, A: Allocator + Copy>(
+    rx: &Receiver<u64, u64, R, A>,
+    batch: &mut Vec<Pair, A>,
+) {
+    drop(rx.recv());
+    drop(rx.stream());
+    drop(rx.iter());
+    drop(rx.try_iter());
+    drop(rx.closed());
+    drop(rx.recv_many(batch, 1));
 }
 
 fn other<R: Host, A: Allocator + Copy>(
@@ -144,16 +139,14 @@ fn stream<R: Host, A: Allocator + Copy>(
     }
 }
 
-fn peek<R: Host, A: Allocator + Copy>(rt: &R, rx: &Receiver<u64, u64, R, A>, call: Call) -> Reply {
-    let found = match call {
-        Call::PeekWith => rx.peek_with(|msg, priority| (*msg, *priority)),
-        Call::PeekPriority => {
-            let seen = rx.peek_priority().expect(rt, "a priority");
-            seen.map(|priority| (0, priority))
-        }
-        _no_call => return Reply::new(rt, Outcome::Impossible),
-    };
-    Reply::found(rt, found, Outcome::Empty)
+fn peek<R: Host, A: Allocator + Copy>(rt: &R, rx: &Receiver<u64, u64, R, A>) -> Reply {
+    let seen = rx.peek_with(|msg, priority| (*msg, *priority));
+    Reply::found(rt, seen, Outcome::Empty)
+}
+
+fn peek_priority<R: Host, A: Allocator + Copy>(rt: &R, rx: &Receiver<u64, u64, R, A>) -> Reply {
+    let seen = rx.peek_priority().expect(rt, "a priority");
+    Reply::found(rt, seen.map(|priority| (0, priority)), Outcome::Empty)
 }
 
 fn receive_if<R: Host, A: Allocator + Copy>(
@@ -166,40 +159,6 @@ fn receive_if<R: Host, A: Allocator + Copy>(
         Ok(found) => Reply::found(rt, found, Outcome::Empty),
         Err(refusal) => tell_one(rt, Some(Err(refusal))),
     }
-}
-
-/// Takes out a message by either handle.
-pub fn take_where<S: Role, R: Host, A: Allocator + Copy>(
-    rt: &R,
-    end: &End<S, u64, u64, R, A>,
-    chosen: u64,
-) -> Reply {
-    Reply::found(rt, end.take_where(|msg, _| *msg == chosen), Outcome::Empty)
-}
-
-/// Retains messages by either handle. What is taken out is sorted, since its order is not said.
-pub fn retain<S: Role, R: Host, A: Allocator + Copy>(
-    rt: &R,
-    end: &End<S, u64, u64, R, A>,
-    chosen: u64,
-) -> Reply {
-    let Ok(taken) = end.retain(|msg, _| *msg % 8 != chosen % 8) else {
-        return Reply::new(rt, Outcome::Memory);
-    };
-    let mut reply = Reply::with(rt, Outcome::Done, taken.iter().copied());
-    reply.pairs.sort().expect(rt, "memory for a reply");
-    reply
-}
-
-/// Changes a priority by either handle. The reply has the old one.
-pub fn change_priority<S: Role, R: Host, A: Allocator + Copy>(
-    rt: &R,
-    end: &End<S, u64, u64, R, A>,
-    input: Input,
-) -> Reply {
-    let (_, priority) = input.pair();
-    let was = end.change_priority(|msg, _| *msg % 2 == input.chosen % 2, priority);
-    Reply::found(rt, was.map(|was| (0, was)), Outcome::Empty)
 }
 
 /// What a future answers, or one that is pending.
@@ -234,10 +193,4 @@ fn tell_loop<I: Iterator<Item = Pair> + Drop>(rt: &impl Host, pairs: I, most: us
         reply.outcome = Outcome::Ended;
     }
     reply
-}
-
-fn look<R: Wait + Clone + RandomSource, A: Allocator + Copy>(
-    rx: &Receiver<u64, u64, R, A>,
-) -> Looks {
-    looks!(rx)
 }

@@ -23,25 +23,6 @@ pub struct Looks {
     pub is_of_itself: bool,
 }
 
-/// What either kind of handle tells of its channel.
-macro_rules! looks {
-    ($handle:expr) => {
-        Looks {
-            len: $handle.len(),
-            is_empty: $handle.is_empty(),
-            is_full: $handle.is_full(),
-            is_closed: $handle.is_closed(),
-            capacity: $handle.capacity(),
-            sender_count: $handle.sender_count(),
-            receiver_count: $handle.receiver_count(),
-            odd: $handle.count_where(|msg, _| *msg % 2 == 1),
-            is_of_itself: $handle.same_channel($handle),
-        }
-    };
-}
-
-pub(super) use looks;
-
 #[derive(Clone, Copy, Debug, PartialEq)]
 pub enum Outcome {
     Done,

@@ -1,16 +1,13 @@
 //! The calls of a sender.
 use super::calls::{Call, Input, Pair, Pairs, Side, Way};
-use super::closed::wait_closed;
-use super::receive::{change_priority, retain, take_where};
-use super::reply::{Looks, Outcome, Refusal, Reply, looks};
+use super::either::make_by_either;
+use super::reply::{Outcome, Refusal, Reply};
 use crate::tests::Host;
 use async_priority_channel::Sender;
 use futures::executor::block_on;
 use futures::future::poll_immediate;
 use std::alloc::Allocator;
 use std::iter::{Peekable, once};
-use std::random::RandomSource;
-use std::sync::Wait;
 use std::time::Instant;
 
 /// Makes a call of a sender.
@@ -28,22 +25,13 @@ pub fn send<R: Host, A: Allocator + Copy>(
             Ok(displaced) => Reply::found(rt, displaced, Outcome::Done),
             Err(refusal) => tell_one(rt, Some(Err(refusal))),
         },
-        Call::TakeWhere(Side::Sender) => take_where(rt, tx, input.chosen),
-        Call::Retain(Side::Sender) => retain(rt, tx, input.chosen),
-        Call::ChangePriority(Side::Sender) => change_priority(rt, tx, input),
-        Call::Closed(Side::Sender, way) => wait_closed(rt, tx, way, input),
         Call::Unpolled(Side::Sender) => {
-            drop((tx.send(msg, priority), tx.closed()));
+            drop(tx.send(msg, priority));
+            drop(tx.closed());
             drop(tx.sendv(input.pairs.peekable()));
             Reply::new(rt, Outcome::Done)
         }
-        Call::Look(Side::Sender) => Reply::new(rt, Outcome::Looks(look(tx))),
-        Call::Close(Side::Sender) => Reply::new(rt, Outcome::Was(tx.close())),
-        Call::CloseOnDrop(Side::Sender) => {
-            drop(tx.close_on_drop());
-            Reply::new(rt, Outcome::Done)
-        }
-        _no_call => Reply::new(rt, Outcome::Impossible),
+        _by_either => make_by_either(rt, tx, call, input),
     }
 }
 
@@ -129,8 +117,4 @@ pub fn tell_many<E: Refusal<Peekable<Pairs>> + Drop>(
             Reply::with(rt, outcome, rest)
         }
     }
-}
-
-fn look<R: Wait + Clone + RandomSource, A: Allocator + Copy>(tx: &Sender<u64, u64, R, A>) -> Looks {
-    looks!(tx)
 }

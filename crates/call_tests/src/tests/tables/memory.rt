@@ -7,9 +7,9 @@ use crate::tests::driver::handles::Handles;
 use crate::tests::driver::model::Model;
 use crate::tests::driver::reply::{Outcome, Reply};
 use crate::tests::{Host, expect_equal, expect_equal_at};
-use async_priority_channel::{Ends, bounded, bounded_reserved, unbounded};
+use async_priority_channel::{End, Ends, Role, Weak, bounded, bounded_reserved, unbounded};
 use refusing::Refusing;
-use std::alloc::{AllocError, Global};
+use std::alloc::{AllocError, Allocator, Global};
 use std::sync::Wait;
 
 const CAPACITY: u64 = 40;
@@ -217,52 +217,74 @@ impl<'a, R: Clone> Clone for Boxed<'a, R> {
     }
 }
 
-// Of the requests of a round each is one handle's, of which the nth is refused.
+// Each makes one handle, for which it asks once.
+#[derive(Clone, Copy, Debug, PartialEq)]
+enum Making {
+    Clone,
+    Upgrade,
+    Downgrade,
+}
+
+const MAKINGS: [Making; 3] = [Making::Clone, Making::Upgrade, Making::Downgrade];
+
+type Counts = (usize, usize);
+
+fn counts<S: Role, R: Wait + Clone, A: Allocator + Copy>(end: &End<S, u64, u64, R, A>) -> Counts {
+    (end.sender_count(), end.receiver_count())
+}
+
+// Whether it was made, and the counts as long as it lives.
+fn seen<H: Drop, S: Role, R: Wait + Clone, A: Allocator + Copy>(
+    made: Option<H>,
+    end: &End<S, u64, u64, R, A>,
+) -> (bool, Counts) {
+    (made.is_some(), counts(end))
+}
+
+fn make<S: Role, R: Wait + Clone, A: Allocator + Copy>(
+    end: &End<S, u64, u64, R, A>,
+    weak: &Weak<S, u64, u64, R, A>,
+    making: Making,
+) -> (bool, Counts) {
+    match making {
+        Making::Clone => seen(end.clone().ok(), end),
+        Making::Upgrade => seen(weak.upgrade(), end),
+        Making::Downgrade => seen(end.downgrade().ok(), end),
+    }
+}
+
+// Makes one more of the side that counts so, of each kind: once it is refused, and once it is not.
+fn refuse_handles<S: Role, R: Wait + Clone, A: Allocator + Copy>(
+    rt: &impl Host,
+    alloc: &Refusing<Global>,
+    end: &End<S, u64, u64, R, A>,
+    (senders, receivers): Counts,
+) {
+    let weak = end.downgrade().expect(rt, "a weak handle");
+    for making in MAKINGS {
+        for is_refused in [true, false] {
+            alloc.refuse_nth(if is_refused { 1 } else { 2 });
+            let made = make(end, &weak, making);
+            let got = (made, alloc.refuse_none(), counts(end));
+            let is_counted = making != Making::Downgrade && !is_refused;
+            let wanted = if is_counted {
+                (senders, receivers)
+            } else {
+                (1, 1)
+            };
+            let wanted = ((!is_refused, wanted), !is_refused, (1, 1));
+            expect_equal_at(rt, (making, is_refused), got, wanted);
+        }
+    }
+}
+
 #[test]
 fn a_refused_handle_is_not_counted(rt: HostRuntime) {
     let alloc = Refusing::new(rt.alloc());
-    for n in 1..=7u64 {
-        let permission = Boxed::new(&rt, &alloc, 7).expect(&rt, "a permission");
-        let (tx, rx) = bounded::<u64, u64, _, _>(&permission, &alloc, 2).expect(&rt, "a channel");
-        let weak_tx = tx.downgrade().expect(&rt, "a weak sender");
-        let weak_rx = rx.downgrade().expect(&rt, "a weak receiver");
-        alloc.refuse_nth(n);
-        let (other_tx, other_rx) = (tx.clone().ok(), rx.clone().ok());
-        let (third_tx, third_rx) = (weak_tx.upgrade(), weak_rx.upgrade());
-        let (more_tx, more_rx) = (tx.downgrade().ok(), rx.downgrade().ok());
-        let met_none = alloc.refuse_none();
-        let are_there = [
-            other_tx.is_some(),
-            other_rx.is_some(),
-            third_tx.is_some(),
-            third_rx.is_some(),
-            more_tx.is_some(),
-            more_rx.is_some(),
-        ];
-        expect_equal_at(
-            &rt,
-            n,
-            are_there,
-            [n != 1, n != 2, n != 3, n != 4, n != 5, n != 6],
-        );
-        expect_equal_at(&rt, n, met_none, n == 7);
-        let senders = if n == 1 || n == 3 { 2 } else { 3 };
-        let receivers = if n == 2 || n == 4 { 2 } else { 3 };
-        expect_equal_at(
-            &rt,
-            n,
-            (tx.sender_count(), tx.receiver_count()),
-            (senders, receivers),
-        );
-        drop((other_tx, other_rx, third_tx, third_rx));
-        expect_equal_at(&rt, n, (tx.sender_count(), tx.receiver_count()), (1, 1));
-        expect_equal_at(&rt, n, weak_tx.upgrade().is_some(), true);
-        drop(tx);
-        expect_equal_at(
-            &rt,
-            n,
-            (rx.is_closed(), weak_rx.upgrade().is_some()),
-            (true, false),
-        );
-    }
+    let permission = Boxed::new(&rt, &alloc, 7).expect(&rt, "a permission");
+    let (tx, rx) = bounded::<u64, u64, _, _>(&permission, &alloc, 2).expect(&rt, "a channel");
+    refuse_handles(&rt, &alloc, &tx, (2, 1));
+    refuse_handles(&rt, &alloc, &rx, (1, 2));
+    drop(tx);
+    expect_equal(&rt, rx.is_closed(), true);
 }
