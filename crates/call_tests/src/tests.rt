@@ -17,12 +17,8 @@ pub trait Host: Abort + Wait + Clone + Clock + RandomSource + AllocGlobal {}
 
 impl<R: Abort + Wait + Clone + Clock + RandomSource + AllocGlobal> Host for R {}
 
-/// `assert_eq!`, proved once: each one in place takes seconds of the check.
-fn expect_equal<X: PartialEq + Debug + Drop>(rt: &impl Abort, got: X, wanted: X) {
-    assert_eq!(rt; got, wanted);
-}
-
-/// The same in one round of a loop, which it names where the two differ.
+/// `assert_eq!`, proved once: each one in place takes seconds of the check. It tells the round of a
+/// table, or what was looked at.
 fn expect_equal_at<N: Debug + Drop, X: PartialEq + Debug + Drop>(
     rt: &impl Abort,
     round: N,

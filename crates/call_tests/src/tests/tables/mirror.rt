@@ -2,7 +2,7 @@
 use super::Mirrored;
 use crate::tests::driver::all::ALL;
 use crate::tests::driver::calls::{Call, Input, Pairs, Side};
-use crate::tests::{Host, expect_equal};
+use crate::tests::{Host, expect_true};
 use async_priority_channel::{Ends, bounded, bounded_reserved, unbounded};
 use std::time::Duration;
 
@@ -89,8 +89,7 @@ fn mirror<R: Host>(rt: &R, ends: Ends<u64, u64, R>, capacity: u64, spread: u64) 
             mirrored.agree(rt, (round, call), Call::Look(Side::Receiver), input);
         }
     }
-    // So the end was seen too.
-    expect_equal(rt, mirrored.model.is_closed, true);
+    expect_true(rt, mirrored.model.is_closed, "the end is seen too");
 }
 
 #[test]

@@ -7,7 +7,7 @@ use super::watch::{beside, within};
 use super::{Threaded, let_others_wait, wait_until};
 use crate::tests::driver::calls::{Call, Side, Way};
 use crate::tests::driver::reply::Outcome;
-use crate::tests::{expect_equal, expect_equal_at, expect_true};
+use crate::tests::{expect_equal_at, expect_true};
 use async_priority_channel::{Receiver, SendTimeoutError, bounded};
 use refusing::Refusing;
 use std::ops::RangeInclusive;
@@ -296,7 +296,7 @@ fn a_limit_passes_while_the_lock_is_held(rt: HostRuntime) {
         (false, Err(SendTimeoutError::Timeout((2, 2))), (1, 1)),
     ] {
         let (tx, rx) = bounded(&rt, rt.alloc(), 1).expect(&rt, "a channel");
-        expect_equal(&rt, tx.try_send(1, 1), Ok(()));
+        tx.try_send(1, 1).expect(&rt, "room");
         let is_held = AtomicBool::new(false);
         let (sent, could) = beside(
             &rt,

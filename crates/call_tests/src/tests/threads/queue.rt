@@ -4,7 +4,7 @@ use super::watch::within;
 use super::{Threaded, let_others_wait};
 use crate::tests::driver::calls::{Call, Side, Way};
 use crate::tests::driver::reply::Outcome;
-use crate::tests::{expect_equal, expect_equal_at, expect_true};
+use crate::tests::{expect_equal_at, expect_true};
 use async_priority_channel::{Receiver, Sender, bounded};
 use std::sync::Wait;
 use std::thread::{self, JoinHandle};
@@ -228,8 +228,8 @@ fn echo<R: Wait + Clone>(there: &Receiver<u64, u64, R>, back: &Sender<u64, u64, 
 // Each number comes back before the next one is sent.
 fn send_and_receive<R: Threaded>(rt: &R, tx: &Sender<u64, u64, R>, rx: &Receiver<u64, u64, R>) {
     for number in 0..100u64 {
-        expect_equal(rt, tx.send_blocking(number, 0), Ok(()));
-        expect_equal(rt, rx.recv_blocking(), Ok((number, 0)));
+        let got = (tx.send_blocking(number, 0), rx.recv_blocking());
+        expect_equal_at(rt, "it comes back", got, (Ok(()), Ok((number, 0))));
     }
 }
 

@@ -6,7 +6,7 @@ use crate::tests::driver::all::ALL;
 use crate::tests::driver::calls::{Call, Input, Pair, Pairs, Side, Way};
 use crate::tests::driver::receive::receive;
 use crate::tests::driver::send::send;
-use crate::tests::{expect_equal, expect_equal_at, expect_true};
+use crate::tests::{expect_equal_at, expect_true};
 use async_priority_channel::{Ends, Receiver, RecvError, RecvFault, Sender, bounded, unbounded};
 use futures::executor::block_on;
 use std::alloc::Global;
@@ -184,7 +184,7 @@ fn by_all_calls_nothing_is_lost_or_made_up(rt: HostRuntime) {
     };
     let ends = bounded(&rt, rt.alloc(), 8).expect(&rt, "a channel");
     let (back, came) = relay(&rt, ends, By::AllCalls, load);
-    expect_equal(&rt, sum(back, came), sum_below(4000));
+    expect_equal_at(&rt, load, sum(back, came), sum_below(4000));
 }
 
 // Sends so many by one call, on its thread or by a task.
@@ -252,8 +252,8 @@ fn one_close_is_the_first(rt: HostRuntime) {
     for thread in closing {
         first = first.wrapping_add(thread.join(&rt) as u64);
     }
-    expect_equal(&rt, first, 1);
-    expect_true(&rt, rx.is_closed() && !rx.close(), "it is closed");
+    let got = (first, rx.is_closed(), rx.close());
+    expect_equal_at(&rt, "one is the first", got, (1, true, false));
 }
 
 #[test]
@@ -270,8 +270,9 @@ fn what_was_pending_comes_beside_a_close(rt: HostRuntime) {
         || collect(&rt, &rx, By::Futures),
         || tx.close(),
     );
-    expect_equal(&rt, got, (sum_below(1000), true));
-    expect_equal(&rt, rx.recv_blocking(), Err(RecvFault::Closed(RecvError)));
+    expect_equal_at(&rt, "all come", got, (sum_below(1000), true));
+    let closed = Err(RecvFault::Closed(RecvError));
+    expect_equal_at(&rt, "no more comes", rx.recv_blocking(), closed);
 }
 
 // The last number that two threads pass to and fro, and how often each of them tries at most.
@@ -319,5 +320,5 @@ fn two_threads_go_on_side_by_side(rt: HostRuntime) {
         || pass_on(&there_tx, &back_rx, Some(1)),
         || pass_on(&back_tx, &there_rx, None),
     );
-    expect_equal(&rt, could, (true, true));
+    expect_true(&rt, could == (true, true), "the last number comes");
 }

@@ -6,7 +6,7 @@ use super::watch::{MUCH_PATIENCE, beside, within_millis};
 use super::{Threaded, let_others_wait, wait_until};
 use crate::tests::driver::all::ALL;
 use crate::tests::driver::calls::{Call, Way};
-use crate::tests::{Host, expect_equal, expect_equal_at, is_pending, new_task};
+use crate::tests::{Host, expect_equal_at, expect_true, is_pending, new_task};
 use async_priority_channel::{Receiver, Sender, TryRecvManyError, bounded, unbounded};
 use refusing::Refusing;
 use std::alloc::{Allocator, Global};
@@ -54,7 +54,7 @@ fn a_bulk_try_does_not_wait_for_room(rt: HostRuntime) {
             || receive_until(&rx, &is_over),
         )
     });
-    expect_equal(&rt, most, 1);
+    expect_equal_at(&rt, "sent by one call", most, 1);
 }
 
 // Sends four by one call, again and again. Tells whether one was split.
@@ -104,7 +104,7 @@ fn a_batch_is_one_step(rt: HostRuntime) {
             is_less
         },
     );
-    expect_equal(&rt, got, (false, false));
+    expect_true(&rt, got == (false, false), "none is split");
 }
 
 /// A place at which a thread halts as it waits.
@@ -285,7 +285,12 @@ fn a_batch_that_was_waited_for_is_all_of_one_step(rt: HostRuntime) {
             tx.try_sendv(three.into_iter().peekable()).is_ok()
         },
     );
-    expect_equal(&rt, got, (Ok(2), true));
-    expect_equal(&rt, batch.as_slice(), [('c', 3), ('b', 2)].as_slice());
-    expect_equal(&rt, rx.try_recv(), Ok(('a', 1)));
+    let came = [('c', 3), ('b', 2)];
+    expect_equal_at(
+        &rt,
+        "a batch",
+        (got, batch.as_slice()),
+        ((Ok(2), true), came.as_slice()),
+    );
+    expect_equal_at(&rt, "the rest", rx.try_recv(), Ok(('a', 1)));
 }

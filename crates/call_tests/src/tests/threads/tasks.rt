@@ -1,7 +1,7 @@
 //! Futures in a task with others, and in the task of another thread.
 use super::let_others_wait;
 use super::watch::beside;
-use crate::tests::{expect_equal, expect_equal_at};
+use crate::tests::{expect_equal_at, expect_true};
 use async_priority_channel::bounded;
 use futures::executor::block_on;
 use futures::future::{join, poll_immediate};
@@ -57,9 +57,9 @@ fn two_receives_in_one_task_rest_while_they_wait(rt: HostRuntime) {
             first && second_tx.try_send(2u8, 2u8).is_ok()
         },
     );
-    expect_equal(&rt, (received, could), ((Ok((1, 1)), Ok((2, 2))), true));
     let polls = polls.load(Ordering::SeqCst);
-    expect_equal_at(&rt, polls, polls < 10, true);
+    let got = (received, could, polls < 10);
+    expect_equal_at(&rt, polls, got, ((Ok((1, 1)), Ok((2, 2))), true, true));
 }
 
 // Each was polled in a task of this thread first.
@@ -68,7 +68,7 @@ fn futures_go_on_in_the_task_of_another_thread(rt: HostRuntime) {
     let (tx, rx) = bounded(&rt, rt.alloc(), 1).expect(&rt, "a channel");
     let mut receiving = rx.recv();
     let polled = block_on(&rt, poll_immediate(&mut receiving)).expect(&rt, "an executor");
-    expect_equal(&rt, polled, None);
+    expect_true(&rt, polled.is_none(), "nothing was sent");
     let got = beside(
         &rt,
         "a receive that a send has to wake",
@@ -79,7 +79,7 @@ fn futures_go_on_in_the_task_of_another_thread(rt: HostRuntime) {
             tx.try_send('x', 1u64)
         },
     );
-    expect_equal(&rt, got, (Ok(('x', 1)), Ok(())));
+    expect_equal_at(&rt, "one message", got, (Ok(('x', 1)), Ok(())));
 }
 
 #[test]
@@ -87,7 +87,7 @@ fn a_stream_goes_on_in_the_task_of_another_thread(rt: HostRuntime) {
     let (tx, rx) = bounded(&rt, rt.alloc(), 1).expect(&rt, "a channel");
     let mut stream = rx.into_stream();
     let polled = block_on(&rt, poll_immediate(stream.next())).expect(&rt, "an executor");
-    expect_equal(&rt, polled, None);
+    expect_true(&rt, polled.is_none(), "nothing was sent");
     let got = beside(
         &rt,
         "a stream that sends have to wake",
@@ -98,5 +98,5 @@ fn a_stream_goes_on_in_the_task_of_another_thread(rt: HostRuntime) {
             tx.send_blocking(7u64, 1u64).is_ok() && tx.send_blocking(8, 2).is_ok()
         },
     );
-    expect_equal(&rt, got, (2, true));
+    expect_equal_at(&rt, "two messages", got, (2, true));
 }
