@@ -2,8 +2,9 @@
 ghost use Rattle.std.specs.Iterator.{IsFinite};
 
 use super::words::{Host, Text, joined, letter, number, pairs, told, told_sent, told_sent_all};
-use async_priority_channel::{Receiver, Sender, WeakReceiver, WeakSender};
+use async_priority_channel::{End, Receiver, Role, Sender, Weak, WeakReceiver, WeakSender};
 use std::alloc::{AllocError, Allocator};
+use std::fmt::Write;
 use std::time::Duration;
 
 pub type Tx<R, A> = Sender<char, u64, R, A>;
@@ -20,51 +21,52 @@ pub enum Handle<R: Host, A: Allocator + Copy> {
 
 // As `2 of 2 full 1+1`: how many are pending, the capacity, which is true of empty, full and closed,
 // and how many senders and receivers there are.
-fn told_looks(
-    rt: &impl Host,
-    len: u64,
-    capacity: Option<u64>,
-    are_true: [bool; 3],
-    handles: (usize, usize),
+fn told_looks<S: Role, R: Host, A: Allocator + Copy>(
+    rt: &R,
+    end: &End<S, char, u64, R, A>,
 ) -> String {
-    let most = match capacity {
-        Some(most) => told(rt, most),
-        None => joined(rt, &["any"]),
+    let mut text = String::new(rt.alloc());
+    let looks = match end.capacity() {
+        Some(most) => write!(text, "{} of {most} ", end.len()),
+        None => write!(text, "{} of any ", end.len()),
     };
-    let mut text = joined(rt, &[told(rt, len).as_str(), " of ", most.as_str(), " "]);
-    for (is_true, word) in are_true.into_iter().zip(["empty ", "full ", "closed "]) {
+    looks.expect(rt, "memory");
+    for (is_true, word) in [
+        (end.is_empty(), "empty "),
+        (end.is_full(), "full "),
+        (end.is_closed(), "closed "),
+    ] {
         if is_true {
             text.push_str(word).expect(rt, "memory");
         }
     }
-    let (senders, receivers) = (told(rt, handles.0), told(rt, handles.1));
-    joined(
-        rt,
-        &[text.as_str(), senders.as_str(), "+", receivers.as_str()],
-    )
+    let counts = (end.sender_count(), end.receiver_count());
+    write!(text, "{}+{}", counts.0, counts.1).expect(rt, "memory");
+    text
 }
 
-/// What the handle tells of its channel. A weak one tells no more than whether it is closed, and can
-/// be upgraded where it is not: if both are as wanted, all that is wanted is told.
-pub fn look<R: Host, A: Allocator + Copy>(rt: &R, handle: &Handle<R, A>, wanted: Text) -> String {
-    let (is_closed, is_upgraded) = match handle {
-        Handle::Sender(tx) => {
-            let are_true = [tx.is_empty(), tx.is_full(), tx.is_closed()];
-            let handles = (tx.sender_count(), tx.receiver_count());
-            return told_looks(rt, tx.len(), tx.capacity(), are_true, handles);
-        }
-        Handle::Receiver(rx) => {
-            let are_true = [rx.is_empty(), rx.is_full(), rx.is_closed()];
-            let handles = (rx.sender_count(), rx.receiver_count());
-            return told_looks(rt, rx.len(), rx.capacity(), are_true, handles);
-        }
-        Handle::WeakSender(weak) => (weak.is_closed(), weak.upgrade().is_some()),
-        Handle::WeakReceiver(weak) => (weak.is_closed(), weak.upgrade().is_some()),
-    };
+// A weak handle tells no more than whether its channel is closed, and can be upgraded where it is
+// not: if both are as wanted, all that is wanted is told.
+fn told_weak<S: Role, R: Host, A: Allocator + Copy>(
+    rt: &R,
+    weak: &Weak<S, char, u64, R, A>,
+    wanted: Text,
+) -> String {
+    let (is_closed, is_upgraded) = (weak.is_closed(), weak.upgrade().is_some());
     if is_closed == wanted.contains("closed") && is_upgraded != is_closed {
         return joined(rt, &[wanted]);
     }
     told(rt, ("closed and upgraded", is_closed, is_upgraded))
+}
+
+/// What the handle tells of its channel.
+pub fn look<R: Host, A: Allocator + Copy>(rt: &R, handle: &Handle<R, A>, wanted: Text) -> String {
+    match handle {
+        Handle::Sender(tx) => told_looks(rt, tx),
+        Handle::Receiver(rx) => told_looks(rt, rx),
+        Handle::WeakSender(weak) => told_weak(rt, weak, wanted),
+        Handle::WeakReceiver(weak) => told_weak(rt, weak, wanted),
+    }
 }
 
 // Sends so many, each with a greater priority than the one before.
@@ -120,11 +122,8 @@ pub fn ask_sender<R: Host, A: Allocator + Copy>(rt: &R, tx: &Tx<R, A>, call: &[T
         ["sendv_timeout", msgs @ ..] => {
             told_sent_all(rt, tx.sendv_timeout(pairs(rt, msgs), Duration::ZERO))
         }
-        ["close"] => told(rt, tx.close()),
-        ["closed_blocking"] => told(rt, tx.closed_blocking()),
-        ["closed_timeout"] => told(rt, tx.closed_timeout(Duration::ZERO)),
         ["debug"] => told(rt, tx),
-        _ => panic!(rt; "a sender has no call {call:?}"),
+        _by_either => ask_either(rt, tx, call),
     }
 }
 
@@ -151,28 +150,39 @@ pub fn ask_receiver<R: Host, A: Allocator + Copy>(
         ["iter"] => told_all(rt, rx.iter()),
         ["peek"] => told(rt, rx.peek_with(|msg, priority| (*msg, *priority))),
         ["peek_priority"] => told(rt, rx.peek_priority()),
+        ["count"] => told(rt, rx.try_iter().count()),
+        ["debug"] => told(rt, rx),
+        _by_either => ask_either(rt, rx, call),
+    }
+}
+
+// What a sender and a receiver have both.
+fn ask_either<S: Role, R: Host, A: Allocator + Copy>(
+    rt: &R,
+    end: &End<S, char, u64, R, A>,
+    call: &[Text],
+) -> String {
+    match call {
+        ["close"] => told(rt, end.close()),
+        ["closed_blocking"] => told(rt, end.closed_blocking()),
+        ["closed_timeout"] => told(rt, end.closed_timeout(Duration::ZERO)),
         ["take", wanted] => {
             let wanted = letter(rt, *wanted);
-            told(rt, rx.take_where(|msg, _| *msg == wanted))
+            told(rt, end.take_where(|msg, _| *msg == wanted))
         }
         ["retain", least] => {
             let least = number(rt, *least);
-            told_taken(rt, rx.retain(|_, priority| *priority >= least))
+            told_taken(rt, end.retain(|_, priority| *priority >= least))
         }
         ["retain_count", least] => {
             let least = number(rt, *least);
             told(
                 rt,
-                rx.retain(|_, priority| *priority >= least)
+                end.retain(|_, priority| *priority >= least)
                     .map(|taken| taken.len()),
             )
         }
-        ["count"] => told(rt, rx.try_iter().count()),
-        ["close"] => told(rt, rx.close()),
-        ["closed_blocking"] => told(rt, rx.closed_blocking()),
-        ["closed_timeout"] => told(rt, rx.closed_timeout(Duration::ZERO)),
-        ["debug"] => told(rt, rx),
-        _ => panic!(rt; "a receiver has no call {call:?}"),
+        _ => panic!(rt; "a handle has no call {call:?}"),
     }
 }
 
