@@ -28,13 +28,3 @@ fn expect_true(rt: &impl Abort, holds: bool, what: &str) {
 fn expect_equal<X: PartialEq + Debug + Drop>(rt: &impl Abort, got: X, wanted: X) {
     assert_eq!(rt; got, wanted);
 }
-
-/// The same in one round of a loop, which it names where the two differ.
-fn expect_equal_at<N: Debug + Drop, X: PartialEq + Debug + Drop>(
-    rt: &impl Abort,
-    round: N,
-    got: X,
-    wanted: X,
-) {
-    assert_eq!(rt; got, wanted, "at {round:?}");
-}

@@ -9,17 +9,8 @@ mod scenes;
 mod watch;
 mod witnessed;
 
-/// `assert_eq!`, proved once: each one in place takes seconds of the check.
+/// `assert_eq!`, proved once: each one in place takes seconds of the check. In a loop both sides name
+/// the round.
 fn expect_equal<X: PartialEq + Debug + Drop>(rt: &impl Abort, got: X, wanted: X) {
     assert_eq!(rt; got, wanted);
-}
-
-/// The same in one round of a loop, which it names where the two differ.
-fn expect_equal_at<N: Debug + Drop, X: PartialEq + Debug + Drop>(
-    rt: &impl Abort,
-    round: N,
-    got: X,
-    wanted: X,
-) {
-    assert_eq!(rt; got, wanted, "at {round:?}");
 }

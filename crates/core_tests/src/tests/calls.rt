@@ -154,13 +154,8 @@ pub fn told<'a, R: Abort + AllocGlobal>(
     said_to(rt, said(rt, answer), room, message)
 }
 
-/// Makes a call, and tells what came of it.
-pub fn ask<'a, R: Abort + AllocGlobal>(
-    rt: &R,
-    alloc: &'a Refusing<Global>,
-    core: &mut Core<'a>,
-    words: &[&str],
-) -> String {
+/// Makes a call that does not wait, and tells what came of it.
+pub fn ask<R: Abort + AllocGlobal>(rt: &R, core: &mut Core<'_>, words: &[&str]) -> String {
     match words {
         ["try_send", word] => {
             let (msg, priority) = pair(*word);
@@ -188,16 +183,11 @@ pub fn ask<'a, R: Abort + AllocGlobal>(
         ["is_closed"] => said(rt, core.is_closed()),
         ["capacity"] => said(rt, core.capacity()),
         ["handles"] => said(rt, (core.sender_count(), core.receiver_count())),
-        _ => ask_to_receive(rt, alloc, core, words),
+        _ => ask_to_receive(rt, core, words),
     }
 }
 
-fn ask_to_receive<'a, R: Abort + AllocGlobal>(
-    rt: &R,
-    alloc: &'a Refusing<Global>,
-    core: &mut Core<'a>,
-    words: &[&str],
-) -> String {
+fn ask_to_receive<R: Abort + AllocGlobal>(rt: &R, core: &mut Core<'_>, words: &[&str]) -> String {
     match words {
         ["try_recv"] => {
             let (received, wakes) = core.try_recv();
@@ -230,11 +220,12 @@ fn ask_to_receive<'a, R: Abort + AllocGlobal>(
             told(rt, taken, wakes)
         }
         ["peek"] => said(rt, core.peek()),
-        _ => ask_to_wait(rt, alloc, core, words),
+        _ => panic!(rt; "no call, or none that may be made now: {words:?}"),
     }
 }
 
-fn ask_to_wait<'a, R: Abort + AllocGlobal>(
+/// The same of a poll, and of the end of a wait.
+pub fn ask_to_wait<'a, R: Abort + AllocGlobal>(
     rt: &R,
     alloc: &'a Refusing<Global>,
     core: &mut Core<'a>,
@@ -269,6 +260,6 @@ fn ask_to_wait<'a, R: Abort + AllocGlobal>(
             core.give_up(number(*given));
             said(rt, ())
         }
-        _ => panic!(rt; "no call, or none that may be made now: {words:?}"),
+        _ => panic!(rt; "nobody waits so: {words:?}"),
     }
 }

@@ -1,6 +1,6 @@
 //! A run makes its calls in order, and stops before the one for whose answer there is no memory.
 use super::calls::{Pairs, Unsent, listed, pairs, said, said_to};
-use super::{expect_equal_at, expect_true};
+use super::{expect_equal, expect_true};
 use priority_channel_core::calls::{Answer, Call};
 use priority_channel_core::channel::PriorityQueueChannel;
 use priority_channel_core::channel::run::{Progress, Response};
@@ -141,8 +141,8 @@ fn a_run_stops_before_the_call_whose_answer_has_no_place(rt: HostRuntime) {
         let Progress { done, left } = core.run(calls);
         let met_none = alloc.refuse_none();
         let made = done.len();
-        expect_equal_at(&rt, n, left.is_empty(), met_none);
-        expect_equal_at(&rt, n, made.wrapping_add(left.len()), 8);
+        let told = (n, left.is_empty(), made.wrapping_add(left.len()));
+        expect_equal(&rt, told, (n, met_none, 8));
         expect_answers(&rt, done, wanted.as_slice());
         let Progress { done, left } = core.run(left);
         expect_true(&rt, left.is_empty(), "the others are made");

@@ -4,7 +4,7 @@
 //! more than `()` or `Ok(())`. `bounded 2`, `reserved 2` and `unbounded` make a new channel.
 //! `refuse` names the requests for memory that are refused from then on. `A is send x5` makes the
 //! state of a future, and `A` with a call asks it. What stands behind `#` is for the reader.
-use super::calls::{Core, ask, letter, number, said};
+use super::calls::{Core, ask, ask_to_wait, letter, number, said};
 use super::plain::Plain;
 use super::states::State;
 use refusing::Refusing;
@@ -79,23 +79,31 @@ impl<'a> Stage<'a> {
                 let state = self.states.get_mut(&letter(*name)).expect(rt, "a state");
                 state.ask(rt, self.alloc, &mut self.core, call)
             }
-            words => {
-                // The list counts no handles.
-                if matches!(words, ["drop_sender" | "drop_receiver"]) {
-                    self.beside = None;
-                }
-                let beside = self.beside.as_mut();
-                let wanted = beside.and_then(|plain| plain.ask(rt, words));
-                let got = ask(rt, self.alloc, &mut self.core, words);
-                if let Some(wanted) = wanted {
-                    assert!(rt;
-                        got.as_str() == wanted.as_str(),
-                        "{call}: {got}, not {wanted}"
-                    );
-                }
-                got
-            }
+            words => self.ask(rt, words),
         }
+    }
+
+    // Asks the core, and the list beside it, which has to answer the same.
+    fn ask<R: Abort + AllocGlobal>(&mut self, rt: &R, words: &[&str]) -> String {
+        // The list counts no handles.
+        if matches!(words, ["drop_sender" | "drop_receiver"]) {
+            self.beside = None;
+        }
+        let beside = self.beside.as_mut();
+        let wanted = beside.and_then(|plain| plain.ask(rt, words));
+        let got = match words {
+            ["poll_send" | "poll_sendv" | "poll_recv" | "give_up", ..] => {
+                ask_to_wait(rt, self.alloc, &mut self.core, words)
+            }
+            _at_once => ask(rt, &mut self.core, words),
+        };
+        if let Some(wanted) = wanted {
+            assert!(rt;
+                got.as_str() == wanted.as_str(),
+                "{words:?}: {got}, not {wanted}"
+            );
+        }
+        got
     }
 
     fn open<R: Abort + AllocGlobal>(&mut self, rt: &R, core: Core<'a>, capacity: u64) -> String {

@@ -1,5 +1,5 @@
 //! Books, which one caller has.
-use super::{expect_equal, expect_equal_at};
+use super::expect_equal;
 use priority_channel_core::errors::{TryRecvError, TrySendError};
 use priority_channel_recorded::{Book, Call, Entry, NoMemory, Reply};
 use refusing::Refusing;
@@ -78,7 +78,7 @@ fn a_book_enters_what_was_answered(rt: HostRuntime) {
     for rows in [SEVEN.as_slice(), LOOKS.as_slice(), EVICTING.as_slice()] {
         let mut book = Book::new(rt.alloc(), 2, 16).expect(&rt, "a book");
         for (call, reply) in rows {
-            expect_equal_at(&rt, *call, book.record(7, *call), Ok(*reply));
+            expect_equal(&rt, (*call, book.record(7, *call)), (*call, Ok(*reply)));
         }
         expect_entries(&rt, book.history(), 7, rows);
     }
@@ -98,7 +98,7 @@ fn a_book_has_places_from_the_first(rt: HostRuntime) {
         (Call::TryRecv, Ok(Reply::Received(Ok((1, 1))))),
         (Call::TrySend(3, 3), Err(NoMemory)),
     ] {
-        expect_equal_at(&rt, call, book.record(0, call), told);
+        expect_equal(&rt, (call, book.record(0, call)), (call, told));
     }
     expect_equal(&rt, book.history().len(), 3);
     alloc.refuse_none();
@@ -113,6 +113,6 @@ fn a_book_may_be_refused_memory(rt: HostRuntime) {
         alloc.refuse_nth(n);
         let is_made = Book::<u64, u64, _>::new(&alloc, 2, 8).is_ok();
         let met_none = alloc.refuse_none();
-        expect_equal_at(&rt, n, (met_none, is_made), (n == 3, n == 3));
+        expect_equal(&rt, (n, met_none, is_made), (n, n == 3, n == 3));
     }
 }

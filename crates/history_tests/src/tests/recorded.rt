@@ -3,8 +3,8 @@ ghost use Rattle.std.specs.Prelude.{◌≡◌, ◌<◌, ◌^◌};
 ghost use Rattle.priority_channel_recorded.specs.Log.{names};
 
 use super::books::{SEVEN, expect_entries};
+use super::expect_equal;
 use super::scenes::Host;
-use super::{expect_equal, expect_equal_at};
 use four::{Heard, call_on_four_threads};
 use priority_channel_core::errors::TrySendError;
 use priority_channel_recorded::{Call, Fresh, History, NoMemory, Pass, Recorded, Recording, Reply};
@@ -97,7 +97,7 @@ fn record_seven<'a, J: Recording, R: Host>(
     let mut pass = passes.pop().expect(rt, "a pass");
     for (call, reply) in SEVEN {
         let told = recorder.call(rt, &mut pass, call);
-        expect_equal_at(rt, call, told, Ok(reply));
+        expect_equal(rt, (call, told), (call, Ok(reply)));
     }
     expect_equal(rt, pass.count(), 7);
     passes.push(pass).expect(rt, "its own place");
@@ -121,7 +121,7 @@ fn a_recorder_may_be_refused_memory(rt: HostRuntime) {
         let entries = told.ok().map(|history| history.entries().len());
         let met_none = alloc.refuse_none();
         let wanted = if n == 4 { Some(0) } else { None };
-        expect_equal_at(&rt, n, (met_none, entries), (n == 4, wanted));
+        expect_equal(&rt, (n, met_none, entries), (n, n == 4, wanted));
     }
 }
 
@@ -142,8 +142,7 @@ fn call_without_memory<'a, J: Recording, R: Host>(
     // And as many more as there is memory for.
     for count in 2..=6_000u64 {
         let length = recorder.call(rt, &mut pass, Call::Len);
-        let told = (length, pass.count());
-        expect_equal_at(rt, count, told, (Ok(Reply::Len(1)), count));
+        expect_equal(rt, (length, pass.count()), (Ok(Reply::Len(1)), count));
     }
     passes.push(pass).expect(rt, "its own place");
 }

@@ -1,7 +1,7 @@
 //! Calls on four threads, waits among them, which a plain channel explains in some order.
+use super::expect_equal;
 use super::scenes::Host;
 use super::witnessed::{Caller, Channel, Passes, Scene, play};
-use super::{expect_equal, expect_equal_at};
 use mix::{Mix, make};
 use model::CAPACITY;
 use notes::{Call, Noted, Pair, Refusal, Reply, Way};
@@ -175,6 +175,6 @@ fn the_search_finds_an_order_where_there_is_one(rt: HostRuntime) {
             true,
         ),
     ] {
-        expect_equal_at(&rt, what, are_explained(&rt, one, two), is_there);
+        expect_equal(&rt, (what, are_explained(&rt, one, two)), (what, is_there));
     }
 }

@@ -163,9 +163,6 @@ fn ask_either<S: Role, R: Host, A: Allocator + Copy>(
     call: &[Text],
 ) -> String {
     match call {
-        ["close"] => told(rt, end.close()),
-        ["closed_blocking"] => told(rt, end.closed_blocking()),
-        ["closed_timeout"] => told(rt, end.closed_timeout(Duration::ZERO)),
         ["take", wanted] => {
             let wanted = letter(rt, *wanted);
             told(rt, end.take_where(|msg, _| *msg == wanted))
@@ -182,6 +179,9 @@ fn ask_either<S: Role, R: Host, A: Allocator + Copy>(
                     .map(|taken| taken.len()),
             )
         }
+        ["close"] => told(rt, end.close()),
+        ["closed_blocking"] => told(rt, end.closed_blocking()),
+        ["closed_timeout"] => told(rt, end.closed_timeout(Duration::ZERO)),
         _ => panic!(rt; "a handle has no call {call:?}"),
     }
 }

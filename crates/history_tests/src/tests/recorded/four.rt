@@ -1,7 +1,7 @@
 //! Four threads with a pass each, whose history is replayed on a plain list.
 use super::{Alloc, Passes, Recorder, Scene, record};
+use crate::tests::expect_equal;
 use crate::tests::scenes::Host;
-use crate::tests::{expect_equal, expect_equal_at};
 use priority_channel_core::errors::{TryRecvError, TrySendError};
 use priority_channel_recorded::{Call, Entry, Pass, Recording, Reply};
 use refusing::Refusing;
@@ -149,6 +149,6 @@ fn four_threads_make_one_history(rt: HostRuntime) {
     };
     for entry in history.entries() {
         let wanted = plain.answer(&rt, entry.call);
-        expect_equal_at(&rt, entry.call, Some(entry.reply), wanted);
+        expect_equal(&rt, (entry.call, Some(entry.reply)), (entry.call, wanted));
     }
 }

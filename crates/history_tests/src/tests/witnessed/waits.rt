@@ -1,12 +1,13 @@
 //! Waits on a thread: limits, what an ended wait leaves, and threads that wait for each other.
 use super::{Caller, Channel, NOBODY, Passes, Scene, close, play, tickets};
+use crate::tests::expect_equal;
 use crate::tests::scenes::Host;
-use crate::tests::{expect_equal, expect_equal_at};
 use priority_channel_core::errors::{RecvError, RecvFault, SendError, SendFault};
 use priority_channel_waiting::timeouts::{RecvTimeoutError, SendTimeoutError};
 use priority_channel_witnessed::Recording;
 use std::cell::Cell;
-use std::sync::{Mutex, Wait, WaitMethods};
+use std::sync::atomic::{AtomicU64, Ordering};
+use std::sync::{Wait, WaitMethods};
 use std::time::{Clock, Duration, Instant};
 use std::{io, mem, thread};
 
@@ -49,13 +50,9 @@ pub(super) fn receive_in_time<J: Recording, R: Host>(
     let late = channel.recv_timeout(&counting, &mut pass, limit());
     let took = begun.elapsed(rt).expect(rt, "a clock");
     let readings = counting.readings.get();
-    expect_equal_at(rt, readings, readings < 20, true);
-    expect_equal_at(
-        rt,
-        took,
-        (late, took >= limit()),
-        (Err(RecvTimeoutError::Timeout), true),
-    );
+    expect_equal(rt, late, Err(RecvTimeoutError::Timeout));
+    let is_right = readings < 20 && took >= limit();
+    expect_equal(rt, (readings, took, is_right), (readings, took, true));
     // It waits no more.
     let (_, wakes) = channel.try_send(rt, &mut pass, 1, 5);
     expect_equal(rt, tickets(wakes), NOBODY);
@@ -112,46 +109,60 @@ fn sends_end_in_time(rt: HostRuntime) {
     expect_equal(&rt, play(&rt, Scene::SendsInTime, 1, 1, 1), 1);
 }
 
+/// What threads have sent and received, and how many of them are still to send.
+#[derive(Drop)]
+struct Done {
+    sent: AtomicU64,
+    received: AtomicU64,
+    left: AtomicU64,
+}
+
 // Passes 0 and 1 send, one pair at a time or three, and the last that has sent closes the channel.
 // The others receive until it is closed. Counts what was sent and received.
 fn send_or_receive<J: Recording, R: Host>(
     rt: &R,
-    counts: &Mutex<(u64, u64)>,
-    senders: &Mutex<u64>,
+    done: &Done,
     channel: &Channel<J>,
     mut pass: Caller<J>,
 ) -> Caller<J> {
     if pass.number() >= 2 {
-        let mut received = 0u64;
-        for _ in rt.forever() {
-            if channel.recv_blocking(rt, &mut pass).is_err() {
-                break;
-            }
-            received = received.wrapping_add(1);
-        }
-        let mut all = counts.lock(rt);
-        all.1 = all.1.wrapping_add(received);
+        let received = receive_blocking(rt, channel, &mut pass);
+        done.received.fetch_add(received, Ordering::SeqCst);
         return pass;
     }
-    let mut sent = 0u64;
-    for i in 0..200u64 {
-        let answer = channel.send_blocking(rt, &mut pass, i, i % 7);
-        sent = sent.wrapping_add(answer.is_ok() as u64);
-        let pairs = Vec::from_array(rt.alloc(), [(i, 1u64), (i, 2), (i, 3)]).expect(rt, "memory");
-        let answer = channel.sendv_blocking(rt, &mut pass, pairs.into_iter().peekable());
-        sent = sent.wrapping_add(if answer.is_ok() { 3 } else { 0 });
-    }
-    let mut all = counts.lock(rt);
-    all.0 = all.0.wrapping_add(sent);
-    drop(all);
-    let mut left = senders.lock(rt);
-    *left = left.saturating_sub(1);
-    let is_last = *left == 0;
-    drop(left);
-    if is_last {
+    let sent = send_blocking(rt, channel, &mut pass);
+    done.sent.fetch_add(sent, Ordering::SeqCst);
+    if done.left.fetch_sub(1, Ordering::SeqCst) == 1 {
         close(rt, channel, &mut pass);
     }
     pass
+}
+
+fn receive_blocking<J: Recording, R: Host>(
+    rt: &R,
+    channel: &Channel<J>,
+    pass: &mut Caller<J>,
+) -> u64 {
+    let mut received = 0u64;
+    for _ in rt.forever() {
+        if channel.recv_blocking(rt, pass).is_err() {
+            break;
+        }
+        received = received.wrapping_add(1);
+    }
+    received
+}
+
+fn send_blocking<J: Recording, R: Host>(rt: &R, channel: &Channel<J>, pass: &mut Caller<J>) -> u64 {
+    let mut sent = 0u64;
+    for i in 0..200u64 {
+        let answer = channel.send_blocking(rt, pass, i, i % 7);
+        sent = sent.wrapping_add(answer.is_ok() as u64);
+        let pairs = Vec::from_array(rt.alloc(), [(i, 1u64), (i, 2), (i, 3)]).expect(rt, "memory");
+        let answer = channel.sendv_blocking(rt, pass, pairs.into_iter().peekable());
+        sent = sent.wrapping_add(if answer.is_ok() { 3 } else { 0 });
+    }
+    sent
 }
 
 /// Two threads send, and two receive.
@@ -160,17 +171,21 @@ pub(super) fn block_on_four_threads<J: Recording + Send + Sync, R: Host>(
     channel: &Channel<J>,
     passes: &mut Passes<J>,
 ) {
-    let counts = Mutex::new((0u64, 0u64));
-    let counted = &counts;
-    let senders = &Mutex::new(2u64);
+    let done = &Done {
+        sent: AtomicU64::new(0),
+        received: AtomicU64::new(0),
+        left: AtomicU64::new(2),
+    };
     let all = mem::replace(passes, Vec::new(rt.alloc()));
-    *passes = thread::map_vec(
+    *passes = thread::map_vec(rt, all, &|pass| send_or_receive(rt, done, channel, pass)).expect(
         rt,
-        all,
-        &|pass| send_or_receive(rt, counted, senders, channel, pass),
-    )
-    .expect(rt, "memory for the passes");
-    expect_equal(rt, counts.into_inner(), (1600, 1600));
+        "memory for the passes",
+    );
+    let told = (
+        done.sent.load(Ordering::SeqCst),
+        done.received.load(Ordering::SeqCst),
+    );
+    expect_equal(rt, told, (1600, 1600));
 }
 
 #[test]
