@@ -21,7 +21,7 @@ pub enum Side {
     Receiver,
 }
 
-#[derive(Clone, Copy, Debug, PartialEq)]
+#[derive(Clone, Copy, Debug)]
 pub enum Call {
     Send(Way),
     Sendv(Way),
@@ -100,7 +100,7 @@ impl Call {
 pub type Pair = (u64, u64);
 
 /// Numbered messages, each with the rest that its number leaves as its priority.
-#[derive(Clone, Copy, Debug, PartialEq)]
+#[derive(Clone, Copy)]
 pub struct Pairs {
     pub first: u64,
     pub count: u64,
@@ -124,7 +124,7 @@ impl Iterator for Pairs {
 }
 
 /// What a call is given, as far as it takes it.
-#[derive(Clone, Copy, Debug, PartialEq)]
+#[derive(Clone, Copy)]
 pub struct Input {
     /// What a bulk send sends. A send of one sends the first, also where the count is 0.
     pub pairs: Pairs,

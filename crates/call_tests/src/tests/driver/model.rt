@@ -4,7 +4,7 @@ use super::reply::{Looks, Outcome, Reply};
 use crate::tests::Host;
 use std::mem;
 
-#[derive(Debug, Drop)]
+#[derive(Drop)]
 pub struct Model {
     capacity: u64,
     pub pending: Vec<Pair>,
