@@ -14,7 +14,7 @@ use futures::test::MockTask;
 const CAPACITY: u64 = 3;
 
 /// What became of the tasks before the call.
-#[derive(Clone, Copy, Debug, PartialEq)]
+#[derive(Clone, Copy, Debug)]
 enum Situation {
     Waiting,
     /// Something came for which they waited, and they were not polled since.
@@ -88,7 +88,8 @@ fn begin<R: Host>(
         Situation::Woken => mirrored.agree(rt, round.told(), wake, given()),
         Situation::Ended => mirrored.agree(rt, round.told(), end, given()),
     }
-    expect_woken(rt, tasks, round, round.situation != Situation::Waiting);
+    let waits = matches!(round.situation, Situation::Waiting);
+    expect_woken(rt, tasks, round, !waits);
     rest_all(tasks);
     !mirrored.model.waits(round.call, round.input)
 }
@@ -102,7 +103,7 @@ fn expect_effect<R: Host>(
     may_go_on: bool,
     wake: Call,
 ) {
-    let wait = round.situation == Situation::Waiting;
+    let wait = matches!(round.situation, Situation::Waiting);
     expect_woken(rt, tasks, round, wait && may_go_on);
     if wait && !may_go_on {
         mirrored.agree(rt, round.told(), wake, given());

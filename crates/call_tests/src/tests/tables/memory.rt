@@ -17,23 +17,8 @@ const CAPACITY: u64 = 40;
 // No call here makes as many requests.
 const MOST: u64 = 100;
 
-/// What is pending before the call.
-#[derive(Clone, Copy, Debug, PartialEq)]
-enum Situation {
-    Empty,
-    Some,
-    Full,
-}
-
-const SITUATIONS: [Situation; 3] = [Situation::Empty, Situation::Some, Situation::Full];
-
-fn pending_in(situation: Situation) -> u64 {
-    match situation {
-        Situation::Empty => 0,
-        Situation::Some => 3,
-        Situation::Full => CAPACITY,
-    }
-}
+// How many are pending before the call.
+const PENDING: [u64; 3] = [0, 3, CAPACITY];
 
 // Whether the call takes no memory of a reserved channel.
 fn takes_none(call: Call, is_blocked: bool) -> bool {
@@ -47,7 +32,7 @@ fn takes_none(call: Call, is_blocked: bool) -> bool {
 fn expect_refused<R: Host>(
     rt: &R,
     model: &mut Model,
-    round: (Situation, Call, u64),
+    round: (u64, Call, u64),
     reply: Reply,
     of_call: Input,
 ) {
@@ -77,13 +62,13 @@ fn refuse<'a, R: Host>(
     rt: &R,
     alloc: &'a Refusing<Global>,
     ends: Ends<u64, u64, R, &'a Refusing<Global>>,
-    round: (Situation, Call, u64),
+    round: (u64, Call, u64),
 ) -> bool {
-    let (situation, call, n) = round;
+    let (pending, call, n) = round;
     let of_call = input(50, 30, 30);
     let mut mirrored = Mirrored::new(rt, alloc, ends, CAPACITY, (1, 1));
-    if situation != Situation::Empty {
-        let filling = input(1, pending_in(situation), 0);
+    if pending > 0 {
+        let filling = input(1, pending, 0);
         mirrored.agree(rt, round, Call::Sendv(Way::Try), filling);
     }
     if mirrored.model.waits(call, of_call) {
@@ -116,11 +101,11 @@ fn refuse<'a, R: Host>(
 #[test]
 fn no_call_loses_what_is_refused_memory(rt: HostRuntime) {
     let alloc = Refusing::new(rt.alloc());
-    for situation in SITUATIONS {
+    for pending in PENDING {
         for call in ALL {
             for n in 1..MOST {
                 let ends = bounded(&rt, &alloc, CAPACITY).expect(&rt, "a channel");
-                if refuse(&rt, &alloc, ends, (situation, call, n)) {
+                if refuse(&rt, &alloc, ends, (pending, call, n)) {
                     break;
                 }
                 expect_equal_at(&rt, call, n < MOST - 1, true);
@@ -133,15 +118,15 @@ fn no_call_loses_what_is_refused_memory(rt: HostRuntime) {
 #[test]
 fn a_reserved_channel_takes_memory_for_waiting_alone(rt: HostRuntime) {
     let alloc = Refusing::new(rt.alloc());
-    for situation in SITUATIONS {
+    for pending in PENDING {
         for call in ALL {
             let is_blocked = match call {
-                Call::Send(_) | Call::Sendv(_) => situation == Situation::Full,
-                _ => situation == Situation::Empty,
+                Call::Send(_) | Call::Sendv(_) => pending == CAPACITY,
+                _ => pending == 0,
             };
             if takes_none(call, is_blocked) {
                 let ends = bounded_reserved(&rt, &alloc, CAPACITY).expect(&rt, "a channel");
-                let round = (situation, call, 1);
+                let round = (pending, call, 1);
                 expect_equal_at(&rt, round, refuse(&rt, &alloc, ends, round), true);
             }
         }
@@ -219,7 +204,7 @@ impl<'a, R: Clone> Clone for Boxed<'a, R> {
 }
 
 // Each makes one handle, for which it asks once.
-#[derive(Clone, Copy, Debug, PartialEq)]
+#[derive(Clone, Copy, Debug)]
 enum Making {
     Clone,
     Upgrade,
@@ -267,7 +252,7 @@ fn refuse_handles<S: Role, R: Wait + Clone, A: Allocator + Copy>(
             alloc.refuse_nth(if is_refused { 1 } else { 2 });
             let made = make(end, &weak, making);
             let got = (made, alloc.refuse_none(), counts(end));
-            let is_counted = making != Making::Downgrade && !is_refused;
+            let is_counted = !is_refused && !matches!(making, Making::Downgrade);
             let wanted = if is_counted {
                 (senders, receivers)
             } else {

@@ -186,7 +186,7 @@ fn a_limit_takes_its_time_and_not_twice_as_long(rt: HostRuntime) {
 }
 
 // What comes as the clock stands still at the end of the limit, so that the last attempt finds it.
-#[derive(Clone, Copy, Debug, PartialEq)]
+#[derive(Clone, Copy, Debug)]
 enum Last {
     Partner,
     Close,
@@ -197,7 +197,7 @@ const LAST: [Last; 3] = [Last::Partner, Last::Close, Last::Nothing];
 
 // Whether this comes to the call. A wait for the close has no partner.
 fn comes(last: Last, call: Call) -> bool {
-    last != Last::Partner || !is_for_close(call)
+    !is_for_close(call) || !matches!(last, Last::Partner)
 }
 
 fn come<R: Threaded>(rt: &R, times: &Times, other: &Either<Paced<'_, R>>, last: Last) -> bool {
@@ -208,7 +208,7 @@ fn come<R: Threaded>(rt: &R, times: &Times, other: &Either<Paced<'_, R>>, last: 
         Last::Nothing => true,
     };
     // For one that is before it in the queue.
-    if last == Last::Partner {
+    if matches!(last, Last::Partner) {
         other.help();
     }
     times.pass_the_second();
@@ -241,7 +241,7 @@ fn wait_to_the_last<R: Threaded>(rt: &R, call: Call, place: Place, last: Last, r
         Last::Nothing => refused(call, Outcome::Timeout),
     };
     expect_equal_at(rt, round, (answer, could), (wanted, true));
-    let is_refused = place == Place::Second && last == Last::Close;
+    let is_refused = matches!((place, last), (Place::Second, Last::Close));
     let wanted = if is_refused {
         closed(before(call))
     } else {

@@ -8,7 +8,7 @@ use std::alloc::Allocator;
 use std::fmt::Debug;
 
 /// Where a call waits.
-#[derive(Clone, Copy, Debug, PartialEq)]
+#[derive(Clone, Copy, Debug)]
 pub enum Place {
     First,
     /// Behind a blocking call, which reads no clock.
@@ -21,7 +21,10 @@ impl Place {
     /// Whether the call can wait there. A bulk send leaves no other send blocked, and waits for the
     /// close are in no queue.
     pub fn is_for(self, call: Call) -> bool {
-        self == Place::First || !is_bulk(call) && !is_for_close(call)
+        match self {
+            Place::First => true,
+            Place::Second => !is_bulk(call) && !is_for_close(call),
+        }
     }
 }
 

@@ -39,7 +39,7 @@ fn sum_of(pairs: &[Pair]) -> Total {
 }
 
 // By which calls threads send and receive.
-#[derive(Clone, Copy, Debug, PartialEq)]
+#[derive(Clone, Copy)]
 enum By {
     Futures,
     AllCalls,
@@ -48,7 +48,7 @@ enum By {
 // The calls in turn. A send that is dropped would take its message with it.
 fn turn_of(by: By, side: Side, turn: u64) -> Call {
     let call = ALL[(turn % 65) as usize];
-    if by == By::AllCalls && call.side() == side && call.way() != Way::Poll && moves(call) {
+    if matches!(by, By::AllCalls) && call.side() == side && call.way() != Way::Poll && moves(call) {
         return call;
     }
     call_of(side, Way::Future)
@@ -94,7 +94,7 @@ fn collect<R: Threaded>(rt: &R, rx: &Receiver<u64, u64, R>, by: By) -> Total {
 }
 
 // How many threads send, how many numbers each of them, and how many receive.
-#[derive(Clone, Copy, Debug)]
+#[derive(Clone, Copy)]
 struct Load {
     senders: u64,
     each: u64,
@@ -127,9 +127,12 @@ fn relay<R: Threaded>(
             .expect(rt, "memory");
     }
     drop(tx);
-    within_millis(rt, MUCH_PATIENCE, ("a relay", by, load), || {
-        (join_all(rt, sending), join_all(rt, receiving))
-    })
+    within_millis(
+        rt,
+        MUCH_PATIENCE,
+        ("a relay", load.senders, load.receivers),
+        || { (join_all(rt, sending), join_all(rt, receiving)) },
+    )
 }
 
 fn join_all<R: Threaded>(rt: &R, threads: Vec<JoinHandle<Total>>) -> Total {
@@ -170,7 +173,12 @@ fn tasks_on_many_threads_relay_all(rt: HostRuntime) {
             let ends = made.expect(&rt, "a channel");
             let totals = relay(&rt, ends, By::Futures, load);
             let all = sum_below(load.senders.wrapping_mul(load.each));
-            expect_equal_at(&rt, (load, is_bounded), totals, ((0, 0), all));
+            expect_equal_at(
+                &rt,
+                (load.senders, load.receivers, is_bounded),
+                totals,
+                ((0, 0), all),
+            );
         }
     }
 }
@@ -184,7 +192,12 @@ fn by_all_calls_nothing_is_lost_or_made_up(rt: HostRuntime) {
     };
     let ends = bounded(&rt, rt.alloc(), 8).expect(&rt, "a channel");
     let (back, came) = relay(&rt, ends, By::AllCalls, load);
-    expect_equal_at(&rt, load, sum(back, came), sum_below(4000));
+    expect_equal_at(
+        &rt,
+        "all came or came back",
+        sum(back, came),
+        sum_below(4000),
+    );
 }
 
 // Sends so many by one call, on its thread or by a task.

@@ -10,7 +10,7 @@ use crate::tests::{expect_equal_at, expect_true};
 use std::sync::atomic::{AtomicBool, Ordering};
 use std::time::Duration;
 
-#[derive(Clone, Copy, Debug, PartialEq)]
+#[derive(Clone, Copy, Debug)]
 enum End {
     Partner,
     // of the other side, or its own
@@ -86,7 +86,7 @@ fn wait_for_its_end<R: Threaded>(rt: &R, call: Call, end: End) {
         },
     );
     expect_true(rt, could, "what was to end the wait could be done");
-    let by_partner = end == End::Partner;
+    let by_partner = matches!(end, End::Partner);
     let wanted = if by_partner { done(call) } else { closed(call) };
     expect_equal_at(rt, round, answer, wanted);
     expect_equal_at(rt, round, blocked.len(), pending_after(call));
