@@ -1,22 +1,27 @@
 //! Calls where memory to wait is refused: that need not wait, or for which a message comes late.
+ghost use Rattle.std.specs.Prelude.{◌≡◌, true};
+ghost use Rattle.priority_channel_witnessed.specs.Log.{names};
+
 use crate::tests::expect_equal;
-use crate::tests::scenes::{Act, ChannelIn, Host, PassesIn, Sizes, play_on};
+use crate::tests::scenes::{Host, end};
+use crate::tests::watch::within;
 use futures::executor::block_on;
 use priority_channel_core::channel::PriorityQueueChannel;
 use priority_channel_core::errors::{RecvError, RecvFault, SendError, SendFault};
 use priority_channel_waiting::timeouts::{RecvTimeoutError, SendTimeoutError};
-use priority_channel_witnessed::{Recording, wake_all};
+use priority_channel_witnessed::{Fresh, Pass, Recording, Waiter, Witnessed, wake_all};
 use refusing::Refusing;
-use std::alloc::{AllocGlobal, Global};
+use std::alloc::{AllocGlobal, Allocator, Global};
+use std::marker::Brand;
 use std::process::Abort;
 use std::thread;
 use std::time::Duration;
 
 type Alloc<'a> = &'a Refusing<Global>;
 
-type Channel<'a, J> = ChannelIn<String, J, Alloc<'a>>;
+type Channel<'a, J> = Witnessed<String, u64, Waiter<Alloc<'a>>, J, Alloc<'a>>;
 
-type Passes<'a, J> = PassesIn<String, J, Alloc<'a>>;
+type Passes<'a, J> = Vec<Pass<String, u64, Waiter<Alloc<'a>>, J>, Alloc<'a>>;
 
 #[derive(Clone, Copy)]
 enum Scene {
@@ -30,33 +35,36 @@ fn text<R: Abort + AllocGlobal>(rt: &R, text: &str) -> String {
     String::from_str(rt.alloc(), text).expect(rt, "memory")
 }
 
-impl<'a> Act<String, Alloc<'a>> for Scene {
-    fn act<J: Recording + Send + Sync, R: Host>(
-        self,
-        rt: &R,
-        alloc: Alloc<'a>,
-        channel: &Channel<'a, J>,
-        passes: &mut Passes<'a, J>,
-    ) {
-        match self {
-            Scene::FuturesAnswer => answer(rt, alloc, channel, passes),
-            Scene::WithoutTime => call_without_time(rt, alloc, channel, passes),
-            Scene::LateMessage => receive_late(rt, alloc, channel, passes),
-        }
-    }
-}
-
-// Plays a scene with two passes on a reserved channel for one pair, of which none is left.
+// Plays a scene with the two passes of a reserved channel for one pair, of which none is left.
 fn play<R: Host>(rt: &R, scene: Scene) {
     let alloc = Refusing::new(rt.alloc());
-    let core = PriorityQueueChannel::bounded_reserved(&alloc, 1).expect(rt, "a core");
-    let sizes = Sizes {
-        cap: 1,
-        is_reserved: true,
-        passes: 2,
-        parts: 2,
-    };
-    expect_equal(rt, play_on(rt, &alloc, scene, core, sizes), 0);
+    play_as::<Brand, R>(rt, &alloc, scene, Fresh::new(1, true, 2));
+}
+
+fn play_as<'a, J: Recording + Send + Sync, R: Host>(
+    rt: &R,
+    alloc: Alloc<'a>,
+    scene: Scene,
+    fresh: Fresh<String, u64, Waiter<Alloc<'a>>>,
+)
+    requires names { fresh ≡ names J.log J.capacity J.is_reserved J.name J.parts }
+    requires capacity { fresh.capacity ≡ 1 }
+    requires reserved { fresh.is_reserved ≡ true }
+    requires passes { fresh.passes ≡ 2 }
+{
+    let core = PriorityQueueChannel::bounded_reserved(alloc, 1).expect(rt, "a core");
+    let made = Channel::<'a, J>::new(alloc, fresh, core, 2);
+    let (channel, mut passes) = made.expect(rt, "a channel");
+    match scene {
+        Scene::FuturesAnswer => answer(rt, alloc, &channel, &mut passes),
+        Scene::WithoutTime => call_without_time(rt, alloc, &channel, &mut passes),
+        Scene::LateMessage => {
+            within(rt, "a receive that asks for memory", || {
+                receive_late(rt, alloc, &channel, &mut passes);
+            });
+        }
+    }
+    expect_equal(rt, end(rt, channel, passes, 2), 0);
 }
 
 // A send and a receive that need not wait, and each of the three futures after a close, of which
@@ -150,34 +158,34 @@ fn a_call_without_time_asks_for_no_memory(rt: HostRuntime) {
 
 // A message that comes after the first try of a receive that is refused memory to wait. The last
 // try finds it.
-fn receive_late<'a, J: Recording + Send + Sync, R: Host>(
+fn receive_late<J: Recording + Send + Sync, A: Allocator + Copy + Send + Sync, R: Host>(
     rt: &R,
-    alloc: Alloc<'a>,
-    channel: &Channel<'a, J>,
-    passes: &mut Passes<'a, J>,
+    memory: &Refusing<Global>,
+    channel: &Witnessed<String, u64, Waiter<A>, J, A>,
+    passes: &mut Vec<Pass<String, u64, Waiter<A>, J>, A>,
 ) {
     let receiver = passes.pop().expect(rt, "a pass");
     let mut sender = passes.pop().expect(rt, "a pass");
-    alloc.refuse_nth(1);
-    alloc.hold_nth(1);
+    memory.refuse_nth(1);
+    memory.hold_nth(1);
     let ((received, receiver), sent) = thread::join(
         rt,
         || block_on(rt, channel.recv(rt, receiver)).expect(rt, "an executor"),
         || {
             for _ in 0..u64::MAX {
-                if alloc.is_holding() {
+                if memory.is_holding() {
                     break;
                 }
                 thread::yield_now();
             }
             let (sent, wakes) = channel.try_send(rt, &mut sender, text(rt, "late"), 1);
             wake_all(rt, wakes);
-            alloc.let_go();
+            memory.let_go();
             sent
         },
     );
     expect_equal(rt, (sent, received), (Ok(()), Ok((text(rt, "late"), 1))));
-    expect_equal(rt, alloc.refuse_none(), false);
+    expect_equal(rt, memory.refuse_none(), false);
     passes.push(sender).expect(rt, "its own place");
     passes.push(receiver).expect(rt, "its own place");
 }

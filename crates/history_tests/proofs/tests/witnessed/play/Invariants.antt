@@ -1,4 +1,4 @@
-use Rattle.history_tests.proofs.tests.scenes.play_on.Given as goal
+use Rattle.history_tests.proofs.tests.witnessed.play.Given as goal
 
 abbrev pub ghosts-play_as-J-Recording : goal.ghosts-play_as-J-Recording
 ghosts-play_as-J-Recording g a = record {
