@@ -1,7 +1,6 @@
 //! The calls by which messages go and come.
 
 use crate::load::Load;
-use crate::names::named;
 use anyhow::{bail, ensure};
 use async_priority_channel::{
     Ends, Receiver, Sender, TryRecvError, TrySendError, bounded, unbounded,
@@ -11,9 +10,13 @@ use futures::executor::block_on;
 use futures::future::ready;
 use std::alloc::{AllocError, AllocGlobal};
 use std::random::RandomSource;
-use std::str::FromStr;
 use std::sync::Wait;
 use std::thread;
+
+/// What these calls ask of their runtime.
+pub trait Host: Wait + Clone + RandomSource + AllocGlobal {}
+
+impl<R: Wait + Clone + RandomSource + AllocGlobal> Host for R {}
 
 #[derive(Clone, Copy)]
 pub enum Calls {
@@ -27,29 +30,17 @@ pub enum Calls {
     Stream,
 }
 
-impl FromStr for Calls {
-    type Err = anyhow::Error;
-
-    fn from_str(word: &str) -> anyhow::Result<Calls> {
-        named(
-            word,
-            &[
-                ("try", Calls::Try),
-                ("blocking", Calls::Blocking),
-                ("future", Calls::Future),
-                ("stream", Calls::Stream),
-            ],
-        )
-    }
-}
+pub const CALLS: [(&str, Calls); 4] = [
+    ("try", Calls::Try),
+    ("blocking", Calls::Blocking),
+    ("future", Calls::Future),
+    ("stream", Calls::Stream),
+];
 
 impl Calls {
     /// Whether it was sent. No `Result` of `anyhow`: where one is made of an error, a function
     /// clears much memory as it begins, which would be timed with each message.
-    pub fn send<R>(self, rt: &R, tx: &Sender<u64, i64, R>, msg: u64, priority: i64) -> bool
-    where
-        R: Wait + Clone + RandomSource + AllocGlobal,
-    {
+    pub fn send<R: Host>(self, rt: &R, tx: &Sender<u64, i64, R>, msg: u64, priority: i64) -> bool {
         match self {
             Calls::Try => send_by_tries(tx, msg, priority),
             Calls::Blocking => send_by_waits(tx, msg, priority),
@@ -58,10 +49,7 @@ impl Calls {
     }
 
     /// The message that came, if one did.
-    pub fn recv<R>(self, rt: &R, rx: &Receiver<u64, i64, R>) -> Option<u64>
-    where
-        R: Wait + Clone + RandomSource + AllocGlobal,
-    {
+    pub fn recv<R: Host>(self, rt: &R, rx: &Receiver<u64, i64, R>) -> Option<u64> {
         match self {
             Calls::Try => recv_by_tries(rx),
             Calls::Blocking => recv_by_waits(rx),
@@ -70,32 +58,31 @@ impl Calls {
     }
 
     /// Sends so many numbers, from `first` on.
-    pub fn send_all<R>(
+    pub fn send_all<R: Host>(
         self,
         rt: &R,
         tx: &Sender<u64, i64, R>,
         first: u64,
         count: u64,
-    ) -> anyhow::Result<()>
-    where
-        R: Wait + Clone + RandomSource + AllocGlobal,
-    {
+    ) -> anyhow::Result<()> {
         if let Calls::Stream = self {
             return send_stream(rt, tx, first, count);
         }
         for position in 0..count {
             let number = first.wrapping_add(position);
             let is_sent = self.send(rt, tx, number, Load::Random.priority(number));
-            ensure!(is_sent, "{number} was not sent");
+            ensure!(is_sent, "a number was not sent");
         }
         Ok(())
     }
 
     /// The sum of so many numbers.
-    pub fn recv_all<R>(self, rt: &R, rx: &Receiver<u64, i64, R>, count: u64) -> anyhow::Result<u64>
-    where
-        R: Wait + Clone + RandomSource + AllocGlobal,
-    {
+    pub fn recv_all<R: Host>(
+        self,
+        rt: &R,
+        rx: &Receiver<u64, i64, R>,
+        count: u64,
+    ) -> anyhow::Result<u64> {
         if let Calls::Stream = self {
             return recv_stream(rt, rx, count);
         }
@@ -148,46 +135,36 @@ fn recv_by_waits<R: Wait + Clone>(rx: &Receiver<u64, i64, R>) -> Option<u64> {
 }
 
 #[inline(never)]
-fn send_by_future<R>(rt: &R, tx: &Sender<u64, i64, R>, msg: u64, priority: i64) -> bool
-where
-    R: Wait + Clone + RandomSource + AllocGlobal,
-{
+fn send_by_future<R: Host>(rt: &R, tx: &Sender<u64, i64, R>, msg: u64, priority: i64) -> bool {
     matches!(block_on(rt, tx.send(msg, priority)), Ok(Ok(())))
 }
 
 #[inline(never)]
-fn recv_by_future<R>(rt: &R, rx: &Receiver<u64, i64, R>) -> Option<u64>
-where
-    R: Wait + Clone + RandomSource + AllocGlobal,
-{
+fn recv_by_future<R: Host>(rt: &R, rx: &Receiver<u64, i64, R>) -> Option<u64> {
     let (msg, _) = block_on(rt, rx.recv()).ok()?.ok()?;
     Some(msg)
 }
 
-fn send_stream<R>(rt: &R, tx: &Sender<u64, i64, R>, first: u64, count: u64) -> anyhow::Result<()>
-where
-    R: Wait + Clone + RandomSource + AllocGlobal,
-{
+fn send_stream<R: Host>(
+    rt: &R,
+    tx: &Sender<u64, i64, R>,
+    first: u64,
+    count: u64,
+) -> anyhow::Result<()> {
     let msgs = (first..first.saturating_add(count)).map(|i| (i, Load::Random.priority(i)));
     let sent = block_on(rt, tx.sendv(msgs.peekable()))?;
     ensure!(sent.is_ok(), "not all was sent");
     Ok(())
 }
 
-fn recv_stream<R>(rt: &R, rx: &Receiver<u64, i64, R>, count: u64) -> anyhow::Result<u64>
-where
-    R: Wait + Clone + RandomSource + AllocGlobal,
-{
+fn recv_stream<R: Host>(rt: &R, rx: &Receiver<u64, i64, R>, count: u64) -> anyhow::Result<u64> {
     let msgs = rx.stream().take(usize::try_from(count)?);
     let sum = msgs.fold(0u64, |sum, (msg, _)| ready(sum.wrapping_add(msg)));
     Ok(block_on(rt, sum)?)
 }
 
 /// Of this capacity, or without a limit for 0.
-pub fn channel<R>(rt: &R, capacity: u64) -> Result<Ends<u64, i64, R>, AllocError>
-where
-    R: Wait + Clone + AllocGlobal,
-{
+pub fn channel<R: Host>(rt: &R, capacity: u64) -> Result<Ends<u64, i64, R>, AllocError> {
     if capacity == 0 {
         return unbounded(rt, rt.alloc());
     }

@@ -1,10 +1,8 @@
 //! The calls of the core that are given a test.
 
 use crate::load::Load;
-use crate::measure::{Measure, add_at};
-use crate::one_thread::{let_go, send, send_all};
-use anyhow::{bail, ensure};
-use priority_channel_core::channel::PriorityQueueChannel;
+use crate::measure::{Measure, time_steps};
+use crate::one_thread::{Core, filled, let_go, send_number};
 use std::alloc::AllocGlobal;
 use std::time::CpuClock;
 
@@ -13,21 +11,15 @@ pub fn change<R>(rt: &R, load: Load, pending: u64, count: u64) -> anyhow::Result
 where
     R: CpuClock + AllocGlobal,
 {
-    ensure!(pending > 0, "no message to be changed");
-    let mut core = PriorityQueueChannel::unbounded(rt.alloc());
-    send_all(&mut core, load, pending)?;
-    let start = rt.thread_cpu_time()?;
-    let mut sum = 0u64;
-    for position in 0..count {
-        let wanted = position % pending;
+    let mut core = filled(rt, load, pending)?;
+    time_steps(rt, count, |position| {
+        let wanted = position.checked_rem(pending)?;
         let priority = load.priority(pending.wrapping_add(position));
-        let Ok(was) = core.change_priority(&|msg, _| *msg == wanted, priority) else {
-            bail!("{wanted} is not pending");
-        };
-        sum = add_at(sum, position, was.unsigned_abs());
-    }
-    let end = rt.thread_cpu_time()?;
-    Ok(Measure::of_time(end.saturating_sub(start), sum))
+        let was = core
+            .change_priority(&|msg, _| *msg == wanted, priority)
+            .ok()?;
+        Some(was.unsigned_abs())
+    })
 }
 
 /// A count of every second one of so many pending messages.
@@ -35,16 +27,10 @@ pub fn count<R>(rt: &R, load: Load, pending: u64, count: u64) -> anyhow::Result<
 where
     R: CpuClock + AllocGlobal,
 {
-    let mut core = PriorityQueueChannel::unbounded(rt.alloc());
-    send_all(&mut core, load, pending)?;
-    let start = rt.thread_cpu_time()?;
-    let mut sum = 0u64;
-    for position in 0..count {
-        let counted = core.count_where(&|msg, _| (*msg).wrapping_add(position) % 2 == 0);
-        sum = add_at(sum, position, counted);
-    }
-    let end = rt.thread_cpu_time()?;
-    Ok(Measure::of_time(end.saturating_sub(start), sum))
+    let core = filled(rt, load, pending)?;
+    time_steps(rt, count, |position| {
+        Some(core.count_where(&|msg, _| (*msg).wrapping_add(position) % 2 == 0))
+    })
 }
 
 /// A send, and a receive by a test that passes, with so many pending.
@@ -52,21 +38,16 @@ pub fn receive<R>(rt: &R, load: Load, pending: u64, count: u64) -> anyhow::Resul
 where
     R: CpuClock + AllocGlobal,
 {
-    let mut core = PriorityQueueChannel::unbounded(rt.alloc());
-    send_all(&mut core, load, pending)?;
-    let start = rt.thread_cpu_time()?;
-    let mut sum = 0u64;
-    for position in 0..count {
-        let number = pending.wrapping_add(position);
-        let is_sent = send(&mut core, number, load.priority(number));
-        ensure!(is_sent, "{number} was not sent");
-        let (received, wakes) = core.try_recv_if(&|msg, _| *msg <= number);
-        let_go(wakes);
-        let Ok(Some((msg, _))) = received else {
-            bail!("no message came");
-        };
-        sum = add_at(sum, position, msg);
-    }
-    let end = rt.thread_cpu_time()?;
-    Ok(Measure::of_time(end.saturating_sub(start), sum))
+    let mut core = filled(rt, load, pending)?;
+    time_steps(rt, count, |position| {
+        let number = send_number(&mut core, load, pending.wrapping_add(position))?;
+        receive_at_most(&mut core, number)
+    })
+}
+
+fn receive_at_most(core: &mut Core, number: u64) -> Option<u64> {
+    let (received, wakes) = core.try_recv_if(&|msg, _| *msg <= number);
+    let_go(wakes);
+    let (msg, _) = received.ok()??;
+    Some(msg)
 }

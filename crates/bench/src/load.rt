@@ -1,8 +1,5 @@
 //! What is sent: numbers that rise, with priorities that follow from them.
 
-use crate::names::named;
-use std::str::FromStr;
-
 /// How the priorities of messages come.
 #[derive(Clone, Copy)]
 pub enum Load {
@@ -11,20 +8,11 @@ pub enum Load {
     Rising,
 }
 
-impl FromStr for Load {
-    type Err = anyhow::Error;
-
-    fn from_str(word: &str) -> anyhow::Result<Load> {
-        named(
-            word,
-            &[
-                ("random", Load::Random),
-                ("equal", Load::Equal),
-                ("rising", Load::Rising),
-            ],
-        )
-    }
-}
+pub const LOADS: [(&str, Load); 3] = [
+    ("random", Load::Random),
+    ("equal", Load::Equal),
+    ("rising", Load::Rising),
+];
 
 impl Load {
     pub fn priority(self, number: u64) -> i64 {

@@ -15,18 +15,20 @@ mod memory;
 mod names;
 mod one_thread;
 mod relays;
+mod threads;
 mod witnessed;
 mod workers;
 
 use anyhow::bail;
+use calls::{CALLS, Calls};
+use load::{LOADS, Load};
 use measure::Measure;
+use names::named;
 use std::alloc::AllocGlobal;
 use std::env;
 use std::fs::Files;
-use std::random::RandomSource;
-use std::sync::Wait;
-use std::thread::Threads;
-use std::time::{Clock, CpuClock};
+use std::time::CpuClock;
+use threads::Machine;
 
 // Each ends with its count of messages.
 const ROWS: [&str; 24] = [
@@ -83,71 +85,63 @@ fn main(rt: HostRuntime) -> anyhow::Result<()> {
     Ok(())
 }
 
-fn run<R>(rt: R, row: &str) -> anyhow::Result<Measure>
-where
-    R: Threads
-        + Wait
-        + Copy
-        + Clock
-        + CpuClock
-        + Files
-        + RandomSource
-        + AllocGlobal
-        + Send
-        + 'static,
-{
+fn run<R: Machine + CpuClock + Files>(rt: R, row: &str) -> anyhow::Result<Measure> {
     let words: Vec<&str> = row.split_whitespace().collect(rt.alloc())?;
-    match words.as_slice() {
-        ["core", load, pending, count] => {
-            one_thread::steady(&rt, load.parse()?, pending.parse()?, count.parse()?)
-        }
-        ["fill", load, size, count] => {
-            one_thread::fill(&rt, load.parse()?, size.parse()?, count.parse()?)
-        }
-        ["drain", load, size, count] => {
-            one_thread::drain(&rt, load.parse()?, size.parse()?, count.parse()?)
-        }
-        ["evicting", load, pending, count] => {
-            one_thread::evicting(&rt, load.parse()?, pending.parse()?, count.parse()?)
-        }
-        ["change", load, pending, count] => {
-            choosing::change(&rt, load.parse()?, pending.parse()?, count.parse()?)
-        }
-        ["count", load, pending, count] => {
-            choosing::count(&rt, load.parse()?, pending.parse()?, count.parse()?)
-        }
-        ["receive_if", load, pending, count] => {
-            choosing::receive(&rt, load.parse()?, pending.parse()?, count.parse()?)
-        }
-        ["handles", calls, pending, count] => {
-            handles::steady(&rt, calls.parse()?, pending.parse()?, count.parse()?)
-        }
-        ["witnessed", pending, count] => {
-            witnessed::steady(&rt, pending.parse()?, count.parse()?)
-        }
-        ["batches", size, count] => handles::batches(&rt, size.parse()?, count.parse()?),
-        ["relay", calls, senders, receivers, capacity, count] => {
-            relays::relay(
-                rt,
-                calls.parse()?,
-                senders.parse()?,
-                receivers.parse()?,
-                capacity.parse()?,
-                count.parse()?,
-            )
-        }
-        ["workers", calls, workers, jobs, count] => {
-            workers::workers(
-                rt,
-                calls.parse()?,
-                workers.parse()?,
-                jobs.parse()?,
-                count.parse()?,
-            )
-        }
-        ["wake", calls, count] => workers::wake(rt, calls.parse()?, count.parse()?),
-        ["memory", "core", count] => memory::core(&rt, count.parse()?),
-        ["memory", "handles", count] => memory::handles(&rt, count.parse()?),
+    let numbers = words.iter().filter_map(|word| word.parse().ok());
+    let numbers: Vec<u64> = numbers.collect(rt.alloc())?;
+    match (words.as_slice(), numbers.as_slice()) {
+        (["witnessed", _, _], [pending, count]) => witnessed::steady(&rt, *pending, *count),
+        (["batches", _, _], [size, count]) => handles::batches(&rt, *size, *count),
+        (["memory", "core", _], [count]) => memory::core(&rt, *count),
+        (["memory", "handles", _], [count]) => memory::handles(&rt, *count),
+        ([name, word, ..], numbers) => run_named(rt, name, word, numbers),
         _ => bail!("no row: {row}"),
+    }
+}
+
+// A row whose second word names its calls or its load.
+fn run_named<R>(rt: R, name: &str, word: &str, numbers: &[u64]) -> anyhow::Result<Measure>
+where
+    R: Machine + CpuClock,
+{
+    if let Some(calls) = named(word, &CALLS) {
+        return run_calls(rt, name, calls, numbers);
+    }
+    match (named(word, &LOADS), numbers) {
+        (Some(load), [pending, count]) => run_core(&rt, name, load, *pending, *count),
+        _ => bail!("no row: {name} {word} {numbers:?}"),
+    }
+}
+
+fn run_calls<R>(rt: R, name: &str, calls: Calls, numbers: &[u64]) -> anyhow::Result<Measure>
+where
+    R: Machine + CpuClock,
+{
+    match (name, numbers) {
+        ("handles", [pending, count]) => handles::steady(&rt, calls, *pending, *count),
+        ("relay", [senders, receivers, capacity, count]) => {
+            relays::relay(rt, calls, *senders, *receivers, *capacity, *count)
+        }
+        ("workers", [workers, jobs, count]) => {
+            workers::workers(rt, calls, *workers, *jobs, *count)
+        }
+        ("wake", [count]) => workers::wake(rt, calls, *count),
+        _ => bail!("no row of calls: {name} {numbers:?}"),
+    }
+}
+
+fn run_core<R>(rt: &R, name: &str, load: Load, pending: u64, count: u64) -> anyhow::Result<Measure>
+where
+    R: CpuClock + AllocGlobal,
+{
+    match name {
+        "core" => one_thread::steady(rt, load, pending, count),
+        "fill" => one_thread::fill(rt, load, pending, count),
+        "drain" => one_thread::drain(rt, load, pending, count),
+        "evicting" => one_thread::evicting(rt, load, pending, count),
+        "change" => choosing::change(rt, load, pending, count),
+        "count" => choosing::count(rt, load, pending, count),
+        "receive_if" => choosing::receive(rt, load, pending, count),
+        _ => bail!("no row of the core: {name}"),
     }
 }

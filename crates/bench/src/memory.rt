@@ -1,35 +1,29 @@
 //! By how much a process grows that keeps so many pending messages.
 
-use crate::calls::channel;
+use crate::calls::Host;
 use crate::load::Load;
 use crate::measure::Measure;
-use crate::one_thread::send_all;
+use crate::{handles, one_thread};
 use anyhow::bail;
-use priority_channel_core::channel::PriorityQueueChannel;
 use std::alloc::AllocGlobal;
 use std::fs::{self, Files};
-use std::sync::Wait;
 
 pub fn core<R>(rt: &R, count: u64) -> anyhow::Result<Measure>
 where
     R: Files + AllocGlobal,
 {
     let before = peak(rt)?;
-    let mut core = PriorityQueueChannel::unbounded(rt.alloc());
-    send_all(&mut core, Load::Random, count)?;
+    let core = one_thread::filled(rt, Load::Random, count)?;
     let after = peak(rt)?;
     Ok(growth(before, after, core.len()))
 }
 
 pub fn handles<R>(rt: &R, count: u64) -> anyhow::Result<Measure>
 where
-    R: Wait + Clone + Files + AllocGlobal,
+    R: Host + Files,
 {
     let before = peak(rt)?;
-    let (tx, rx) = channel(rt, 0)?;
-    for number in 0..count {
-        tx.try_send(number, Load::Random.priority(number))?;
-    }
+    let (_tx, rx) = handles::filled(rt, count)?;
     let after = peak(rt)?;
     Ok(growth(before, after, rx.len()))
 }

@@ -1,12 +1,12 @@
 //! The core, on one thread and without a handle.
 
 use crate::load::Load;
-use crate::measure::{Measure, add_at};
-use anyhow::{bail, ensure};
+use crate::measure::{Measure, add_rounds, time_steps};
+use anyhow::ensure;
 use priority_channel_core::awaitable_atomics::Wakes;
 use priority_channel_core::channel::PriorityQueueChannel;
 use std::alloc::AllocGlobal;
-use std::time::{CpuClock, Duration};
+use std::time::CpuClock;
 
 /// Its wakers are numbers, of which none is ever listed here.
 pub type Core = PriorityQueueChannel<u64, i64, u64>;
@@ -16,21 +16,11 @@ pub fn steady<R>(rt: &R, load: Load, pending: u64, count: u64) -> anyhow::Result
 where
     R: CpuClock + AllocGlobal,
 {
-    let mut core = PriorityQueueChannel::unbounded(rt.alloc());
-    send_all(&mut core, load, pending)?;
-    let start = rt.thread_cpu_time()?;
-    let mut sum = 0u64;
-    for position in 0..count {
-        let number = pending.wrapping_add(position);
-        let is_sent = send(&mut core, number, load.priority(number));
-        ensure!(is_sent, "{number} was not sent");
-        let Some(msg) = recv(&mut core) else {
-            bail!("no message came");
-        };
-        sum = add_at(sum, position, msg);
-    }
-    let end = rt.thread_cpu_time()?;
-    Ok(Measure::of_time(end.saturating_sub(start), sum))
+    let mut core = filled(rt, load, pending)?;
+    time_steps(rt, count, |position| {
+        send_number(&mut core, load, pending.wrapping_add(position))?;
+        recv(&mut core)
+    })
 }
 
 /// A send that makes room, with so many pairs pending and room for no more.
@@ -41,17 +31,10 @@ where
     ensure!(pending > 0, "no room at all");
     let mut core = PriorityQueueChannel::bounded(rt.alloc(), pending);
     send_all(&mut core, load, pending)?;
-    let start = rt.thread_cpu_time()?;
-    let mut sum = 0u64;
-    for position in 0..count {
+    time_steps(rt, count, |position| {
         let number = pending.wrapping_add(position);
-        let Some(msg) = evict(&mut core, number, load.priority(number)) else {
-            bail!("{number} was sent, and nothing came back");
-        };
-        sum = add_at(sum, position, msg);
-    }
-    let end = rt.thread_cpu_time()?;
-    Ok(Measure::of_time(end.saturating_sub(start), sum))
+        evict(&mut core, number, load.priority(number))
+    })
 }
 
 /// Sends to an empty core.
@@ -59,17 +42,13 @@ pub fn fill<R>(rt: &R, load: Load, size: u64, count: u64) -> anyhow::Result<Meas
 where
     R: CpuClock + AllocGlobal,
 {
-    let mut took = Duration::ZERO;
-    let mut sum = 0u64;
-    for _ in 0..rounds(size, count) {
+    add_rounds(size, count, || {
         let mut core = PriorityQueueChannel::unbounded(rt.alloc());
         let start = rt.thread_cpu_time()?;
         send_all(&mut core, load, size)?;
         let end = rt.thread_cpu_time()?;
-        took = took.saturating_add(end.saturating_sub(start));
-        sum = sum.wrapping_add(core.len());
-    }
-    Ok(Measure::of_time(took, sum))
+        Ok(Measure::of_time(end.saturating_sub(start), core.len()))
+    })
 }
 
 /// Receives until the core is empty.
@@ -77,43 +56,36 @@ pub fn drain<R>(rt: &R, load: Load, size: u64, count: u64) -> anyhow::Result<Mea
 where
     R: CpuClock + AllocGlobal,
 {
-    let mut took = Duration::ZERO;
-    let mut sum = 0u64;
-    for _ in 0..rounds(size, count) {
-        let mut core = PriorityQueueChannel::unbounded(rt.alloc());
-        send_all(&mut core, load, size)?;
-        let start = rt.thread_cpu_time()?;
-        for position in 0..size {
-            let Some(msg) = recv(&mut core) else {
-                bail!("no message came");
-            };
-            sum = add_at(sum, position, msg);
-        }
-        let end = rt.thread_cpu_time()?;
-        took = took.saturating_add(end.saturating_sub(start));
-    }
-    Ok(Measure::of_time(took, sum))
+    add_rounds(size, count, || {
+        let mut core = filled(rt, load, size)?;
+        time_steps(rt, size, |_| recv(&mut core))
+    })
 }
 
-fn rounds(size: u64, count: u64) -> u64 {
-    count / size.max(1)
+/// A core with the numbers below `count` pending.
+pub fn filled<R: AllocGlobal>(rt: &R, load: Load, count: u64) -> anyhow::Result<Core> {
+    let mut core = PriorityQueueChannel::unbounded(rt.alloc());
+    send_all(&mut core, load, count)?;
+    Ok(core)
 }
 
-/// Sends the numbers below `count`.
-pub fn send_all(core: &mut Core, load: Load, count: u64) -> anyhow::Result<()> {
+fn send_all(core: &mut Core, load: Load, count: u64) -> anyhow::Result<()> {
     for number in 0..count {
-        let is_sent = send(core, number, load.priority(number));
-        ensure!(is_sent, "{number} was not sent");
+        ensure!(
+            send_number(core, load, number).is_some(),
+            "a number was not sent"
+        );
     }
     Ok(())
 }
 
-// Neither makes an error of `anyhow`, for which it would clear much memory each time.
+// None of these makes an error of `anyhow`, for which it would clear much memory each time.
 
-pub fn send(core: &mut Core, msg: u64, priority: i64) -> bool {
-    let (sent, wakes) = core.try_send(msg, priority);
+pub fn send_number(core: &mut Core, load: Load, number: u64) -> Option<u64> {
+    let (sent, wakes) = core.try_send(number, load.priority(number));
     let_go(wakes);
-    sent.is_ok()
+    sent.ok()?;
+    Some(number)
 }
 
 fn recv(core: &mut Core) -> Option<u64> {

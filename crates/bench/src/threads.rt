@@ -1,0 +1,37 @@
+//! What rows with threads share.
+
+use crate::calls::Host;
+use std::alloc::AllocGlobal;
+use std::thread::{JoinHandle, Threads};
+use std::time::Clock;
+
+/// What a row with threads asks of its runtime.
+pub trait Machine: Host + Threads + Copy + Clock + Send + 'static {}
+
+impl<R: Host + Threads + Copy + Clock + Send + 'static> Machine for R {}
+
+/// It gives the sum of what came to it.
+pub type Thread = JoinHandle<anyhow::Result<u64>>;
+
+/// So many threads, of which each is started with its number.
+pub fn start_all<R, F>(rt: &R, count: u64, mut start: F) -> anyhow::Result<Vec<Thread>>
+where
+    R: AllocGlobal,
+    F: FnMut(u64) -> anyhow::Result<Thread>,
+    requires { F.IsAlwaysCallable start }
+{
+    let mut threads = Vec::new(rt.alloc());
+    for number in 0..count {
+        threads.push(start(number)?)?;
+    }
+    Ok(threads)
+}
+
+/// The sum of what all give.
+pub fn join_all<R: Threads>(rt: &R, threads: Vec<Thread>) -> anyhow::Result<u64> {
+    let mut sum = 0u64;
+    for thread in threads {
+        sum = sum.wrapping_add(thread.join(rt)?);
+    }
+    Ok(sum)
+}
