@@ -1,6 +1,7 @@
 //! The count of each message, and the order in which they came.
 
 use crate::message::{Message, PRIORITIES, Pair};
+use crate::receiving::Inbox;
 use anyhow::ensure;
 use std::alloc::{AllocError, Global};
 use thiserror::Error;
@@ -30,11 +31,15 @@ pub enum Fault {
     OutOfOrder(Message),
 }
 
+// How many priorities a message can come with.
+const KINDS: u64 = 2 * PRIORITIES;
+
 #[derive(Drop)]
 pub struct Account {
     // By sender and number.
     fates: Vec<Vec<Fate>>,
-    // The number that came last at one receiver, by sender and priority.
+    // The number that came last at one receiver, by sender and priority: of those that were raised
+    // too, since the one is raised that was accepted first.
     latest: Vec<Option<u64>>,
 }
 
@@ -42,10 +47,15 @@ impl Account {
     /// Of the fates of each sender's messages.
     pub fn new(alloc: Global, fates: Vec<Vec<Fate>>) -> Result<Self, AllocError> {
         let mut latest = Vec::new(alloc);
-        for _ in 0..PRIORITIES.saturating_mul(fates.len() as u64) {
+        for _ in 0..KINDS.saturating_mul(fates.len() as u64) {
             latest.push(None)?;
         }
         Ok(Account { fates, latest })
+    }
+
+    pub fn count_inbox(&mut self, inbox: &Inbox) -> Result<(), Fault> {
+        self.count(&inbox.received)?;
+        self.count_chosen(&inbox.chosen)
     }
 
     /// Counts what one receiver has received, in that order. Messages of one sender and of one
@@ -74,7 +84,7 @@ impl Account {
         let Some(fate) = self.fate_mut(message) else {
             return Err(Fault::MadeUp(message));
         };
-        if priority != message.priority() {
+        if !message.can_have(priority) {
             return Err(Fault::MadeUp(message));
         }
         match *fate {
@@ -93,7 +103,7 @@ impl Account {
     }
 
     fn note_latest(&mut self, message: Message, priority: u64) -> Result<(), Fault> {
-        let kinds = message.sender.saturating_mul(PRIORITIES);
+        let kinds = message.sender.saturating_mul(KINDS);
         let Some(last) = self.latest.get_mut(kinds.saturating_add(priority) as usize) else {
             return Err(Fault::MadeUp(message));
         };

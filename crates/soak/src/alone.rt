@@ -1,10 +1,11 @@
 //! The worker that has a channel of its own, on one thread, in memory of which some is refused.
 
-use crate::account::Account;
 use crate::call::Call;
 use crate::dice::Dice;
-use crate::receiving::{Inbox, drain, receive_turn};
+use crate::receiving::{Inbox, receive_turn};
 use crate::sending::{Outbox, send_turn};
+use crate::settling::settle;
+use crate::watchdog::Worker;
 use async_priority_channel::bounded;
 use refusing::Refusing;
 use std::alloc::AllocGlobal;
@@ -42,12 +43,6 @@ pub fn run_alone<R: Wait + Copy + Clock + RandomSource + AllocGlobal>(
         }
     }
     drop(tx);
-    let drained = drain(rt.alloc(), &rx)?;
-    let (fates, displaced) = outbox.into_parts();
-    let mut account = Account::new(rt.alloc(), vec![in rt.alloc(); fates]?)?;
-    account.count(&inbox.received)?;
-    account.count_chosen(&inbox.chosen)?;
-    account.count_chosen(&displaced)?;
-    account.count(&drained)?;
-    Ok(account.settle()?)
+    let outboxes = vec![in rt.alloc(); outbox]?;
+    settle(rt.alloc(), &rx, outboxes, &[(Worker::Alone, inbox)])
 }

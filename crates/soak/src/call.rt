@@ -72,3 +72,18 @@ impl fmt::Display for Call {
         write!(f, "{:?} of {:?}", self.way, self.shape)
     }
 }
+
+/// Now and then another handle for a call: a clone, or what a weak one can be upgraded to.
+pub fn draw_other<H, C, U>(dice: &mut Dice, clone: C, upgrade: U) -> Option<H>
+where
+    C: FnOnce() -> Option<H>,
+    U: FnOnce() -> Option<H>,
+    requires cloned { C.IsAlwaysCallable clone }
+    requires upgraded { U.IsAlwaysCallable upgrade }
+{
+    match dice.below(8) {
+        0 => clone(),
+        1 => upgrade(),
+        _ => None,
+    }
+}

@@ -17,16 +17,13 @@ mod planted;
 mod receiving;
 mod round;
 mod sending;
+mod settling;
 mod watchdog;
 
 use anyhow::{Context, bail};
 use planted::show_planted;
-use round::run_round;
-use std::alloc::AllocGlobal;
-use std::random::RandomSource;
-use std::sync::Wait;
-use std::thread::Threads;
-use std::time::{Clock, Duration, Instant};
+use round::{Machine, run_round};
+use std::time::{Duration, Instant};
 use std::{env, fmt};
 
 fn main(rt: HostRuntime) -> anyhow::Result<()> {
@@ -35,14 +32,18 @@ fn main(rt: HostRuntime) -> anyhow::Result<()> {
         bail!("soak rounds N SEED, or soak minutes N SEED");
     };
     let (count, seed): (u64, u64) = (count.parse()?, seed.parse()?);
-    show_planted(&rt)?;
-    let sum = match kind.as_str() {
-        "rounds" => run_rounds(rt, count, seed)?,
-        "minutes" => run_minutes(rt, count, seed)?,
-        _ => bail!("neither rounds nor minutes: {kind}"),
-    };
+    let sum = run(rt, kind, count, seed)?;
     println!(rt; "{sum}: none lost, doubled, made up or out of order")?;
     Ok(())
+}
+
+fn run<R: Machine + Print>(rt: R, kind: &str, count: u64, seed: u64) -> anyhow::Result<Sum> {
+    show_planted(&rt)?;
+    match kind {
+        "rounds" => run_rounds(rt, count, seed),
+        "minutes" => run_minutes(rt, count, seed),
+        _ => bail!("neither rounds nor minutes: {kind}"),
+    }
 }
 
 /// What was run so far.
@@ -65,10 +66,7 @@ impl Sum {
     };
 
     // Runs the next round. The first has the seed itself.
-    fn add_round<R>(&mut self, rt: R, seed: u64) -> anyhow::Result<()>
-    where
-        R: Threads + Wait + Copy + Clock + RandomSource + AllocGlobal + Send + 'static,
-    {
+    fn add_round<R: Machine>(&mut self, rt: R, seed: u64) -> anyhow::Result<()> {
         let seed = seed.wrapping_add(self.rounds);
         let messages = run_round(rt, seed).context(format_args!("`soak rounds 1 {seed}`"))?;
         self.rounds = self.rounds.saturating_add(1);
@@ -77,10 +75,7 @@ impl Sum {
     }
 }
 
-fn run_rounds<R>(rt: R, rounds: u64, seed: u64) -> anyhow::Result<Sum>
-where
-    R: Threads + Wait + Copy + Clock + RandomSource + AllocGlobal + Send + 'static,
-{
+fn run_rounds<R: Machine>(rt: R, rounds: u64, seed: u64) -> anyhow::Result<Sum> {
     let mut sum = Sum::NONE;
     for _ in 0..rounds {
         sum.add_round(rt, seed)?;
@@ -88,10 +83,7 @@ where
     Ok(sum)
 }
 
-fn run_minutes<R>(rt: R, minutes: u64, seed: u64) -> anyhow::Result<Sum>
-where
-    R: Threads + Wait + Copy + Clock + RandomSource + AllocGlobal + Print + Send + 'static,
-{
+fn run_minutes<R: Machine + Print>(rt: R, minutes: u64, seed: u64) -> anyhow::Result<Sum> {
     let mut sum = Sum::NONE;
     for minute in 1..=minutes {
         let start = Instant::now(&rt)?;

@@ -6,6 +6,11 @@ use std::fmt;
 /// How many priorities there are: few, so that many messages have the same.
 pub const PRIORITIES: u64 = 8;
 
+/// That of a pending message that was made more urgent, once, by a change of its priority.
+pub fn raised(priority: u64) -> u64 {
+    priority.saturating_add(PRIORITIES)
+}
+
 /// A message with the priority that it goes with.
 pub type Pair = (Message, u64);
 
@@ -21,6 +26,11 @@ impl Message {
     pub fn priority(self) -> u64 {
         let seed = self.sender.wrapping_mul(1 << 32).wrapping_add(self.number);
         Dice::new(seed).below(PRIORITIES)
+    }
+
+    /// Whether it can come with this priority, raised or not.
+    pub fn can_have(self, priority: u64) -> bool {
+        priority == self.priority() || priority == raised(self.priority())
     }
 
     pub fn pair(self) -> Pair {

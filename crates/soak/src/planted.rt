@@ -7,6 +7,7 @@ use crate::message::{Message, Pair};
 use crate::watchdog::{Watchdog, Work, Worker};
 use anyhow::{Context, bail};
 use std::alloc::{AllocError, AllocGlobal, Global};
+use std::io;
 use std::sync::Wait;
 use std::time::{Clock, Duration};
 
@@ -32,10 +33,7 @@ pub fn show_planted<R: Wait + Clock + AllocGlobal + Print>(rt: &R) -> anyhow::Re
         ("a wrong order", &[kin, first], None),
         ("a loss", &[], Some(19)),
     ] {
-        match settle(rt.alloc(), received, lost)? {
-            Ok(messages) => println!(rt; "planted {planted}: {messages} messages, no fault")?,
-            Err(fault) => println!(rt; "planted {planted}: {fault}")?,
-        }
+        show(rt, planted, settle(rt.alloc(), received, lost)?)?;
     }
     if let Err(fault) = check_falling(&[(numbered(0), 5), (numbered(1), 5), (numbered(2), 6)]) {
         println!(rt; "planted a rise of the priority: {fault}")?;
@@ -43,6 +41,13 @@ pub fn show_planted<R: Wait + Clock + AllocGlobal + Print>(rt: &R) -> anyhow::Re
     let hang = wait_for_one_that_hangs(rt)?;
     println!(rt; "planted a hang: {hang}")?;
     Ok(())
+}
+
+fn show<R: Print>(rt: &R, planted: &str, settled: Result<u64, Fault>) -> io::Result<()> {
+    match settled {
+        Ok(messages) => println!(rt; "planted {planted}: {messages} messages, no fault"),
+        Err(fault) => println!(rt; "planted {planted}: {fault}"),
+    }
 }
 
 fn numbered(number: u64) -> Message {

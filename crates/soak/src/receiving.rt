@@ -1,9 +1,9 @@
 //! The worker that receives, by which calls.
 
 use crate::account::{check_bound, check_falling};
-use crate::call::{Call, Shape, Way};
+use crate::call::{Call, Shape, Way, draw_other};
 use crate::dice::Dice;
-use crate::message::{Message, PRIORITIES, Pair};
+use crate::message::{Message, PRIORITIES, Pair, raised};
 use crate::sending::from_now;
 use crate::watchdog::Post;
 use anyhow::ensure;
@@ -13,6 +13,7 @@ use futures::executor::block_on;
 use futures::future::poll_immediate;
 use refusing::Refusing;
 use std::alloc::{AllocGlobal, Allocator, Global};
+use std::io;
 use std::random::RandomSource;
 use std::sync::Wait;
 use std::time::{Clock, Duration};
@@ -73,24 +74,10 @@ pub fn receive_turn<R: Wait + Copy + Clock + RandomSource + AllocGlobal, A: Allo
     inbox: &mut Inbox,
 ) -> anyhow::Result<()> {
     memory.refuse_nth(dice.below(REQUESTS));
-    let received = match make_other(dice, rx) {
-        Some(other) => receive_by(rt, dice, call, &other, memory, inbox),
-        None => receive_by(rt, dice, call, rx, memory, inbox),
-    };
+    let other = draw_other(dice, || rx.clone().ok(), || rx.downgrade().ok()?.upgrade());
+    let received = receive_by(rt, dice, call, other.as_ref().unwrap_or(rx), memory, inbox);
     memory.refuse_none();
     received
-}
-
-// Now and then: a clone, or what a weak handle can be upgraded to.
-fn make_other<R: Wait + Copy, A: Allocator + Copy>(
-    dice: &mut Dice,
-    rx: &Receiver<Message, u64, R, A>,
-) -> Option<Receiver<Message, u64, R, A>> {
-    match dice.below(8) {
-        0 => rx.clone().ok(),
-        1 => rx.downgrade().ok()?.upgrade(),
-        _ => None,
-    }
 }
 
 fn receive_by<R: Wait + Copy + Clock + RandomSource + AllocGlobal, A: Allocator + Copy>(
@@ -103,52 +90,62 @@ fn receive_by<R: Wait + Copy + Clock + RandomSource + AllocGlobal, A: Allocator 
 ) -> anyhow::Result<()> {
     let many = dice.from(1, MANY) as usize;
     match (call.shape, call.way) {
-        (Shape::Each, Way::Try | Way::Poll) => {
-            for pair in rx.try_iter().take(many) {
-                inbox.received.push(pair)?;
-            }
-        }
-        (Shape::Each, Way::Future) => {
-            if let Some(pair) = block_on(rt, rx.stream().next())? {
-                inbox.received.push(pair)?;
-            }
-        }
-        (Shape::Each, _) => {
-            for pair in rx.iter().take(many) {
-                inbox.received.push(pair)?;
-            }
-        }
+        (Shape::Chosen, _) => choose(dice, rx, &mut inbox.chosen),
+        (Shape::Each, way) => Ok(receive_each(rt, way, rx, many, &mut inbox.received)?),
         (Shape::Many, Way::Try | Way::Poll | Way::Future | Way::Blocking) => {
-            for pair in receive_many(rt, call.way, rx, memory, many)? {
-                inbox.received.push(pair)?;
-            }
+            receive_many(rt, call.way, rx, memory, many, &mut inbox.received)
         }
-        (Shape::Chosen, _) => choose(dice, rx, &mut inbox.chosen)?,
-        _ => {
+        (_, way) => {
             let limit = Duration::from_micros(dice.below(LIMIT));
-            if let Some(pair) = receive_one(rt, call.way, limit, rx)? {
+            if let Some(pair) = receive_one(rt, way, limit, rx)? {
                 inbox.received.push(pair)?;
             }
+            Ok(())
         }
     }
-    Ok(())
 }
 
-// Takes out one of a priority, or all.
+// Of one priority: takes out one or all, or makes one more urgent.
 fn choose<R: Wait + Copy, A: Allocator + Copy>(
     dice: &mut Dice,
     rx: &Receiver<Message, u64, R, A>,
     chosen: &mut Vec<Pair>,
 ) -> anyhow::Result<()> {
     let wanted = dice.below(PRIORITIES);
-    if dice.one_in(2) {
-        if let Some(pair) = rx.take_where(move |_, priority| *priority == wanted) {
-            chosen.push(pair)?;
+    match dice.below(3) {
+        0 => {
+            if let Some(pair) = rx.take_where(move |_, priority| *priority == wanted) {
+                chosen.push(pair)?;
+            }
         }
-    } else if let Ok(pairs) = rx.retain(move |_, priority| *priority != wanted) {
-        for pair in pairs {
-            chosen.push(pair)?;
+        1 => {
+            if let Ok(pairs) = rx.retain(move |_, priority| *priority != wanted) {
+                chosen.extend(pairs)?;
+            }
         }
+        _ => {
+            let was = rx.change_priority(move |_, it| *it == wanted, raised(wanted));
+            ensure!(was.is_none_or(|was| was == wanted), "another was changed");
+        }
+    }
+    Ok(())
+}
+
+fn receive_each<R: Wait + Copy + RandomSource + AllocGlobal, A: Allocator + Copy>(
+    rt: &R,
+    way: Way,
+    rx: &Receiver<Message, u64, R, A>,
+    many: usize,
+    received: &mut Vec<Pair>,
+) -> io::Result<()> {
+    match way {
+        Way::Try | Way::Poll => received.extend(rx.try_iter().take(many))?,
+        Way::Future => {
+            if let Some(pair) = block_on(rt, rx.stream().next())? {
+                received.push(pair)?;
+            }
+        }
+        _ => received.extend(rx.iter().take(many))?,
     }
     Ok(())
 }
@@ -158,7 +155,7 @@ fn receive_one<R: Wait + Copy + Clock + RandomSource + AllocGlobal, A: Allocator
     way: Way,
     limit: Duration,
     rx: &Receiver<Message, u64, R, A>,
-) -> anyhow::Result<Option<Pair>> {
+) -> io::Result<Option<Pair>> {
     Ok(match way {
         Way::Try => rx.try_recv().ok(),
         Way::Poll => match block_on(rt, poll_immediate(rx.recv()))? {
@@ -172,28 +169,40 @@ fn receive_one<R: Wait + Copy + Clock + RandomSource + AllocGlobal, A: Allocator
     })
 }
 
-fn receive_many<'a, R: Wait + Copy + RandomSource + AllocGlobal, A: Allocator + Copy>(
+fn receive_many<R: Wait + Copy + RandomSource + AllocGlobal, A: Allocator + Copy>(
     rt: &R,
     way: Way,
     rx: &Receiver<Message, u64, R, A>,
-    memory: &'a Refusing<Global>,
+    memory: &Refusing<Global>,
     many: usize,
-) -> anyhow::Result<Vec<Pair, &'a Refusing<Global>>> {
+    received: &mut Vec<Pair>,
+) -> anyhow::Result<()> {
     let mut batch = Vec::new(memory);
-    let received = match way {
-        Way::Poll => match block_on(rt, poll_immediate(rx.recv_many(&mut batch, many)))? {
-            None => 0,
-            Some(received) => received.unwrap_or(0),
-        },
-        Way::Future => block_on(rt, rx.recv_many(&mut batch, many))?.unwrap_or(0),
-        Way::Blocking => rx.recv_many_blocking(&mut batch, many).unwrap_or(0),
-        _ => rx.try_recv_many(&mut batch, many).unwrap_or(0),
-    };
-    ensure!(received == batch.len(), "a receive of many has miscounted");
+    let count = receive_batch(rt, way, rx, &mut batch, many)?;
+    ensure!(count == batch.len(), "a receive of many has miscounted");
     if way == Way::Try {
         check_falling(&batch)?; // they came in one step
     }
-    Ok(batch)
+    received.extend(batch)?;
+    Ok(())
+}
+
+fn receive_batch<'a, R: Wait + Copy + RandomSource + AllocGlobal, A: Allocator + Copy>(
+    rt: &R,
+    way: Way,
+    rx: &Receiver<Message, u64, R, A>,
+    batch: &mut Vec<Pair, &'a Refusing<Global>>,
+    many: usize,
+) -> io::Result<usize> {
+    Ok(match way {
+        Way::Poll => match block_on(rt, poll_immediate(rx.recv_many(batch, many)))? {
+            None => 0,
+            Some(received) => received.unwrap_or(0),
+        },
+        Way::Future => block_on(rt, rx.recv_many(batch, many))?.unwrap_or(0),
+        Way::Blocking => rx.recv_many_blocking(batch, many).unwrap_or(0),
+        _ => rx.try_recv_many(batch, many).unwrap_or(0),
+    })
 }
 
 /// Receives what is left in the closed channel, once all other workers have ended.
@@ -203,17 +212,20 @@ pub fn drain<R: Wait + Copy, A: Allocator + Copy>(
 ) -> anyhow::Result<Vec<Pair>> {
     let pending = rx.len();
     check_bound(pending, rx.capacity())?;
-    let mut drained = Vec::new(alloc);
-    for pair in rx.try_iter() {
-        drained.push(pair)?;
-    }
-    ensure!(
-        drained.len() as u64 == pending,
-        "not all came that was left"
-    );
+    let drained: Vec<Pair> = rx.try_iter().collect(alloc)?;
+    check_end(rx, pending, drained.len() as u64)?;
+    check_falling(&drained)?;
+    Ok(drained)
+}
+
+fn check_end<R: Wait + Copy, A: Allocator + Copy>(
+    rx: &Receiver<Message, u64, R, A>,
+    pending: u64,
+    drained: u64,
+) -> anyhow::Result<()> {
+    ensure!(drained == pending, "not all came that was left");
     ensure!(rx.is_closed(), "the channel is still open");
     let counts = (rx.sender_count(), rx.receiver_count());
     ensure!(counts == (0, 1), "handles are counted that are gone");
-    check_falling(&drained)?;
-    Ok(drained)
+    Ok(())
 }

@@ -1,14 +1,13 @@
 //! A round: a channel, its workers, and the count of what they have done.
 
-use crate::account::Account;
 use crate::alone::run_alone;
 use crate::dice::Dice;
 use crate::message::Message;
-use crate::receiving::{drain, receive_all};
+use crate::receiving::{Inbox, receive_all};
 use crate::sending::{Closing, Outbox, send_all};
+use crate::settling::settle;
 use crate::watchdog::{Watchdog, Work, Worker};
-use anyhow::Context;
-use async_priority_channel::{Ends, Receiver, bounded, bounded_reserved, unbounded};
+use async_priority_channel::{Ends, Receiver, Sender, bounded, bounded_reserved, unbounded};
 use std::alloc::{AllocError, AllocGlobal, Global};
 use std::random::RandomSource;
 use std::sync::Wait;
@@ -33,56 +32,88 @@ const MESSAGES_ALONE: u64 = 500;
 // In seconds. While all go on, at least one worker ends within this time.
 const PATIENCE: u64 = 30;
 
+/// What a round asks of its runtime.
+pub trait Machine: Threads + Wait + Copy + Clock + RandomSource + AllocGlobal + Send + 'static {}
+
+impl<R: Threads + Wait + Copy + Clock + RandomSource + AllocGlobal + Send + 'static> Machine
+    for R {}
+
 /// Runs the round of this seed, and tells how many messages it had. What is drawn depends on the
 /// seed alone, and how many there are does not depend on how the threads run.
-pub fn run_round<R>(rt: R, seed: u64) -> anyhow::Result<u64>
-where
-    R: Threads + Wait + Copy + Clock + RandomSource + AllocGlobal + Send + 'static,
-{
+pub fn run_round<R: Machine>(rt: R, seed: u64) -> anyhow::Result<u64> {
     let mut dice = Dice::new(seed);
     let mut watchdog = Watchdog::new(rt.alloc())?;
     let rx = start(rt, &mut dice, &mut watchdog)?;
     let works = watchdog.wait_all(&rt, Duration::from_secs(PATIENCE))?;
-    settle(rt.alloc(), &rx, works)
+    let done = sort_out(rt.alloc(), works)?;
+    let messages = settle(rt.alloc(), &rx, done.outboxes, &done.inboxes)?;
+    Ok(messages.saturating_add(done.alone))
 }
 
 // Starts the workers. They have all senders, so that the last of them closes the channel where none
 // has done so before.
-fn start<R>(
+fn start<R: Machine>(
     rt: R,
     dice: &mut Dice,
     watchdog: &mut Watchdog,
-) -> anyhow::Result<Receiver<Message, u64, R>>
-where
-    R: Threads + Wait + Copy + Clock + RandomSource + AllocGlobal + Send + 'static,
-{
+) -> anyhow::Result<Receiver<Message, u64, R>> {
     let (tx, rx) = make_channel(&rt, dice)?;
     let close = draw_close(dice);
     for number in 0..dice.from(1, SENDERS) {
-        let post = watchdog.add(rt.alloc(), Worker::Sender(number))?;
-        let outbox = Outbox::new(rt.alloc(), number, dice.from(MESSAGES, MORE_MESSAGES));
-        let (dice, tx) = (dice.split(), tx.clone()?);
-        let closing = closing_of(number, close);
-        thread::spawn(&rt, move || {
-            let sent = send_all(&rt, dice, tx, outbox, closing, &post);
-            post.report(&rt, sent.map(Work::Sent));
-        })?;
+        start_sender(rt, dice, watchdog, &tx, number, close)?;
     }
     for number in 0..dice.from(1, RECEIVERS) {
-        let post = watchdog.add(rt.alloc(), Worker::Receiver(number))?;
-        let (dice, rx) = (dice.split(), rx.clone()?);
-        thread::spawn(&rt, move || {
-            let received = receive_all(&rt, dice, rx, &post);
-            post.report(&rt, received.map(Work::Received));
-        })?;
+        start_receiver(rt, dice, watchdog, &rx, number)?;
     }
+    start_alone(rt, dice, watchdog)?;
+    Ok(rx)
+}
+
+fn start_sender<R: Machine>(
+    rt: R,
+    dice: &mut Dice,
+    watchdog: &mut Watchdog,
+    tx: &Sender<Message, u64, R>,
+    number: u64,
+    close: Option<u64>,
+) -> anyhow::Result<()> {
+    let post = watchdog.add(rt.alloc(), Worker::Sender(number))?;
+    let outbox = Outbox::new(rt.alloc(), number, dice.from(MESSAGES, MORE_MESSAGES));
+    let dice = dice.split();
+    let tx = tx.clone()?;
+    let closing = closing_of(number, close);
+    thread::spawn(&rt, move || {
+        let sent = send_all(&rt, dice, tx, outbox, closing, &post);
+        post.report(&rt, sent.map(Work::Sent));
+    })?;
+    Ok(())
+}
+
+fn start_receiver<R: Machine>(
+    rt: R,
+    dice: &mut Dice,
+    watchdog: &mut Watchdog,
+    rx: &Receiver<Message, u64, R>,
+    number: u64,
+) -> anyhow::Result<()> {
+    let post = watchdog.add(rt.alloc(), Worker::Receiver(number))?;
+    let dice = dice.split();
+    let rx = rx.clone()?;
+    thread::spawn(&rt, move || {
+        let received = receive_all(&rt, dice, rx, &post);
+        post.report(&rt, received.map(Work::Received));
+    })?;
+    Ok(())
+}
+
+fn start_alone<R: Machine>(rt: R, dice: &mut Dice, watchdog: &mut Watchdog) -> anyhow::Result<()> {
     let post = watchdog.add(rt.alloc(), Worker::Alone)?;
     let dice = dice.split();
     thread::spawn(&rt, move || {
         let counted = run_alone(&rt, dice, MESSAGES_ALONE);
         post.report(&rt, counted.map(Work::Counted));
     })?;
-    Ok(rx)
+    Ok(())
 }
 
 // Where the first sender closes the channel: how many it has left then.
@@ -111,40 +142,28 @@ where
     }
 }
 
-// Counts all messages, once all workers have ended.
-fn settle<R: Wait + Copy>(
-    alloc: Global,
-    rx: &Receiver<Message, u64, R>,
-    works: Vec<(Worker, Work)>,
-) -> anyhow::Result<u64> {
-    let mut outboxes = Vec::new(alloc);
-    let mut inboxes = Vec::new(alloc);
-    let mut alone = 0;
+// What all workers have done, that of the senders in their order.
+#[derive(Drop)]
+struct Done {
+    outboxes: Vec<Outbox>,
+    inboxes: Vec<(Worker, Inbox)>,
+    // How many messages the worker on its own has counted.
+    alone: u64,
+}
+
+fn sort_out(alloc: Global, works: Vec<(Worker, Work)>) -> Result<Done, AllocError> {
+    let mut done = Done {
+        outboxes: Vec::new(alloc),
+        inboxes: Vec::new(alloc),
+        alone: 0,
+    };
     for (worker, work) in works {
         match work {
-            Work::Sent(outbox) => outboxes.push(outbox)?,
-            Work::Received(inbox) => inboxes.push((worker, inbox))?,
-            Work::Counted(messages) => alone = messages,
+            Work::Sent(outbox) => done.outboxes.push(outbox)?,
+            Work::Received(inbox) => done.inboxes.push((worker, inbox))?,
+            Work::Counted(messages) => done.alone = messages,
         }
     }
-    outboxes.sort_by_key(|outbox| outbox.sender)?;
-    let mut fates = Vec::new(alloc);
-    let mut displaced = Vec::new(alloc);
-    for outbox in outboxes {
-        let (its_fates, its_displaced) = outbox.into_parts();
-        fates.push(its_fates)?;
-        displaced.push(its_displaced)?;
-    }
-    let mut account = Account::new(alloc, fates)?;
-    for (worker, inbox) in &inboxes {
-        account.count(&inbox.received).context(worker)?;
-        account.count_chosen(&inbox.chosen).context(worker)?;
-    }
-    for pairs in &displaced {
-        account.count_chosen(pairs).context("what was displaced")?;
-    }
-    account
-        .count(&drain(alloc, rx).context("the drain")?)
-        .context("the drain")?;
-    Ok(account.settle()?.saturating_add(alone))
+    done.outboxes.sort_by_key(|outbox| outbox.sender)?;
+    Ok(done)
 }

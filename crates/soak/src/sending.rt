@@ -1,7 +1,7 @@
 //! The worker that sends: by which calls, and what has become of its messages.
 
 use crate::account::{Fate, check_bound};
-use crate::call::{Call, Shape, Way};
+use crate::call::{Call, Shape, Way, draw_other};
 use crate::dice::Dice;
 use crate::message::{Message, Pair};
 use crate::watchdog::Post;
@@ -10,6 +10,7 @@ use async_priority_channel::Sender;
 use futures::executor::block_on;
 use futures::future::poll_immediate;
 use std::alloc::{AllocError, AllocGlobal, Allocator, Global};
+use std::io;
 use std::random::RandomSource;
 use std::sync::Wait;
 use std::time::{Clock, Duration, Instant};
@@ -62,6 +63,24 @@ impl Outbox {
             number: ahead.saturating_add(self.fates.len() as u64),
         };
         message.pair()
+    }
+
+    // What came of a call. False where the channel is closed.
+    fn note(&mut self, answer: Answer) -> Result<bool, AllocError> {
+        match answer {
+            Answer::Sent(count) => self.settle(count, Fate::Accepted)?,
+            Answer::Displaced(pair) => {
+                self.settle(1, Fate::Accepted)?;
+                self.displaced.push(pair)?;
+            }
+            Answer::Dropped(count, fate) => self.settle(count, fate)?,
+            Answer::Closed(count) => {
+                self.settle(count, Fate::Accepted)?;
+                self.settle(self.left(), Fate::HandedBack)?;
+                return Ok(false);
+            }
+        }
+        Ok(true)
     }
 
     fn settle(&mut self, count: u64, fate: Fate) -> Result<(), AllocError> {
@@ -130,36 +149,9 @@ pub fn send_turn<R: Wait + Copy + Clock + RandomSource + AllocGlobal, A: Allocat
     outbox: &mut Outbox,
 ) -> anyhow::Result<bool> {
     check_bound(tx.len(), tx.capacity())?;
-    let answer = match make_other(dice, tx) {
-        Some(other) => send_by(rt, dice, call, &other, outbox)?,
-        None => send_by(rt, dice, call, tx, outbox)?,
-    };
-    match answer {
-        Answer::Sent(count) => outbox.settle(count, Fate::Accepted)?,
-        Answer::Displaced(pair) => {
-            outbox.settle(1, Fate::Accepted)?;
-            outbox.displaced.push(pair)?;
-        }
-        Answer::Dropped(count, fate) => outbox.settle(count, fate)?,
-        Answer::Closed(count) => {
-            outbox.settle(count, Fate::Accepted)?;
-            outbox.settle(outbox.left(), Fate::HandedBack)?;
-            return Ok(false);
-        }
-    }
-    Ok(true)
-}
-
-// Now and then: a clone, or what a weak handle can be upgraded to.
-fn make_other<R: Wait + Copy, A: Allocator + Copy>(
-    dice: &mut Dice,
-    tx: &Sender<Message, u64, R, A>,
-) -> Option<Sender<Message, u64, R, A>> {
-    match dice.below(8) {
-        0 => tx.clone().ok(),
-        1 => tx.downgrade().ok()?.upgrade(),
-        _ => None,
-    }
+    let other = draw_other(dice, || tx.clone().ok(), || tx.downgrade().ok()?.upgrade());
+    let answer = send_by(rt, dice, call, other.as_ref().unwrap_or(tx), outbox)?;
+    Ok(outbox.note(answer)?)
 }
 
 // What came of a call.
@@ -190,7 +182,7 @@ fn send_by<R: Wait + Copy + Clock + RandomSource + AllocGlobal, A: Allocator + C
     call: Call,
     tx: &Sender<Message, u64, R, A>,
     outbox: &Outbox,
-) -> anyhow::Result<Answer> {
+) -> io::Result<Answer> {
     let limit = Duration::from_micros(dice.below(LIMIT));
     match call.shape {
         Shape::One => return send_one(rt, call.way, limit, tx, outbox.pair(0)),
@@ -219,7 +211,7 @@ fn send_one<R: Wait + Copy + Clock + RandomSource + AllocGlobal, A: Allocator + 
     limit: Duration,
     tx: &Sender<Message, u64, R, A>,
     (message, priority): Pair,
-) -> anyhow::Result<Answer> {
+) -> io::Result<Answer> {
     let is_closed = match way {
         Way::Try => {
             let sent = tx.try_send(message, priority);
@@ -258,7 +250,7 @@ fn send_many<R: Wait + Copy + Clock + RandomSource + AllocGlobal, A: Allocator +
     limit: Duration,
     tx: &Sender<Message, u64, R, A>,
     pairs: Vec<Pair>,
-) -> anyhow::Result<Answer> {
+) -> io::Result<Answer> {
     let all = pairs.len() as u64;
     let list = pairs.into_iter().peekable();
     let (is_closed, left) = match way {
@@ -292,7 +284,7 @@ fn send_many<R: Wait + Copy + Clock + RandomSource + AllocGlobal, A: Allocator +
 }
 
 /// Where the clock ends before, now.
-pub fn from_now<R: Clock>(rt: &R, limit: Duration) -> anyhow::Result<Instant> {
+pub fn from_now<R: Clock>(rt: &R, limit: Duration) -> io::Result<Instant> {
     let now = Instant::now(rt)?;
     Ok(now.checked_add(limit).unwrap_or(now))
 }

@@ -74,6 +74,19 @@ struct Watched {
     call: Arc<Mutex<Option<Call>>, Global>,
 }
 
+// The call that a worker has noted last, if any.
+#[derive(Clone, Copy)]
+struct Doing(Option<Call>);
+
+impl fmt::Display for Doing {
+    fn fmt<W: fmt::Write>(&self, f: &mut fmt::Formatter<W>) -> fmt::Result {
+        match self.0 {
+            Some(call) => write!(f, " in {call}"),
+            None => Ok(()),
+        }
+    }
+}
+
 #[derive(Drop)]
 pub struct Watchdog {
     watched: Vec<Watched>,
@@ -123,10 +136,8 @@ impl Watchdog {
         let mut names = String::new(rt.alloc());
         for Watched { worker, call } in &self.watched {
             let comma = if names.is_empty() { "" } else { ", " };
-            names.push_str(&format!(in rt.alloc(); "{comma}{worker}")?)?;
-            if let Some(call) = *call.lock(rt) {
-                names.push_str(&format!(in rt.alloc(); " in {call}")?)?;
-            }
+            let doing = Doing(*call.lock(rt));
+            names.push_str(&format!(in rt.alloc(); "{comma}{worker}{doing}")?)?;
         }
         Ok(names)
     }
