@@ -6,6 +6,7 @@ mod batches;
 mod blind_bound;
 mod cancel;
 mod ends;
+mod frontier;
 mod own_queue;
 mod producer;
 mod replies;
@@ -18,6 +19,7 @@ fn main(rt: HostRuntime) -> anyhow::Result<()> {
     aging::run(&rt)?;
     blind_bound::run(&rt)?;
     cancel::run(&rt)?;
+    frontier::run(&rt)?;
     batches::run(rt)?;
     timer::run(rt)?;
     producer::run(rt)
