@@ -52,7 +52,7 @@ pub fn bounded<T: Drop, P: Ord + Drop, R: Wait + Clone, A: Allocator + Copy>(
 /// ```
 /// let (tx, rx) = bounded_reserved(&rt, rt.alloc(), 1)?;
 /// tx.try_send("Foo", 0)?;
-/// assert_eq!(rt; tx.try_send("Bar", 2), Err(TrySendError::Full(("Bar", 2))));
+/// assert!(rt; tx.is_full());
 /// assert_eq!(rt; rx.try_recv(), Ok(("Foo", 0)));
 /// ```
 pub fn bounded_reserved<T: Drop, P: Ord + Drop, R: Wait + Clone, A: Allocator + Copy>(

@@ -156,11 +156,10 @@
 //!
 //! ```
 //! let (tx, rx) = unbounded(&rt, rt.alloc())?;
-//! let jobs = [("compile", 2), ("link", 1), ("test", 3)];
-//! tx.try_sendv(jobs.into_iter().peekable())?;
+//! tx.try_sendv([("slow", 1), ("fast", 9)].into_iter().peekable())?;
 //! let mut batch = Vec::new(rt.alloc());
-//! assert_eq!(rt; rx.recv_many_blocking(&mut batch, 2), Ok(2));
-//! assert_eq!(rt; batch.as_slice(), [("test", 3), ("compile", 2)].as_slice());
+//! assert_eq!(rt; rx.recv_many_blocking(&mut batch, 64), Ok(2));
+//! assert_eq!(rt; batch.as_slice(), [("fast", 9), ("slow", 1)].as_slice());
 //! ```
 //!
 //! # Futures

@@ -221,12 +221,11 @@ impl<T, P: Ord, R: Wait + Clone, A: Allocator + Copy> Receiver<T, P, R, A> {
     ///
     /// ```
     /// let (tx, rx) = unbounded(&rt, rt.alloc())?;
-    /// let jobs = [("compile", 2), ("link", 1), ("test", 3)];
-    /// tx.try_sendv(jobs.into_iter().peekable())?;
+    /// tx.try_send("Foo", 0)?;
     /// let mut batch = Vec::new(rt.alloc());
     /// let count = block_on(&rt, rx.recv_many(&mut batch, 64))??;
-    /// assert_eq!(rt; count, 3);
-    /// assert_eq!(rt; batch.first(), Some(&("test", 3)));
+    /// assert_eq!(rt; count, 1);
+    /// assert_eq!(rt; batch.first(), Some(&("Foo", 0)));
     /// ```
     pub fn recv_many<'a, B: Allocator>(
         &'a self,

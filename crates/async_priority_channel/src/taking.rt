@@ -82,8 +82,7 @@ impl<S: Role, T, P: Ord, R: Wait + Clone, A: Allocator + Copy> End<S, T, P, R, A
     ///
     /// ```
     /// let (tx, rx) = unbounded(&rt, rt.alloc())?;
-    /// let jobs = [("compile", 2), ("link", 1), ("test", 3)];
-    /// tx.try_sendv(jobs.into_iter().peekable())?;
+    /// tx.try_sendv([("Foo", 0), ("Bar", 2), ("Baz", 5)].into_iter().peekable())?;
     /// assert_eq!(rt; rx.count_where(|_, priority| *priority > 1), 2);
     /// ```
     pub fn count_where<F: Fn(&T, &P) -> bool>(&self, test: F) -> u64
