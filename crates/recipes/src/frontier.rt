@@ -1,10 +1,10 @@
 //! Shortest ways over a map: what is pending becomes more urgent.
 //!
 //! You need this where a message may turn out to be due sooner, as in Dijkstra's search. Each place
-//! that was reached is pending once, at the length of the shortest way so far. A shorter one changes
-//! that by `change_priority`: a second message would bring the place twice, and whoever receives it
-//! would have to remember that. Once a place was received it is not pending, so nothing changes
-//! there; and no way to it is shorter.
+//! that was reached is pending once, at the length of the shortest way so far. A shorter one
+//! changes that by `change_priority`: a second message would bring the place twice, and whoever
+//! receives it would have to remember that. Once a place was received it is not pending, so nothing
+//! changes there; and no way to it is shorter.
 
 use async_priority_channel::{Sender, unbounded};
 use std::alloc::AllocGlobal;

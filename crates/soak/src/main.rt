@@ -1,6 +1,6 @@
 //! Many threads send and receive over one channel by every kind of call, round after round, with a
-//! count of each message: none is lost, made up or given twice, the order is kept where a thread can
-//! tell, and nobody waits for ever.
+//! count of each message: none is lost, made up or given twice, the order is kept where a thread
+//! can tell, and nobody waits for ever.
 //!
 //! `soak rounds N SEED` runs so many rounds, and prints the same however the threads run. `soak
 //! minutes N SEED` runs rounds for so long, and tells each minute how far it is. A round has a seed

@@ -1,5 +1,5 @@
-//! What the account and the watchdog tell of faults that are planted. A soak begins with it, so that
-//! whoever reads that there was no fault sees what would have been told of one.
+//! What the account and the watchdog tell of faults that are planted. A soak begins with it, so
+//! that whoever reads that there was no fault sees what would have been told of one.
 
 use crate::account::{Account, Fate, Fault, check_falling};
 use crate::call::{Call, Shape, Way};
