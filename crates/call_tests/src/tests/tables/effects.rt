@@ -199,22 +199,12 @@ fn wake_senders<R: Host>(rt: &R, tasks: &[MockTask; 2], closing: &MockTask, roun
     expect_close(rt, closing, &mut closed, round, is_closed);
     let may_go_on = mirrored.model.taken > taken || is_closed;
     expect_effect(rt, &mut mirrored, tasks, round, may_go_on, wake);
-    let sent = ready(tasks[0].poll(&mut sending));
-    let told = tell_one(rt, sent);
-    mirrored.expect(
-        rt,
-        round.told(),
-        (Call::Send(Way::Poll), input(7, 1, 0)),
-        told,
-    );
-    let sent = ready(tasks[1].poll(&mut bulk));
-    let told = tell_many(rt, sent);
-    mirrored.expect(
-        rt,
-        round.told(),
-        (Call::Sendv(Way::Poll), input(8, 2, 0)),
-        told,
-    );
+    let told = tell_one(rt, ready(tasks[0].poll(&mut sending)));
+    let one = (Call::Send(Way::Poll), input(7, 1, 0));
+    mirrored.expect(rt, round.told(), one, told);
+    let told = tell_many(rt, ready(tasks[1].poll(&mut bulk)));
+    let many = (Call::Sendv(Way::Poll), input(8, 2, 0));
+    mirrored.expect(rt, round.told(), many, told);
     mirrored.agree(rt, round.told(), Call::TryIter, input(0, 0, 9));
 }
 
