@@ -185,7 +185,7 @@ fn wake_in_vain<R: Threaded>(own: &Either<R>, other: &Either<R>) -> bool {
     }
 }
 
-// Tells whether a thread that waits was woken in vain. It is listed again, for what comes later.
+// Tells whether a thread that waits was woken for nothing. It is listed again, and goes on later.
 fn waits_on<R: Threaded>(rt: &R, side: Side) -> bool {
     let call = call_of(side, Way::Blocking);
     let (blocked, other) = block(rt, rt.alloc(), call);
