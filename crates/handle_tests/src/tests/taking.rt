@@ -1,7 +1,7 @@
 //! Taking out, keeping, or giving another priority to what a test chooses.
 use super::expect_equal;
-use super::script::run;
-use async_priority_channel::unbounded;
+use super::script::{Host, run};
+use async_priority_channel::{Receiver, unbounded};
 use std::cell::Cell;
 
 #[test]
@@ -33,7 +33,9 @@ fn what_is_chosen_is_taken_or_kept(rt: HostRuntime) {
         -- without memory for what goes nothing changes
         bounded tx rx 3; tx try_sendv a 2 b 1 c 3; refuse_nth 1; rx retain 2 = AllocError
         refuse_none = false; looks = 3 of 3 full 1+1
-        rx retain 2 = [('b', 1)]; rx try_iter = [('c', 3), ('a', 2)]",
+        rx retain 2 = [('b', 1)]; rx try_iter = [('c', 3), ('a', 2)]
+        -- where nothing is pending it asks for none
+        unbounded tx rx; refuse_all; rx retain 0 = []",
     );
 }
 
@@ -65,26 +67,38 @@ fn the_test_is_asked_as_often_as_is_said(rt: HostRuntime) {
     expect_equal(&rt, asked.replace(0), 9);
 }
 
+// What a test owns is dropped with it.
+fn owns<X>(_what: &X) -> bool {
+    true
+}
+
+fn another<R: Host>(rt: &R, rx: &Receiver<char, i64, R>) -> Receiver<char, i64, R> {
+    rx.clone().expect(rt, "a receiver")
+}
+
 // A drop under the lock would wait for it for ever.
 #[test]
 fn the_test_is_dropped_once_the_lock_is_free(rt: HostRuntime) {
     let (tx, rx) = unbounded(&rt, rt.alloc()).expect(&rt, "a channel");
     expect_equal(&rt, tx.try_send('a', 1), Ok(()));
-    let other = rx.clone().expect(&rt, "a receiver");
-    let third = rx.clone().expect(&rt, "a receiver");
-    expect_equal(&rt, rx.receiver_count(), 3);
-    let changed = rx.change_priority(
-        move |_, _| {
-            let _ = &third;
-            true
-        },
-        2,
+    expect_equal(&rt, tx.try_send('b', 0), Ok(()));
+    let other = another(&rt, &rx);
+    let changed = rx.change_priority(move |_, _| owns(&other), 2);
+    expect_equal(&rt, (changed, rx.receiver_count()), (Some(1), 1));
+    let other = another(&rt, &rx);
+    let count = rx.count_where(move |_, _| owns(&other));
+    expect_equal(&rt, (count, rx.receiver_count()), (2, 1));
+    let other = another(&rt, &rx);
+    let retained = rx.retain(move |_, _| owns(&other)).is_ok();
+    expect_equal(&rt, (retained, rx.receiver_count()), (true, 1));
+    let other = another(&rt, &rx);
+    let received = rx.try_recv_if(move |_, _| owns(&other));
+    expect_equal(
+        &rt,
+        (received, rx.receiver_count()),
+        (Ok(Some(('a', 2))), 1),
     );
-    expect_equal(&rt, (changed, rx.receiver_count()), (Some(1), 2));
-    let taken = rx.take_where(move |_, _| {
-        let _ = &other;
-        true
-    });
-    expect_equal(&rt, taken, Some(('a', 2)));
-    expect_equal(&rt, rx.receiver_count(), 1);
+    let other = another(&rt, &rx);
+    let taken = rx.take_where(move |_, _| owns(&other));
+    expect_equal(&rt, (taken, rx.receiver_count()), (Some(('b', 0)), 1));
 }
