@@ -1,8 +1,9 @@
 //! Many messages in one receive.
 use super::expect_equal;
 use super::script::run;
-use async_priority_channel::{TryRecvManyError, unbounded};
+use async_priority_channel::{RecvTimeoutError, TryRecvManyError, unbounded};
 use refusing::Refusing;
+use std::time::Duration;
 
 #[test]
 fn many_come_in_one_receive(rt: HostRuntime) {
@@ -83,4 +84,7 @@ fn a_batch_takes_what_there_is_place_for(rt: HostRuntime) {
     expect_equal(&rt, rx.try_recv_many(&mut batch, 0), Ok(0));
     expect_equal(&rt, batch.as_slice(), [('c', 7), ('a', 3)].as_slice());
     expect_equal(&rt, rx.try_recv(), Ok(('b', 1)));
+    // Without a place for a first message there is nothing to wait for.
+    let refused = rx.recv_many_timeout(&mut batch, 3, Duration::ZERO);
+    expect_equal(&rt, refused, Err(RecvTimeoutError::Memory));
 }

@@ -39,9 +39,12 @@ impl Round {
 
 const SITUATIONS: [Situation; 3] = [Situation::Waiting, Situation::Woken, Situation::Ended];
 
-// One, more than there is room for, and none: the last with the least priority.
+// One, more than there is room for, and none: the last with the least priority. With the second the
+// message of greatest priority is chosen.
 fn inputs() -> [Input; 3] {
-    [input(10, 1, 1), input(10, 5, 5), input(0, 0, 0)]
+    let mut many = input(10, 5, 5);
+    many.chosen = 3;
+    [input(10, 1, 1), many, input(0, 0, 0)]
 }
 
 fn count_woken(tasks: &[MockTask]) -> usize {

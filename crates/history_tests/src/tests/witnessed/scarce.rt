@@ -15,7 +15,7 @@ use std::alloc::{AllocGlobal, Allocator, Global};
 use std::marker::Brand;
 use std::process::Abort;
 use std::thread;
-use std::time::Duration;
+use std::time::{Duration, Instant};
 
 type Alloc<'a> = &'a Refusing<Global>;
 
@@ -126,7 +126,8 @@ fn futures_answer(rt: HostRuntime) {
     play(&rt, Scene::FuturesAnswer);
 }
 
-// A try needs no memory: the request that is to be refused never comes.
+// A try needs no memory: the request that is to be refused never comes. A deadline is past as it is
+// read again.
 fn call_without_time<'a, J: Recording, R: Host>(
     rt: &R,
     alloc: Alloc<'a>,
@@ -135,11 +136,20 @@ fn call_without_time<'a, J: Recording, R: Host>(
 ) {
     let mut pass = passes.pop().expect(rt, "a pass");
     alloc.refuse_nth(1);
+    let now = Instant::now(rt).expect(rt, "a clock");
     let late = channel.recv_timeout(rt, &mut pass, Duration::ZERO);
+    expect_equal(rt, late, Err(RecvTimeoutError::Timeout));
+    let late = channel.recv_deadline(rt, &mut pass, now);
     expect_equal(rt, late, Err(RecvTimeoutError::Timeout));
     let sent = channel.send_timeout(rt, &mut pass, text(rt, "one"), 1, Duration::ZERO);
     expect_equal(rt, sent, Ok(()));
     let late = channel.send_timeout(rt, &mut pass, text(rt, "two"), 2, Duration::ZERO);
+    expect_equal(
+        rt,
+        late,
+        Err(SendTimeoutError::Timeout((text(rt, "two"), 2))),
+    );
+    let late = channel.send_deadline(rt, &mut pass, text(rt, "two"), 2, now);
     expect_equal(
         rt,
         late,
