@@ -1,19 +1,16 @@
 //! An event loop: one task that answers lines of standard input, does the work that other threads
 //! post when there is no line to answer, and notes the ticks of a timer. It ends once nobody is
 //! left who could post.
-//!
-//! With the argument `receives` the loop is that of `by_receives`, else that of `by_streams`.
 #![tactic(auto)]
 
 mod board;
-mod by_receives;
-mod by_streams;
 mod event;
+mod event_loop;
 mod sources;
 
 use async_priority_channel::{bounded, unbounded};
 use board::Board;
-use std::{env, thread};
+use std::thread;
 
 const POSTERS: u64 = 4;
 
@@ -34,12 +31,7 @@ fn main(rt: HostRuntime) -> anyhow::Result<()> {
     // The last sender: once it and the posters have ended, so has the channel.
     threads.push(thread::spawn(&rt, move || sources::post_lines(&rt, &tx))?)?;
 
-    let form = env::args(&rt)?.nth(1);
-    let board = Board::new(rt.stdout());
-    let board = match form.as_deref() {
-        Some("receives") => by_receives::run(&rt, &events, &ticks, board)?,
-        _ => by_streams::run(&rt, &events, &ticks, board)?,
-    };
+    let board = event_loop::run(&rt, &events, &ticks, Board::new(rt.stdout()))?;
     for thread in threads {
         thread.join(&rt)?;
     }
