@@ -8,6 +8,7 @@ use std::random::RandomSource;
 use std::sync::Wait;
 use std::time::Clock;
 
+mod dice;
 mod driver;
 mod tables;
 mod threads;
@@ -49,8 +50,8 @@ fn new_task<R: Host>(rt: &R) -> MockTask {
     MockTask::new(rt).expect(rt, "a task")
 }
 
-/// A waker wakes its task also as it is dropped. A poll of nothing lets the task rest again, so that
-/// what wakes it afterwards shows.
+/// A waker wakes its task also as it is dropped. A poll of nothing lets the task rest again, so
+/// that what wakes it afterwards shows.
 fn rest(task: &MockTask) {
     task.enter(|_| {});
 }

@@ -11,6 +11,7 @@ mod places;
 mod queue;
 mod refusals;
 mod relays;
+mod soak;
 mod steps;
 mod tasks;
 mod waits;

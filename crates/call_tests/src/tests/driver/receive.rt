@@ -13,9 +13,9 @@ use futures::future::poll_immediate;
 use std::alloc::Allocator;
 
 /// Makes a call of a receiver. A batch gets its memory from the allocator that is given.
-pub fn receive<R: Host, A: Allocator + Copy>(
+pub fn receive<R: Host, A: Allocator + Copy, B: Allocator + Copy>(
     rt: &R,
-    alloc: A,
+    alloc: B,
     rx: &Receiver<u64, u64, R, A>,
     call: Call,
     input: Input,
@@ -39,9 +39,9 @@ pub fn receive<R: Host, A: Allocator + Copy>(
     }
 }
 
-fn drop_unpolled<R: Host, A: Allocator + Copy>(
+fn drop_unpolled<R: Host, A: Allocator + Copy, B: Allocator>(
     rx: &Receiver<u64, u64, R, A>,
-    batch: &mut Vec<Pair, A>,
+    batch: &mut Vec<Pair, B>,
 ) {
     drop(rx.recv());
     drop(rx.stream());
@@ -83,9 +83,9 @@ fn receive_one<R: Host, A: Allocator + Copy>(
     }
 }
 
-fn receive_many<R: Host, A: Allocator + Copy>(
+fn receive_many<R: Host, A: Allocator + Copy, B: Allocator + Copy>(
     rt: &R,
-    alloc: A,
+    alloc: B,
     rx: &Receiver<u64, u64, R, A>,
     way: Way,
     input: Input,

@@ -1,5 +1,6 @@
 //! Random calls of all kinds: each answers as the plain model does, and so do all looks after it.
 use super::Mirrored;
+use crate::tests::dice::Dice;
 use crate::tests::driver::all::ALL;
 use crate::tests::driver::calls::{Call, Input, Pairs, Side};
 use crate::tests::{Host, expect_true};
@@ -21,25 +22,17 @@ const ENDS: u64 = 6;
 
 /// Draws calls, and what they are given.
 #[derive(Drop)]
-struct Dice {
-    drawn: u64,
+struct Draws {
+    dice: Dice,
     messages: u64,
     spread: u64,
 }
 
-impl Dice {
-    fn below(&mut self, end: u64) -> u64 {
-        self.drawn = self
-            .drawn
-            .wrapping_mul(6364136223846793005)
-            .wrapping_add(1442695040888963407);
-        (self.drawn >> 33).checked_rem(end).unwrap_or(0)
-    }
-
+impl Draws {
     // Sends stand first in the list of all calls, and what may close the channel last.
     fn call(&mut self, round: u64) -> Call {
         let kinds = ALL.len() as u64;
-        let do_sends_prevail = self.below(3) > 0 && round / STRETCH % 3 < 2;
+        let do_sends_prevail = self.dice.below(3) > 0 && round / STRETCH % 3 < 2;
         let end = if do_sends_prevail {
             // A send that makes room counts three times.
             SENDS + 2
@@ -48,7 +41,7 @@ impl Dice {
         } else {
             kinds
         };
-        let number = self.below(end);
+        let number = self.dice.below(end);
         if do_sends_prevail && number >= SENDS {
             return Call::SendEvicting;
         }
@@ -59,30 +52,30 @@ impl Dice {
     fn input(&mut self) -> Input {
         let pairs = Pairs {
             first: self.messages,
-            count: self.below(40),
-            spread: self.below(self.spread).wrapping_add(1),
+            count: self.dice.below(40),
+            spread: self.dice.below(self.spread).wrapping_add(1),
         };
         self.messages = self.messages.wrapping_add(40);
         Input {
             pairs,
-            most: self.below(20) as usize,
+            most: self.dice.below(20) as usize,
             // One that does not wait may have all the time.
-            limit: Duration::from_secs(if self.below(2) == 0 { 0 } else { 60 }),
-            chosen: self.messages.saturating_sub(self.below(400)),
+            limit: Duration::from_secs(if self.dice.below(2) == 0 { 0 } else { 60 }),
+            chosen: self.messages.saturating_sub(self.dice.below(400)),
         }
     }
 }
 
 fn mirror<R: Host>(rt: &R, ends: Ends<u64, u64, R>, capacity: u64, spread: u64) {
     let mut mirrored = Mirrored::new(rt, rt.alloc(), ends, capacity, (1, 1));
-    let mut dice = Dice {
-        drawn: capacity,
+    let mut draws = Draws {
+        dice: Dice::new(capacity),
         messages: 0,
         spread,
     };
     for round in 0..CALLS {
-        let call = dice.call(round);
-        let input = dice.input();
+        let call = draws.call(round);
+        let input = draws.input();
         if !mirrored.model.waits(call, input) {
             mirrored.agree(rt, round, call, input);
             mirrored.agree(rt, (round, call), Call::Look(Side::Sender), input);

@@ -1,18 +1,12 @@
 //! Many threads that pass messages on: nothing is lost or made up, and all of it ends.
 use super::Threaded;
-use super::either::{call_of, moves};
 use super::watch::{MUCH_PATIENCE, beside, within, within_millis};
-use crate::tests::driver::all::ALL;
-use crate::tests::driver::calls::{Call, Input, Pair, Pairs, Side, Way};
-use crate::tests::driver::receive::receive;
-use crate::tests::driver::send::send;
+use crate::tests::driver::calls::Way;
 use crate::tests::{expect_equal_at, expect_true};
 use async_priority_channel::{Ends, Receiver, RecvError, RecvFault, Sender, bounded, unbounded};
 use futures::executor::block_on;
-use std::alloc::Global;
 use std::sync::Wait;
 use std::thread::{self, JoinHandle};
-use std::time::Duration;
 
 // How many messages went a way, and their sum.
 type Total = (u64, u64);
@@ -30,67 +24,15 @@ fn sum_below(count: u64) -> Total {
     all
 }
 
-fn sum_of(pairs: &[Pair]) -> Total {
-    let mut all = (0, 0);
-    for (msg, _) in pairs {
-        all = sum(all, (1, *msg));
-    }
-    all
-}
-
-// By which calls threads send and receive.
-#[derive(Clone, Copy)]
-enum By {
-    Futures,
-    AllCalls,
-}
-
-// The calls in turn. A send that is dropped would take its message with it.
-fn turn_of(by: By, side: Side, turn: u64) -> Call {
-    let call = ALL[(turn % 65) as usize];
-    if matches!(by, By::AllCalls) && call.side() == side && call.way() != Way::Poll && moves(call) {
-        return call;
-    }
-    call_of(side, Way::Future)
-}
-
-fn input(number: u64) -> Input {
-    Input {
-        pairs: Pairs {
-            first: number,
-            count: 1,
-            spread: 8,
-        },
-        most: 2,
-        limit: Duration::from_millis(1),
-        chosen: number,
-    }
-}
-
-// Sends so many numbers, each once. Tells what came back, or was displaced by another one.
-fn deliver<R: Threaded>(rt: &R, tx: &Sender<u64, u64, R>, by: By, first: u64, count: u64) -> Total {
-    let mut back = (0, 0);
+// Sends so many numbers, each once. Tells whether it could.
+fn deliver<R: Threaded>(rt: &R, tx: &Sender<u64, u64, R>, first: u64, count: u64) -> bool {
+    let mut could = true;
     for i in 0..count {
         let number = first.wrapping_add(i);
-        let call = turn_of(by, Side::Sender, number);
-        let reply = send(rt, tx, call, input(number));
-        back = sum(back, sum_of(reply.pairs.as_slice()));
+        let sent = block_on(rt, tx.send(number, number % 8)).expect(rt, "an executor");
+        could = could && sent.is_ok();
     }
-    back
-}
-
-// Receives until the channel is closed and empty.
-fn collect<R: Threaded>(rt: &R, rx: &Receiver<u64, u64, R>, by: By) -> Total {
-    let mut came = (0, 0);
-    for turn in 0..u64::MAX {
-        let call = turn_of(by, Side::Receiver, turn);
-        let reply = receive(rt, rt.alloc(), rx, call, input(turn));
-        came = sum(came, sum_of(reply.pairs.as_slice()));
-        if rx.is_closed() && rx.is_empty() {
-            break;
-        }
-    }
-    came
+    could
 }
 
 // How many threads send, how many numbers each of them, and how many receive.
@@ -101,27 +43,24 @@ struct Load {
     receivers: u64,
 }
 
-// Sends 0, 1, 2 and so on. Tells what came back, and what came.
-fn relay<R: Threaded>(
-    rt: &R,
-    ends: Ends<u64, u64, R, Global>,
-    by: By,
-    load: Load,
-) -> (Total, Total) {
+// Sends 0, 1, 2 and so on. Tells whether all were sent, and what came.
+fn relay<R: Threaded>(rt: &R, ends: Ends<u64, u64, R>, load: Load) -> (bool, Total) {
     let host = *rt;
     let (tx, rx) = ends;
     let mut receiving = Vec::new(rt.alloc());
     for _ in 0..load.receivers {
         let rx = rx.clone().expect(rt, "a receiver");
-        let thread = thread::spawn(rt, move || collect(&host, &rx, by)).expect(rt, "a thread");
-        receiving.push(thread).expect(rt, "memory");
+        let thread = thread::spawn(rt, move || receive_all(&host, &rx, Way::Future));
+        receiving
+            .push(thread.expect(rt, "a thread"))
+            .expect(rt, "memory");
     }
     let mut sending = Vec::new(rt.alloc());
     let each = load.each;
     for i in 0..load.senders {
         let tx = tx.clone().expect(rt, "a sender");
         let first = i.wrapping_mul(each);
-        let thread = thread::spawn(rt, move || deliver(&host, &tx, by, first, each));
+        let thread = thread::spawn(rt, move || deliver(&host, &tx, first, each));
         sending
             .push(thread.expect(rt, "a thread"))
             .expect(rt, "memory");
@@ -131,11 +70,19 @@ fn relay<R: Threaded>(
         rt,
         MUCH_PATIENCE,
         ("a relay", load.senders, load.receivers),
-        || { (join_all(rt, sending), join_all(rt, receiving)) },
+        || { (join_sending(rt, sending), join_receiving(rt, receiving)) },
     )
 }
 
-fn join_all<R: Threaded>(rt: &R, threads: Vec<JoinHandle<Total>>) -> Total {
+fn join_sending<R: Threaded>(rt: &R, threads: Vec<JoinHandle<bool>>) -> bool {
+    let mut could = true;
+    for thread in threads {
+        could = thread.join(rt) && could;
+    }
+    could
+}
+
+fn join_receiving<R: Threaded>(rt: &R, threads: Vec<JoinHandle<Total>>) -> Total {
     let mut all = (0, 0);
     for thread in threads {
         all = sum(all, thread.join(rt));
@@ -171,33 +118,16 @@ fn tasks_on_many_threads_relay_all(rt: HostRuntime) {
                 unbounded(&rt, rt.alloc())
             };
             let ends = made.expect(&rt, "a channel");
-            let totals = relay(&rt, ends, By::Futures, load);
+            let totals = relay(&rt, ends, load);
             let all = sum_below(load.senders.wrapping_mul(load.each));
             expect_equal_at(
                 &rt,
                 (load.senders, load.receivers, is_bounded),
                 totals,
-                ((0, 0), all),
+                (true, all),
             );
         }
     }
-}
-
-#[test]
-fn by_all_calls_nothing_is_lost_or_made_up(rt: HostRuntime) {
-    let load = Load {
-        senders: 4,
-        each: 1000,
-        receivers: 4,
-    };
-    let ends = bounded(&rt, rt.alloc(), 8).expect(&rt, "a channel");
-    let (back, came) = relay(&rt, ends, By::AllCalls, load);
-    expect_equal_at(
-        &rt,
-        "all came or came back",
-        sum(back, came),
-        sum_below(4000),
-    );
 }
 
 // Sends so many by one call, on its thread or by a task.
@@ -280,7 +210,7 @@ fn what_was_pending_comes_beside_a_close(rt: HostRuntime) {
         &rt,
         "what was pending, beside a close",
         1000u64,
-        || collect(&rt, &rx, By::Futures),
+        || receive_all(&rt, &rx, Way::Future),
         || tx.close(),
     );
     expect_equal_at(&rt, "all come", got, (sum_below(1000), true));

@@ -1,5 +1,4 @@
 //! What is drawn, the same each time from one seed.
-
 use rand_core::{Rng, SeedableRng};
 use rand_xoshiro::Xoshiro256PlusPlus;
 
@@ -20,14 +19,9 @@ impl Dice {
         self.generator.next_u64().checked_rem(bound).unwrap_or(0)
     }
 
-    /// At least the first, and at most so much more.
-    pub fn from(&mut self, least: u64, more: u64) -> u64 {
-        least.saturating_add(self.below(more.saturating_add(1)))
-    }
-
-    /// True once in so many times.
-    pub fn one_in(&mut self, times: u64) -> bool {
-        self.below(times) == 0
+    /// At least the first, and below the second.
+    pub fn between(&mut self, least: u64, end: u64) -> u64 {
+        least.wrapping_add(self.below(end.saturating_sub(least)))
     }
 
     /// Others, for a thread of its own.

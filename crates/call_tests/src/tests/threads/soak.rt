@@ -1,0 +1,398 @@
+//! Rounds of threads that send and receive by drawn calls over a drawn channel. Each message comes
+//! once or comes back, those of one sender and one priority come in their order, and each round
+//! ends.
+//!
+//! The test runs a few rounds, and `tools/soak` runs it for minutes, from another seed.
+use super::Threaded;
+use super::either::moves;
+use super::watch::{MUCH_PATIENCE, within_millis};
+use crate::tests::dice::Dice;
+use crate::tests::driver::all::ALL;
+use crate::tests::driver::calls::{Call, Input, Pair, Pairs, Side, Way};
+use crate::tests::driver::receive::receive;
+use crate::tests::driver::reply::{Outcome, Reply};
+use crate::tests::driver::send::send;
+use crate::tests::{Host, expect_equal_at};
+use async_priority_channel::{
+    End, Ends, Receiver, Role, Sender, bounded, bounded_reserved, unbounded,
+};
+use refusing::Refusing;
+use std::alloc::{AllocError, AllocGlobal};
+use std::env;
+use std::thread::{self, JoinHandle};
+use std::time::{Duration, Instant};
+
+const PRIORITIES: u64 = 8;
+
+// How many messages a bulk send or a batch has at most.
+const MANY: u64 = 6;
+
+// How many requests for memory a batch makes before one is refused, if it makes so many.
+const REQUESTS: u64 = 6;
+
+const ROUNDS: u64 = 8;
+
+/// What a round is told by.
+#[derive(Clone, Copy, Debug)]
+struct Round {
+    seed: u64,
+    /// How many messages each sender has.
+    each: u64,
+    senders: u64,
+    receivers: u64,
+    /// Where the first sender closes the channel: how many messages it has settled then.
+    close_at: Option<u64>,
+    /// Whether priorities are changed, so that no order can be told.
+    changes: bool,
+}
+
+impl Round {
+    fn draw(dice: &mut Dice, seed: u64) -> Self {
+        Round {
+            seed,
+            each: dice.between(300, 1300),
+            senders: dice.between(1, 5),
+            receivers: dice.between(1, 5),
+            close_at: (dice.below(2) == 0).then_some(dice.below(300)),
+            changes: dice.below(4) == 0,
+        }
+    }
+
+    fn priority(self, msg: u64) -> u64 {
+        msg.checked_rem(PRIORITIES).unwrap_or(0)
+    }
+
+    fn sender(self, msg: u64) -> u64 {
+        msg.checked_div(self.each).unwrap_or(0)
+    }
+
+    fn count(self) -> u64 {
+        self.senders.saturating_mul(self.each)
+    }
+
+    // None where its sender has not come to it.
+    fn fate(self, logs: &[Log], msg: u64) -> Option<Fate> {
+        let log = logs.get(self.sender(msg) as usize)?;
+        let place = msg.checked_rem(self.each).unwrap_or(0);
+        log.fates.get(place as usize).copied()
+    }
+
+    // A call that is made by a handle of that side. A wait for the close has to end without it.
+    fn draws(self, side: Side, call: Call) -> bool {
+        let is_drawn = match call {
+            Call::Closed(_, way) => matches!(way, Way::Poll | Way::Timeout | Way::Deadline),
+            Call::ChangePriority(_) => self.changes,
+            Call::Close(_) | Call::CloseOnDrop(_) => false,
+            Call::Clone(_) | Call::Upgrade(_) | Call::Drop(_) => false,
+            _ => true,
+        };
+        is_drawn && call.side() == side
+    }
+
+    fn calls<R: Host>(self, rt: &R, side: Side) -> Vec<Call> {
+        let mut calls = Vec::new(rt.alloc());
+        for call in ALL {
+            if self.draws(side, call) {
+                calls.push(call).expect(rt, "memory for calls");
+            }
+        }
+        calls
+    }
+}
+
+fn draw_call(dice: &mut Dice, calls: &[Call]) -> Call {
+    let place = dice.below(calls.len() as u64) as usize;
+    calls.get(place).copied().unwrap_or(Call::RecvIf)
+}
+
+fn draw_input(dice: &mut Dice, first: u64, left: u64) -> Input {
+    Input {
+        pairs: Pairs {
+            first,
+            count: dice.between(1, MANY).min(left),
+            spread: PRIORITIES,
+        },
+        most: dice.between(1, MANY) as usize,
+        limit: Duration::from_micros(dice.below(500)),
+        chosen: first.saturating_sub(dice.below(MANY)),
+    }
+}
+
+// Now and then another handle for a call: a clone, or that of a weak one.
+fn draw_other<S: Role, R: Host>(
+    dice: &mut Dice,
+    end: &End<S, u64, u64, R>,
+) -> Option<End<S, u64, u64, R>> {
+    match dice.below(8) {
+        0 => end.clone().ok(),
+        1 => end.downgrade().ok()?.upgrade(),
+        _ => None,
+    }
+}
+
+/// What has become of a message by its send.
+#[derive(Clone, Copy, Debug, PartialEq)]
+enum Fate {
+    Sent,
+    /// A bulk send was dropped that may have sent it.
+    Unknown,
+    /// It came back, or was dropped with a future that had not sent it.
+    Unsent,
+}
+
+/// What a thread has done.
+#[derive(Drop)]
+struct Log {
+    /// Of the messages of a sender, in their order.
+    fates: Vec<Fate>,
+    /// What it received, in that order.
+    came: Vec<Pair>,
+    /// What it has taken out by a test, or displaced.
+    chosen: Vec<Pair>,
+}
+
+impl Log {
+    fn new<R: Host>(rt: &R) -> Self {
+        Log {
+            fates: Vec::new(rt.alloc()),
+            came: Vec::new(rt.alloc()),
+            chosen: Vec::new(rt.alloc()),
+        }
+    }
+
+    fn note<R: Host>(&mut self, rt: &R, call: Call, input: Input, reply: Reply) {
+        let noted = match call {
+            Call::Send(_) => self.note_sent(1, reply),
+            Call::Sendv(_) => self.note_sent(input.pairs.count, reply),
+            Call::SendEvicting if reply.outcome == Outcome::Done => self.note_displaced(reply),
+            Call::SendEvicting => self.note_sent(1, reply),
+            Call::TakeWhere(_) | Call::Retain(_) => self.chosen.extend(reply.pairs),
+            _ if moves(call) => self.came.extend(reply.pairs),
+            _ => Ok(()),
+        };
+        noted.expect(rt, "memory for a log");
+    }
+
+    fn note_displaced(&mut self, reply: Reply) -> Result<(), AllocError> {
+        self.fates.push(Fate::Sent)?;
+        self.chosen.extend(reply.pairs)
+    }
+
+    // Of so many messages. Those that came back are the last.
+    fn note_sent(&mut self, count: u64, reply: Reply) -> Result<(), AllocError> {
+        let (unsent, fate) = match reply.outcome {
+            Outcome::Waits if count > 1 => (count, Fate::Unknown),
+            Outcome::Waits => (count, Fate::Unsent),
+            _ => (reply.pairs.len() as u64, Fate::Unsent),
+        };
+        for at in 0..count {
+            let is_sent = at < count.saturating_sub(unsent);
+            self.fates.push(if is_sent { Fate::Sent } else { fate })?;
+        }
+        Ok(())
+    }
+}
+
+fn expect_bound<S: Role, R: Host>(rt: &R, round: Round, end: &End<S, u64, u64, R>) {
+    let len = end.len();
+    let is_kept = end.capacity().is_none_or(|capacity| len <= capacity);
+    expect_equal_at(rt, (round, "the bound", len), is_kept, true);
+}
+
+// Until all its messages are settled, or the channel is closed.
+fn send_all<R: Threaded>(
+    rt: &R,
+    tx: &Sender<u64, u64, R>,
+    round: Round,
+    number: u64,
+    mut dice: Dice,
+) -> Log {
+    let calls = round.calls(rt, Side::Sender);
+    let mut log = Log::new(rt);
+    for _ in 0..u64::MAX {
+        let settled = log.fates.len() as u64;
+        if number == 0 && round.close_at.is_some_and(|at| at <= settled) {
+            tx.close();
+        }
+        let left = round.each.saturating_sub(settled);
+        if left == 0 || tx.is_closed() {
+            break;
+        }
+        expect_bound(rt, round, tx);
+        let call = draw_call(&mut dice, &calls);
+        let first = number.wrapping_mul(round.each).wrapping_add(settled);
+        let input = draw_input(&mut dice, first, left);
+        let other = draw_other(&mut dice, tx);
+        let reply = send(rt, other.as_ref().unwrap_or(tx), call, input);
+        log.note(rt, call, input, reply);
+    }
+    log
+}
+
+// Until the channel is closed and empty. Memory for a batch may be refused.
+fn receive_all<R: Threaded>(
+    rt: &R,
+    rx: &Receiver<u64, u64, R>,
+    round: Round,
+    mut dice: Dice,
+) -> Log {
+    let alloc = Refusing::new(rt.alloc());
+    let calls = round.calls(rt, Side::Receiver);
+    let mut log = Log::new(rt);
+    for _ in 0..u64::MAX {
+        if rx.is_closed() && rx.is_empty() {
+            break;
+        }
+        expect_bound(rt, round, rx);
+        let call = draw_call(&mut dice, &calls);
+        let any = dice.below(round.count());
+        let input = draw_input(&mut dice, any, MANY);
+        alloc.refuse_nth(dice.below(REQUESTS));
+        let other = draw_other(&mut dice, rx);
+        let reply = receive(rt, &alloc, other.as_ref().unwrap_or(rx), call, input);
+        alloc.refuse_none();
+        log.note(rt, call, input, reply);
+    }
+    log
+}
+
+fn open<R: Threaded>(rt: &R, dice: &mut Dice) -> Ends<u64, u64, R> {
+    let capacity = dice.between(1, 13);
+    let opened = match dice.below(4) {
+        0 => unbounded(rt, rt.alloc()),
+        1 => bounded_reserved(rt, rt.alloc(), capacity),
+        _ => bounded(rt, rt.alloc(), capacity),
+    };
+    opened.expect(rt, "a channel")
+}
+
+// The threads of a round, those of the senders first.
+fn start<R: Threaded>(
+    rt: &R,
+    ends: (Sender<u64, u64, R>, &Receiver<u64, u64, R>),
+    round: Round,
+    dice: &mut Dice,
+) -> Vec<JoinHandle<Log>> {
+    let host = *rt;
+    let (tx, rx) = ends;
+    let mut threads = Vec::new(rt.alloc());
+    for number in 0..round.senders {
+        let tx = tx.clone().expect(rt, "a sender");
+        let dice = dice.split();
+        let thread = thread::spawn(rt, move || send_all(&host, &tx, round, number, dice));
+        threads
+            .push(thread.expect(rt, "a thread"))
+            .expect(rt, "memory");
+    }
+    for _ in 0..round.receivers {
+        let rx = rx.clone().expect(rt, "a receiver");
+        let dice = dice.split();
+        let thread = thread::spawn(rt, move || receive_all(&host, &rx, round, dice));
+        threads
+            .push(thread.expect(rt, "a thread"))
+            .expect(rt, "memory");
+    }
+    threads
+}
+
+fn join_all<R: Threaded>(rt: &R, threads: Vec<JoinHandle<Log>>) -> Vec<Log> {
+    let mut logs = Vec::new(rt.alloc());
+    for thread in threads {
+        logs.push(thread.join(rt)).expect(rt, "memory for logs");
+    }
+    logs
+}
+
+fn run_round<R: Threaded>(rt: &R, seed: u64) {
+    let mut dice = Dice::new(seed);
+    let round = Round::draw(&mut dice, seed);
+    let (tx, rx) = open(rt, &mut dice);
+    let threads = start(rt, (tx, &rx), round, &mut dice);
+    let logs = within_millis(rt, MUCH_PATIENCE, round, || join_all(rt, threads));
+    let left = (rx.len(), rx.sender_count(), rx.receiver_count());
+    expect_equal_at(rt, (round, "what is left"), left, (0, 0, 1));
+    settle(rt, round, &logs);
+}
+
+fn settle<R: Host>(rt: &R, round: Round, logs: &[Log]) {
+    let times = count_times(rt, round, logs);
+    for (msg, times) in times.iter().enumerate() {
+        let fate = round.fate(logs, msg as u64);
+        let is_right = match fate {
+            Some(Fate::Sent) => *times == 1,
+            Some(Fate::Unknown) => *times <= 1,
+            Some(Fate::Unsent) => *times == 0,
+            // The channel was closed before its turn.
+            None => *times == 0 && round.close_at.is_some(),
+        };
+        expect_equal_at(rt, (round, msg, fate, "it came", *times), is_right, true);
+    }
+    if !round.changes {
+        for log in logs {
+            expect_order(rt, round, &log.came);
+        }
+    }
+}
+
+// How often each message came, of those that were sent or could have been.
+fn count_times<R: Host>(rt: &R, round: Round, logs: &[Log]) -> Vec<u64> {
+    let mut times = Vec::new(rt.alloc());
+    for _ in 0..round.count() {
+        times.push(0u64).expect(rt, "memory for a count");
+    }
+    for log in logs {
+        for pair in log.came.iter().chain(log.chosen.iter()) {
+            let is_own = round.changes || pair.1 == round.priority(pair.0);
+            let count = times.get_mut(pair.0 as usize);
+            expect_equal_at(
+                rt,
+                (round, *pair, "it was sent"),
+                is_own && count.is_some(),
+                true,
+            );
+            if let Some(count) = count {
+                *count = count.saturating_add(1);
+            }
+        }
+    }
+    times
+}
+
+// Whatever other threads receive, those of one sender and one priority come as they were sent.
+fn expect_order<R: Host>(rt: &R, round: Round, came: &[Pair]) {
+    let mut latest = Vec::new(rt.alloc());
+    for _ in 0..round.senders.saturating_mul(PRIORITIES) {
+        latest.push(0u64).expect(rt, "memory for the latest");
+    }
+    for (msg, priority) in came {
+        let kind = round
+            .sender(*msg)
+            .saturating_mul(PRIORITIES)
+            .saturating_add(*priority);
+        if let Some(latest) = latest.get_mut(kind as usize) {
+            expect_equal_at(rt, (round, *msg, "behind", *latest), *latest <= *msg, true);
+            *latest = *msg;
+        }
+    }
+}
+
+// What the environment says, or else this.
+fn number_of<R: env::Env + AllocGlobal>(rt: &R, name: &str, default: u64) -> u64 {
+    match env::var(rt, name) {
+        Ok(text) => text.parse().unwrap_or(default),
+        Err(_) => default,
+    }
+}
+
+#[test]
+fn each_message_comes_once_and_in_its_order(rt: HostRuntime) {
+    let seed = number_of(&rt, "SOAK_SEED", 1);
+    let least = Duration::from_secs(number_of(&rt, "SOAK_SECONDS", 0));
+    let start = Instant::now(&rt).expect(&rt, "a clock");
+    for round in 0..u64::MAX {
+        if round >= ROUNDS && start.elapsed(&rt).expect(&rt, "a clock") >= least {
+            break;
+        }
+        run_round(&rt, seed.wrapping_add(round));
+    }
+}
