@@ -7,6 +7,7 @@ mod batches;
 mod bulk;
 mod closed;
 mod combined;
+mod contracts;
 mod drops;
 mod errors;
 mod evicting;
