@@ -16,6 +16,7 @@ mod runs;
 mod script;
 mod spins;
 mod states;
+mod uses;
 mod waits;
 mod word;
 

@@ -1,5 +1,5 @@
-//! What the errors of the core print, and which are equal. What they hold, tell and turn into, their
-//! clauses say.
+//! What the errors of the core print, and which are equal. What they hold, tell and turn into,
+//! their clauses say.
 use super::expect_equal;
 use priority_channel_core::errors::{
     RecvError, RecvFault, SendError, SendFault, TryRecvError, TryRecvManyError, TrySendError,

@@ -160,26 +160,26 @@ impl Log {
         }
     }
 
-    fn note<R: Host>(&mut self, rt: &R, call: Call, input: Input, reply: Reply) {
+    fn note<R: Host>(&mut self, rt: &R, call: Call, input: Input, reply: &Reply) {
         let noted = match call {
             Call::Send(_) => self.note_sent(1, reply),
             Call::Sendv(_) => self.note_sent(input.pairs.count, reply),
             Call::SendEvicting if reply.outcome == Outcome::Done => self.note_displaced(reply),
             Call::SendEvicting => self.note_sent(1, reply),
-            Call::TakeWhere(_) | Call::Retain(_) => self.chosen.extend(reply.pairs),
-            _ if moves(call) => self.came.extend(reply.pairs),
+            Call::TakeWhere(_) | Call::Retain(_) => self.chosen.extend(reply.pairs.iter().copied()),
+            _ if moves(call) => self.came.extend(reply.pairs.iter().copied()),
             _ => Ok(()),
         };
         noted.expect(rt, "memory for a log");
     }
 
-    fn note_displaced(&mut self, reply: Reply) -> Result<(), AllocError> {
+    fn note_displaced(&mut self, reply: &Reply) -> Result<(), AllocError> {
         self.fates.push(Fate::Sent)?;
-        self.chosen.extend(reply.pairs)
+        self.chosen.extend(reply.pairs.iter().copied())
     }
 
     // Of so many messages. Those that came back are the last.
-    fn note_sent(&mut self, count: u64, reply: Reply) -> Result<(), AllocError> {
+    fn note_sent(&mut self, count: u64, reply: &Reply) -> Result<(), AllocError> {
         let (unsent, fate) = match reply.outcome {
             Outcome::Waits if count > 1 => (count, Fate::Unknown),
             Outcome::Waits => (count, Fate::Unsent),
@@ -224,7 +224,7 @@ fn send_all<R: Threaded>(
         let input = draw_input(&mut dice, first, left);
         let other = draw_other(&mut dice, tx);
         let reply = send(rt, other.as_ref().unwrap_or(tx), call, input);
-        log.note(rt, call, input, reply);
+        log.note(rt, call, input, &reply);
     }
     log
 }
@@ -251,7 +251,7 @@ fn receive_all<R: Threaded>(
         let other = draw_other(&mut dice, rx);
         let reply = receive(rt, &alloc, other.as_ref().unwrap_or(rx), call, input);
         alloc.refuse_none();
-        log.note(rt, call, input, reply);
+        log.note(rt, call, input, &reply);
     }
     log
 }
