@@ -30,6 +30,9 @@ const MANY: u64 = 6;
 // How many requests for memory a batch makes before one is refused, if it makes so many.
 const REQUESTS: u64 = 6;
 
+// How many messages there is room for at most.
+const ROOM: u64 = 12;
+
 const ROUNDS: u64 = 8;
 
 /// What a round is told by.
@@ -257,10 +260,10 @@ fn receive_all<R: Threaded>(
 }
 
 fn open<R: Threaded>(rt: &R, dice: &mut Dice) -> Ends<u64, u64, R> {
-    let capacity = dice.between(1, 13);
+    let capacity = dice.below(ROOM).saturating_add(1);
     let opened = match dice.below(4) {
         0 => unbounded(rt, rt.alloc()),
-        1 => bounded_reserved(rt, rt.alloc(), capacity),
+        1 => bounded_reserved(rt, rt.alloc(), ROOM),
         _ => bounded(rt, rt.alloc(), capacity),
     };
     opened.expect(rt, "a channel")
