@@ -1,5 +1,5 @@
-//! The loop: a fold over two streams, which takes turns between them. It is one task, since to start
-//! a task takes longer than to receive.
+//! The loop: a fold over two streams, which takes turns between them. It is one task, since to
+//! start a task takes longer than to receive.
 use crate::board::Board;
 use crate::event::{Event, Rank, Signal};
 use async_priority_channel::Receiver;

@@ -1,8 +1,9 @@
 //! Calls of the core as words, made on the core, and their answers as text.
 //!
 //! A message is one character, and a pair is written with its priority behind it, as `x5`. An
-//! answer is as `{:?}` prints it, but that the error of a send shows what came back. Behind it stand
-//! the waiters that the call woke, by what they waited for, each with its ticket and its waker.
+//! answer is as `{:?}` prints it, but that the error of a send shows what came back. Behind it
+//! stand the waiters that the call woke, by what they waited for, each with its ticket and its
+//! waker.
 use priority_channel_core::awaitable_atomics::Wakes;
 use priority_channel_core::calls::CorePoll;
 use priority_channel_core::channel::PriorityQueueChannel;
