@@ -7,14 +7,6 @@ use std::sync::Wait;
 
 /// Closes the channel when it is dropped, so that no sender or receiver waits for one that has
 /// failed. `close_on_drop` of a sender or a receiver makes it.
-///
-/// ```
-/// fn first<R: Wait + Clone>(rx: &Receiver<u64, u64, R>) -> Result<u64, TryRecvError> {
-///     let _guard = rx.close_on_drop();
-///     let (number, _) = rx.try_recv()?;
-///     Ok(number)
-/// }
-/// ```
 #[must_use = "it closes the channel as soon as it is dropped"]
 pub struct CloseOnDrop<'a, T, P: Ord, R: Wait + Clone, A: Allocator + Copy = Global> {
     handle: &'a Handle<T, P, R, A>,

@@ -37,12 +37,6 @@ pub trait Role: Copy {
 /// `take_where`, `retain`, `change_priority`, `count_where` and `try_recv_if` are given, and the
 /// clone of a priority that `peek_priority` makes. If this code makes a call on the channel, or
 /// drops a handle of it, it waits for ever. It should be short, since all other calls wait for it.
-///
-/// ```
-/// fn is_idle<S: Role, R: Wait + Clone>(end: &End<S, u64, u64, R>) -> bool {
-///     end.is_empty() && !end.is_closed()
-/// }
-/// ```
 pub struct End<S: Role, T, P: Ord, R: Wait + Clone, A: Allocator + Copy = Global> {
     pub(crate) handle: Handle<T, P, R, A>,
     pub(crate) role: S,

@@ -74,15 +74,6 @@ fn pause<R: Wait>(rt: &R) {
 ///
 /// It never fails: if memory for waiting is refused, it sleeps for a millisecond and tries again.
 /// All its waits share one waiter.
-///
-/// ```
-/// let (tx, rx) = bounded(&rt, rt.alloc(), 1)?;
-/// let sending = thread::spawn(&rt, move || tx.send_blocking("Foo", 0))?;
-/// for (job, priority) in &rx {
-///     assert_eq!(rt; (job, priority), ("Foo", 0));
-/// }
-/// assert_eq!(rt; sending.join(&rt), Ok(()));
-/// ```
 #[must_use = "it receives nothing until it is asked for the next message"]
 pub struct Iter<'a, T, P: Ord, R: Wait + Clone, A: Allocator + Copy = Global> {
     receiver: &'a Receiver<T, P, R, A>,
@@ -112,17 +103,6 @@ impl<'a, T, P: Ord, R: Wait + Clone, A: Allocator + Copy> Iterator for Iter<'a, 
 impl<'a, T, P: Ord, R: Wait + Clone, A: Allocator + Copy> FusedIterator for Iter<'a, T, P, R, A> {}
 
 /// As `Iter`, with its own receiver, which is dropped with it. `for pair in rx` makes it.
-///
-/// ```
-/// let (tx, rx) = unbounded(&rt, rt.alloc())?;
-/// tx.try_send("Foo", 0)?;
-/// for (job, priority) in rx {
-///     assert_eq!(rt; (job, priority), ("Foo", 0));
-///     assert_eq!(rt; tx.receiver_count(), 1);
-///     tx.close();
-/// }
-/// assert_eq!(rt; tx.receiver_count(), 0);
-/// ```
 #[derive(Drop)]
 #[must_use = "it receives nothing until it is asked for the next message"]
 pub struct IntoIter<T, P: Ord, R: Wait + Clone, A: Allocator + Copy = Global> {
@@ -146,15 +126,6 @@ impl<T: Drop, P: Ord + Drop, R: Wait + Clone, A: Allocator + Copy> FusedIterator
 
 /// The messages that are pending, until there is none. `Receiver::try_iter` makes it. Once it has
 /// found none, it stays ended.
-///
-/// ```
-/// let (tx, rx) = unbounded(&rt, rt.alloc())?;
-/// let mut there = rx.try_iter();
-/// assert_eq!(rt; there.next(), None);
-/// tx.try_send("Foo", 0)?;
-/// assert_eq!(rt; there.next(), None);
-/// assert_eq!(rt; rx.try_iter().next(), Some(("Foo", 0)));
-/// ```
 #[must_use = "it receives nothing until it is asked for the next message"]
 pub struct TryIter<'a, T, P: Ord, R: Wait + Clone, A: Allocator + Copy = Global> {
     receiver: &'a Receiver<T, P, R, A>,

@@ -261,16 +261,6 @@ fn reserve<X, B: Allocator>(batch: &mut Vec<X, B>, limit: usize, pending: u64)
 /// Receives many messages once there is one. `Receiver::recv_many` makes it.
 ///
 /// If it is polled again after its answer, it does as a `Recv` (see `Waiting`).
-///
-/// ```
-/// let (tx, rx) = unbounded(&rt, rt.alloc())?;
-/// let mut batch = Vec::new(rt.alloc());
-/// let mut receiving = rx.recv_many(&mut batch, 64);
-/// assert_eq!(rt; block_on(&rt, poll_immediate(&mut receiving))?, None);
-/// let jobs = [("compile", 2), ("link", 1)];
-/// tx.try_sendv(jobs.into_iter().peekable())?;
-/// assert_eq!(rt; block_on(&rt, receiving)?, Ok(2));
-/// ```
 #[must_use = "a future does nothing until it is polled: `block_on`, or a call that ends in `_blocking`"]
 pub struct RecvMany<'a, T, P: Ord, B: Allocator, R: Wait + Clone, A: Allocator + Copy = Global> {
     receiver: &'a Receiver<T, P, R, A>,

@@ -80,15 +80,6 @@ impl<A: Allocator + Copy> Receives<A> {
 /// A pending message is received at once, in one step under the lock and without memory. A wait
 /// takes memory for the task's waker, which is kept over all waits, and for an entry in the waiting
 /// list. If either is refused, the task asks to be polled again at once.
-///
-/// ```
-/// let (tx, rx) = unbounded(&rt, rt.alloc())?;
-/// let mut stream = rx.stream();
-/// tx.try_send("Foo", 0)?;
-/// drop(tx);
-/// assert_eq!(rt; block_on(&rt, stream.next())?, Some(("Foo", 0)));
-/// assert_eq!(rt; block_on(&rt, stream.next())?, None);
-/// ```
 #[must_use = "a stream does nothing until it is polled: `block_on`, or `for pair in &rx`"]
 pub struct RecvStream<'a, T, P: Ord, R: Wait + Clone, A: Allocator + Copy = Global> {
     receiver: &'a Receiver<T, P, R, A>,
@@ -141,15 +132,6 @@ impl<T, P: Ord, R: Wait + Clone, A: Allocator + Copy> Drop for RecvStream<'_, T,
 
 /// As `RecvStream`, with its own receiver, which is dropped with it: a task can own it.
 /// `Receiver::into_stream` makes it.
-///
-/// ```
-/// let (tx, rx) = unbounded(&rt, rt.alloc())?;
-/// tx.try_send("Foo", 0)?;
-/// let mut stream = rx.into_stream();
-/// assert_eq!(rt; block_on(&rt, stream.next())?, Some(("Foo", 0)));
-/// drop(stream);
-/// assert!(rt; tx.is_closed());
-/// ```
 #[must_use = "a stream does nothing until it is polled: `block_on`, or `for pair in rx`"]
 pub struct IntoStream<T, P: Ord, R: Wait + Clone, A: Allocator + Copy = Global> {
     receiver: Receiver<T, P, R, A>,

@@ -23,24 +23,9 @@ pub struct Weak<S: Role, T, P: Ord, R: Wait + Clone, A: Allocator + Copy = Globa
 }
 
 /// A weak handle of a sender. `Sender::downgrade` makes it.
-///
-/// ```
-/// let weak = tx.downgrade()?;
-/// if let Some(sender) = weak.upgrade() {
-///     sender.try_send("still here", 0)?;
-/// }
-/// ```
 pub type WeakSender<T, P, R, A = Global> = Weak<Sending, T, P, R, A>;
 
 /// A weak handle of a receiver. `Receiver::downgrade` makes it.
-///
-/// ```
-/// let weak = rx.downgrade()?;
-/// tx.try_send("still here", 0)?;
-/// if let Some(receiver) = weak.upgrade() {
-///     assert_eq!(rt; receiver.try_recv(), Ok(("still here", 0)));
-/// }
-/// ```
 pub type WeakReceiver<T, P, R, A = Global> = Weak<Receiving, T, P, R, A>;
 
 impl<S: Role, T, P: Ord, R: Wait + Clone, A: Allocator + Copy> Model for Weak<S, T, P, R, A> {

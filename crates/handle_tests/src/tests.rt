@@ -11,6 +11,7 @@ mod contracts;
 mod drops;
 mod errors;
 mod evicting;
+mod examples;
 mod guards;
 mod long;
 mod looks;

@@ -50,12 +50,6 @@ impl<C: Drop> From<Ended<C, Infallible>> for RecvFault {
 }
 
 /// Why a send that waits for a limited time has not sent. It holds what was not sent.
-///
-/// ```
-/// let late = SendTimeoutError::Timeout(("late", 3));
-/// assert!(rt; late.is_timeout() && !late.is_closed());
-/// let (message, priority) = late.into_inner();
-/// ```
 #[derive(Clone, Copy, Drop, PartialEq, Eq)]
 pub enum SendTimeoutError<T> {
     /// There was no room in time.
@@ -186,14 +180,6 @@ impl<T> fmt::Debug for SendTimeoutError<T> {
 impl<T: Drop> Error for SendTimeoutError<T> {}
 
 /// Why a receive that waits for a limited time has no message.
-///
-/// ```
-/// let (tx, rx) = bounded::<&str, u64, _, _>(&rt, rt.alloc(), 1)?;
-/// let limit = Duration::from_millis(5);
-/// assert_eq!(rt; rx.recv_timeout(limit), Err(RecvTimeoutError::Timeout));
-/// drop(tx);
-/// assert_eq!(rt; rx.recv_timeout(limit), Err(RecvTimeoutError::Closed));
-/// ```
 #[derive(Clone, Copy, Debug, Drop, PartialEq, Eq)]
 pub enum RecvTimeoutError {
     /// No message came in time.

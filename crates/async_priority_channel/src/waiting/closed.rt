@@ -15,14 +15,6 @@ use std::sync::Wait;
 ///
 /// The error is that memory for waiting was refused. If it is polled again after its answer, it
 /// does as a `Recv` (see `Waiting`).
-///
-/// ```
-/// let (tx, rx) = unbounded::<&str, u64, _, _>(&rt, rt.alloc())?;
-/// let mut closed = tx.closed();
-/// assert_eq!(rt; block_on(&rt, poll_immediate(&mut closed))?, None);
-/// drop(rx);
-/// assert_eq!(rt; block_on(&rt, closed)?, Ok(()));
-/// ```
 #[must_use = "a future does nothing until it is polled: `block_on`, or `closed_blocking`"]
 pub struct Closed<'a, S: Role, T, P: Ord, R: Wait + Clone, A: Allocator + Copy = Global> {
     end: &'a End<S, T, P, R, A>,

@@ -17,14 +17,6 @@ use std::sync::Wait;
 /// Receives one message once there is one. `Receiver::recv` makes it.
 ///
 /// The error is `Closed` if no message can come any more, or `Memory` if memory was refused.
-///
-/// ```
-/// let (tx, rx) = bounded(&rt, rt.alloc(), 1)?;
-/// let mut receiving = rx.recv();
-/// assert_eq!(rt; block_on(&rt, poll_immediate(&mut receiving))?, None);
-/// tx.try_send("Foo", 0)?;
-/// assert_eq!(rt; block_on(&rt, receiving)?, Ok(("Foo", 0)));
-/// ```
 pub type Recv<'a, T, P, R, A = Global> = Waiting<'a, Receiving, (), One, T, P, R, A>;
 
 impl<T: Drop, P: Ord + Drop, R: Wait + Clone, A: Allocator + Copy> Future for Recv<'_, T, P, R, A> {

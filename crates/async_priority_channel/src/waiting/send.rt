@@ -18,15 +18,6 @@ use std::sync::Wait;
 /// Sends one message once there is room. `Sender::send` makes it.
 ///
 /// The error is `Closed`, or `Memory` if memory was refused, and gives the message back.
-///
-/// ```
-/// let (tx, rx) = bounded(&rt, rt.alloc(), 1)?;
-/// tx.try_send("Foo", 0)?;
-/// let mut sending = tx.send("Bar", 2);
-/// assert_eq!(rt; block_on(&rt, poll_immediate(&mut sending))?, None);
-/// assert_eq!(rt; rx.try_recv(), Ok(("Foo", 0)));
-/// assert_eq!(rt; block_on(&rt, sending)?, Ok(()));
-/// ```
 pub type Send<'a, T, P, R, A = Global> = Waiting<'a, Sending, (T, P), One, T, P, R, A>;
 
 impl<T: Drop, P: Ord + Drop, R: Wait + Clone, A: Allocator + Copy> Future for Send<'_, T, P, R, A> {

@@ -23,14 +23,6 @@ use std::sync::Wait;
 /// messages: a `Peekable`.
 ///
 /// The error is `Closed`, or `Memory` if memory was refused, and gives back what was not sent.
-///
-/// ```
-/// let (tx, rx) = bounded(&rt, rt.alloc(), 1)?;
-/// let sending = tx.sendv([("compile", 2), ("link", 1)].into_iter().peekable());
-/// assert!(rt; block_on(&rt, poll_immediate(sending))?.is_none());
-/// assert_eq!(rt; rx.try_recv(), Ok(("compile", 2)));
-/// assert!(rt; rx.is_empty());
-/// ```
 pub type Sendv<'a, T, P, M, R, A = Global> = Waiting<'a, Sending, M, Many, T, P, R, A>;
 
 impl<

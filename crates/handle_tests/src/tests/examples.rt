@@ -1,9 +1,12 @@
-//! What the examples name, and how their tests say what they expect.
+//! The examples of the library's documentation run, and are true.
+//!
+//! The gate runs no doc comment. `tools/examples --write` makes a test of each, and `tools/examples`
+//! compares the tests with the doc comments. This file has what the examples name.
+use super::{expect_equal, wait_for};
 use async_priority_channel::{
     End, Ends, Receiver, RecvError, RecvFault, RecvTimeoutError, Role, SendTimeoutError, Sender,
     TryRecvError, TrySendError, bounded, bounded_reserved, unbounded,
 };
-use futures::executor::block_on;
 use futures::future::{Either, Future, join, poll_immediate, select};
 use futures::stream::StreamExt;
 use std::alloc::{AllocError, AllocGlobal, Global};
@@ -15,24 +18,9 @@ use std::sync::Wait;
 use std::thread;
 use std::time::{Duration, Instant};
 
-mod examples;
-
-/// `assert_eq!`, proved once: each one in place takes seconds of the check.
-fn expect_equal<X: PartialEq + Debug + Drop>(rt: &impl Abort, got: X, wanted: X) {
-    assert_eq!(rt; got, wanted);
-}
+mod generated;
 
 /// `assert!`, proved once.
 fn expect_true(rt: &impl Abort, holds: bool) {
     assert!(rt; holds);
-}
-
-/// What the future answers.
-fn wait_for<R, F>(rt: &R, future: F) -> F::Output
-where
-    R: Wait + RandomSource + AllocGlobal + Abort,
-    F: Future,
-    requires { F.can_poll future }
-{
-    block_on(rt, future).expect(rt, "an executor")
 }

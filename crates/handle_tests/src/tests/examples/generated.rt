@@ -150,20 +150,6 @@ fn example_of_unbounded(rt: HostRuntime) {
     expect_equal(&rt, wait_for(&rt, rx.recv()), Ok(("Bar", 2)));
 }
 
-fn first<R: Wait + Clone>(rx: &Receiver<u64, u64, R>) -> Result<u64, TryRecvError> {
-    let _guard = rx.close_on_drop();
-    let (number, _) = rx.try_recv()?;
-    Ok(number)
-}
-
-#[test]
-fn example_of_close_on_drop(rt: HostRuntime) {
-    let (tx, rx) = bounded(&rt, rt.alloc(), 1).expect(&rt, "bounded");
-    tx.try_send(3, 0).expect(&rt, "try_send");
-    expect_equal(&rt, first(&rx), Ok(3));
-    expect_true(&rt, tx.is_closed());
-}
-
 #[test]
 fn example_of_end_close_on_drop(rt: HostRuntime) {
     let (tx, rx) = unbounded(&rt, rt.alloc()).expect(&rt, "unbounded");
@@ -231,16 +217,6 @@ fn example_of_end_closed_deadline(rt: HostRuntime) {
     expect_true(&rt, deadline <= Instant::now(&rt).expect(&rt, "now"));
     rx.close();
     expect_equal(&rt, tx.closed_deadline(deadline), Ok(true));
-}
-
-fn is_idle<S: Role, R: Wait + Clone>(end: &End<S, u64, u64, R>) -> bool {
-    end.is_empty() && !end.is_closed()
-}
-
-#[test]
-fn example_of_end(rt: HostRuntime) {
-    let (tx, rx) = unbounded(&rt, rt.alloc()).expect(&rt, "unbounded");
-    expect_true(&rt, is_idle(&tx) && is_idle(&rx));
 }
 
 #[test]
@@ -334,38 +310,6 @@ fn example_of_clone_for_end(rt: HostRuntime) {
     expect_true(&rt, !rx.is_closed());
     drop(tx);
     expect_true(&rt, rx.is_closed());
-}
-
-#[test]
-fn example_of_iter(rt: HostRuntime) {
-    let (tx, rx) = bounded(&rt, rt.alloc(), 1).expect(&rt, "bounded");
-    let sending = thread::spawn(&rt, move || tx.send_blocking("Foo", 0)).expect(&rt, "spawn");
-    for (job, priority) in &rx {
-        expect_equal(&rt, (job, priority), ("Foo", 0));
-    }
-    expect_equal(&rt, sending.join(&rt), Ok(()));
-}
-
-#[test]
-fn example_of_into_iter(rt: HostRuntime) {
-    let (tx, rx) = unbounded(&rt, rt.alloc()).expect(&rt, "unbounded");
-    tx.try_send("Foo", 0).expect(&rt, "try_send");
-    for (job, priority) in rx {
-        expect_equal(&rt, (job, priority), ("Foo", 0));
-        expect_equal(&rt, tx.receiver_count(), 1);
-        tx.close();
-    }
-    expect_equal(&rt, tx.receiver_count(), 0);
-}
-
-#[test]
-fn example_of_try_iter(rt: HostRuntime) {
-    let (tx, rx) = unbounded(&rt, rt.alloc()).expect(&rt, "unbounded");
-    let mut there = rx.try_iter();
-    expect_equal(&rt, there.next(), None);
-    tx.try_send("Foo", 0).expect(&rt, "try_send");
-    expect_equal(&rt, there.next(), None);
-    expect_equal(&rt, rx.try_iter().next(), Some(("Foo", 0)));
 }
 
 #[test]
@@ -628,18 +572,6 @@ fn example_of_receiver_recv_many(rt: HostRuntime) {
 }
 
 #[test]
-fn example_of_recv_many(rt: HostRuntime) {
-    let (tx, rx) = unbounded(&rt, rt.alloc()).expect(&rt, "unbounded");
-    let mut batch = Vec::new(rt.alloc());
-    let mut receiving = rx.recv_many(&mut batch, 64);
-    expect_equal(&rt, wait_for(&rt, poll_immediate(&mut receiving)), None);
-    let jobs = [("compile", 2), ("link", 1)];
-    tx.try_sendv(jobs.into_iter().peekable())
-        .expect(&rt, "try_sendv");
-    expect_equal(&rt, wait_for(&rt, receiving), Ok(2));
-}
-
-#[test]
 fn example_of_receiver_peek_with(rt: HostRuntime) {
     let (tx, rx) = unbounded(&rt, rt.alloc()).expect(&rt, "unbounded");
     tx.try_send("water the plants", Reverse(30))
@@ -766,26 +698,6 @@ fn example_of_sender_try_send_evicting(rt: HostRuntime) {
 }
 
 #[test]
-fn example_of_recv_stream(rt: HostRuntime) {
-    let (tx, rx) = unbounded(&rt, rt.alloc()).expect(&rt, "unbounded");
-    let mut stream = rx.stream();
-    tx.try_send("Foo", 0).expect(&rt, "try_send");
-    drop(tx);
-    expect_equal(&rt, wait_for(&rt, stream.next()), Some(("Foo", 0)));
-    expect_equal(&rt, wait_for(&rt, stream.next()), None);
-}
-
-#[test]
-fn example_of_into_stream(rt: HostRuntime) {
-    let (tx, rx) = unbounded(&rt, rt.alloc()).expect(&rt, "unbounded");
-    tx.try_send("Foo", 0).expect(&rt, "try_send");
-    let mut stream = rx.into_stream();
-    expect_equal(&rt, wait_for(&rt, stream.next()), Some(("Foo", 0)));
-    drop(stream);
-    expect_true(&rt, tx.is_closed());
-}
-
-#[test]
 fn example_of_receiver_stream(rt: HostRuntime) {
     let (tx, rx) = unbounded(&rt, rt.alloc()).expect(&rt, "unbounded");
     let jobs = [("compile", 2), ("link", 1), ("test", 3)];
@@ -870,63 +782,6 @@ fn example_of_receiver_try_recv_if(rt: HostRuntime) {
 }
 
 #[test]
-fn example_of_closed(rt: HostRuntime) {
-    let (tx, rx) = unbounded::<&str, u64, _, _>(&rt, rt.alloc()).expect(&rt, "unbounded");
-    let mut closed = tx.closed();
-    expect_equal(&rt, wait_for(&rt, poll_immediate(&mut closed)), None);
-    drop(rx);
-    expect_equal(&rt, wait_for(&rt, closed), Ok(()));
-}
-
-#[test]
-fn example_of_recv(rt: HostRuntime) {
-    let (tx, rx) = bounded(&rt, rt.alloc(), 1).expect(&rt, "bounded");
-    let mut receiving = rx.recv();
-    expect_equal(&rt, wait_for(&rt, poll_immediate(&mut receiving)), None);
-    tx.try_send("Foo", 0).expect(&rt, "try_send");
-    expect_equal(&rt, wait_for(&rt, receiving), Ok(("Foo", 0)));
-}
-
-#[test]
-fn example_of_send(rt: HostRuntime) {
-    let (tx, rx) = bounded(&rt, rt.alloc(), 1).expect(&rt, "bounded");
-    tx.try_send("Foo", 0).expect(&rt, "try_send");
-    let mut sending = tx.send("Bar", 2);
-    expect_equal(&rt, wait_for(&rt, poll_immediate(&mut sending)), None);
-    expect_equal(&rt, rx.try_recv(), Ok(("Foo", 0)));
-    expect_equal(&rt, wait_for(&rt, sending), Ok(()));
-}
-
-#[test]
-fn example_of_sendv(rt: HostRuntime) {
-    let (tx, rx) = bounded(&rt, rt.alloc(), 1).expect(&rt, "bounded");
-    let sending = tx.sendv([("compile", 2), ("link", 1)].into_iter().peekable());
-    expect_true(&rt, wait_for(&rt, poll_immediate(sending)).is_none());
-    expect_equal(&rt, rx.try_recv(), Ok(("compile", 2)));
-    expect_true(&rt, rx.is_empty());
-}
-
-#[test]
-fn example_of_weak_sender(rt: HostRuntime) {
-    let (tx, rx) = bounded(&rt, rt.alloc(), 1).expect(&rt, "bounded");
-    let weak = tx.downgrade().expect(&rt, "downgrade");
-    if let Some(sender) = weak.upgrade() {
-        sender.try_send("still here", 0).expect(&rt, "try_send");
-    }
-    expect_equal(&rt, rx.try_recv(), Ok(("still here", 0)));
-}
-
-#[test]
-fn example_of_weak_receiver(rt: HostRuntime) {
-    let (tx, rx) = bounded(&rt, rt.alloc(), 1).expect(&rt, "bounded");
-    let weak = rx.downgrade().expect(&rt, "downgrade");
-    tx.try_send("still here", 0).expect(&rt, "try_send");
-    if let Some(receiver) = weak.upgrade() {
-        expect_equal(&rt, receiver.try_recv(), Ok(("still here", 0)));
-    }
-}
-
-#[test]
 fn example_of_weak_upgrade(rt: HostRuntime) {
     let (tx, rx) = unbounded::<&str, u64, _, _>(&rt, rt.alloc()).expect(&rt, "unbounded");
     let weak = tx.downgrade().expect(&rt, "downgrade");
@@ -969,14 +824,6 @@ fn example_of_clone_for_weak(rt: HostRuntime) {
 }
 
 #[test]
-fn example_of_send_timeout_error(rt: HostRuntime) {
-    let late = SendTimeoutError::Timeout(("late", 3));
-    expect_true(&rt, late.is_timeout() && !late.is_closed());
-    let (message, priority) = late.into_inner();
-    expect_equal(&rt, (message, priority), ("late", 3));
-}
-
-#[test]
 fn example_of_send_timeout_error_into_inner(rt: HostRuntime) {
     let (tx, rx) = bounded(&rt, rt.alloc(), 1).expect(&rt, "bounded");
     drop(rx);
@@ -1005,15 +852,6 @@ fn example_of_send_timeout_error_is_closed(rt: HostRuntime) {
 fn example_of_send_timeout_error_is_memory(rt: HostRuntime) {
     let refused = SendTimeoutError::Memory(("Foo", 0));
     expect_true(&rt, refused.is_memory() && !refused.is_timeout());
-}
-
-#[test]
-fn example_of_recv_timeout_error(rt: HostRuntime) {
-    let (tx, rx) = bounded::<&str, u64, _, _>(&rt, rt.alloc(), 1).expect(&rt, "bounded");
-    let limit = Duration::from_millis(5);
-    expect_equal(&rt, rx.recv_timeout(limit), Err(RecvTimeoutError::Timeout));
-    drop(tx);
-    expect_equal(&rt, rx.recv_timeout(limit), Err(RecvTimeoutError::Closed));
 }
 
 #[test]
