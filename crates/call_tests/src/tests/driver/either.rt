@@ -4,6 +4,7 @@ use super::reply::{Looks, Outcome, Reply};
 use super::send::deadline_of;
 use crate::tests::Host;
 use async_priority_channel::{End, Role};
+use futures::Future;
 use futures::executor::block_on;
 use futures::future::poll_immediate;
 use std::alloc::{AllocError, Allocator};
@@ -31,6 +32,17 @@ pub fn make_by_either<S: Role, R: Host, A: Allocator + Copy>(
         _no_call => Outcome::Impossible,
     };
     Reply::new(rt, outcome)
+}
+
+/// What a future answers, or None where it is polled once and is pending.
+pub fn answer_of<R: Host, F: Future>(rt: &R, way: Way, future: F) -> Option<F::Output>
+    requires { F.can_poll future }
+{
+    let answer = match way {
+        Way::Poll => block_on(rt, poll_immediate(future)),
+        _to_its_end => block_on(rt, future).map(|answer| Some(answer)),
+    };
+    answer.expect(rt, "an executor")
 }
 
 fn look<S: Role, R: Wait + Clone + RandomSource, A: Allocator + Copy>(
@@ -90,14 +102,10 @@ fn wait_closed<S: Role, R: Host, A: Allocator + Copy>(
 ) -> Outcome {
     match way {
         Way::Try => Outcome::Impossible,
-        Way::Poll => {
-            let polled = block_on(rt, poll_immediate(end.closed())).expect(rt, "an executor");
-            polled.map_or(Outcome::Waits, |waited| tell(waited.map(|()| true)))
-        }
-        Way::Future => {
-            let waited = block_on(rt, end.closed()).expect(rt, "an executor");
-            tell(waited.map(|()| true))
-        }
+        Way::Poll | Way::Future => match answer_of(rt, way, end.closed()) {
+            Some(waited) => tell(waited.map(|()| true)),
+            None => Outcome::Waits,
+        },
         Way::Blocking => tell(end.closed_blocking().map(|()| true)),
         Way::Timeout => tell(end.closed_timeout(input.limit)),
         Way::Deadline => tell(end.closed_deadline(deadline_of(rt, input))),

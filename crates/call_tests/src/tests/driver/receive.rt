@@ -2,14 +2,12 @@
 ghost use Rattle.std.specs.Iterator.{IsFinite};
 
 use super::calls::{Call, Input, Pair, Side, Way};
-use super::either::make_by_either;
+use super::either::{answer_of, make_by_either};
 use super::reply::{Outcome, Refusal, Reply};
 use super::send::deadline_of;
 use crate::tests::Host;
 use async_priority_channel::Receiver;
 use futures::StreamExt;
-use futures::executor::block_on;
-use futures::future::poll_immediate;
 use std::alloc::Allocator;
 
 /// Makes a call of a receiver. A batch gets its memory from the allocator that is given.
@@ -66,14 +64,7 @@ fn receive_one<R: Host, A: Allocator + Copy>(
 ) -> Reply {
     match way {
         Way::Try => tell_one(rt, Some(rx.try_recv())),
-        Way::Poll => {
-            let polled = block_on(rt, poll_immediate(rx.recv()));
-            tell_one(rt, polled.expect(rt, "an executor"))
-        }
-        Way::Future => {
-            let received = block_on(rt, rx.recv());
-            tell_one(rt, Some(received.expect(rt, "an executor")))
-        }
+        Way::Poll | Way::Future => tell_one(rt, answer_of(rt, way, rx.recv())),
         Way::Blocking => tell_one(rt, Some(rx.recv_blocking())),
         Way::Timeout => tell_one(rt, Some(rx.recv_timeout(input.limit))),
         Way::Deadline => {
@@ -97,13 +88,9 @@ fn receive_many<R: Host, A: Allocator + Copy, B: Allocator + Copy>(
             let received = rx.try_recv_many(&mut batch, most);
             tell_many(rt, Some(received), &batch)
         }
-        Way::Poll => {
-            let polled = block_on(rt, poll_immediate(rx.recv_many(&mut batch, most)));
-            tell_many(rt, polled.expect(rt, "an executor"), &batch)
-        }
-        Way::Future => {
-            let received = block_on(rt, rx.recv_many(&mut batch, most));
-            tell_many(rt, Some(received.expect(rt, "an executor")), &batch)
+        Way::Poll | Way::Future => {
+            let received = answer_of(rt, way, rx.recv_many(&mut batch, most));
+            tell_many(rt, received, &batch)
         }
         Way::Blocking => {
             let received = rx.recv_many_blocking(&mut batch, most);
@@ -126,14 +113,10 @@ fn stream<R: Host, A: Allocator + Copy>(
     call: Call,
 ) -> Reply {
     let next = match call {
-        Call::Stream(Way::Poll) => block_on(rt, poll_immediate(rx.stream().next())),
-        Call::Stream(_) => block_on(rt, rx.stream().next()).map(|next| Some(next)),
-        Call::IntoStream(Way::Poll) => {
-            block_on(rt, poll_immediate(other(rt, rx).into_stream().next()))
-        }
-        _waiting => block_on(rt, other(rt, rx).into_stream().next()).map(|next| Some(next)),
+        Call::Stream(way) => answer_of(rt, way, rx.stream().next()),
+        _into_stream => answer_of(rt, call.way(), other(rt, rx).into_stream().next()),
     };
-    match next.expect(rt, "an executor") {
+    match next {
         None => Reply::new(rt, Outcome::Waits),
         Some(next) => Reply::found(rt, next, Outcome::Ended),
     }

@@ -1,11 +1,9 @@
 //! The calls of a sender.
 use super::calls::{Call, Input, Pair, Pairs, Side, Way};
-use super::either::make_by_either;
+use super::either::{answer_of, make_by_either};
 use super::reply::{Outcome, Refusal, Reply};
 use crate::tests::Host;
 use async_priority_channel::Sender;
-use futures::executor::block_on;
-use futures::future::poll_immediate;
 use std::alloc::Allocator;
 use std::iter::{Peekable, once};
 use std::time::Instant;
@@ -44,14 +42,7 @@ fn send_one<R: Host, A: Allocator + Copy>(
     let (msg, priority) = input.pair();
     match way {
         Way::Try => tell_one(rt, Some(tx.try_send(msg, priority))),
-        Way::Poll => {
-            let polled = block_on(rt, poll_immediate(tx.send(msg, priority)));
-            tell_one(rt, polled.expect(rt, "an executor"))
-        }
-        Way::Future => {
-            let sent = block_on(rt, tx.send(msg, priority));
-            tell_one(rt, Some(sent.expect(rt, "an executor")))
-        }
+        Way::Poll | Way::Future => tell_one(rt, answer_of(rt, way, tx.send(msg, priority))),
         Way::Blocking => tell_one(rt, Some(tx.send_blocking(msg, priority))),
         Way::Timeout => tell_one(rt, Some(tx.send_timeout(msg, priority, input.limit))),
         Way::Deadline => {
@@ -70,14 +61,7 @@ fn send_many<R: Host, A: Allocator + Copy>(
     let pairs = input.pairs.peekable();
     match way {
         Way::Try => tell_many(rt, Some(tx.try_sendv(pairs))),
-        Way::Poll => {
-            let polled = block_on(rt, poll_immediate(tx.sendv(pairs)));
-            tell_many(rt, polled.expect(rt, "an executor"))
-        }
-        Way::Future => {
-            let sent = block_on(rt, tx.sendv(pairs));
-            tell_many(rt, Some(sent.expect(rt, "an executor")))
-        }
+        Way::Poll | Way::Future => tell_many(rt, answer_of(rt, way, tx.sendv(pairs))),
         Way::Blocking => tell_many(rt, Some(tx.sendv_blocking(pairs))),
         Way::Timeout => tell_many(rt, Some(tx.sendv_timeout(pairs, input.limit))),
         Way::Deadline => {

@@ -62,7 +62,7 @@ impl Round {
     }
 
     fn priority(self, msg: u64) -> u64 {
-        msg.checked_rem(PRIORITIES).unwrap_or(0)
+        msg % PRIORITIES
     }
 
     fn sender(self, msg: u64) -> u64 {
@@ -164,6 +164,7 @@ impl Log {
     }
 
     fn note<R: Host>(&mut self, rt: &R, call: Call, input: Input, reply: &Reply) {
+        expect_equal_at(rt, call, reply.outcome == Outcome::Impossible, false);
         let noted = match call {
             Call::Send(_) => self.note_sent(1, reply),
             Call::Sendv(_) => self.note_sent(input.pairs.count, reply),
