@@ -6,7 +6,7 @@
 
 pub mod all;
 pub mod calls;
-mod either;
+pub mod either;
 pub mod handles;
 pub mod model;
 pub mod receive;

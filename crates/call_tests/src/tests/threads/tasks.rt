@@ -1,10 +1,12 @@
 //! Futures in a task with others, and in the task of another thread.
 use super::let_others_wait;
 use super::watch::beside;
+use crate::tests::driver::calls::Way;
+use crate::tests::driver::either::answer_of;
 use crate::tests::{expect_equal_at, expect_true};
 use async_priority_channel::bounded;
 use futures::executor::block_on;
-use futures::future::{join, poll_immediate};
+use futures::future::join;
 use futures::task::{Context, Poll};
 use futures::{Future, StreamExt};
 use std::sync::atomic::{AtomicU64, Ordering};
@@ -67,7 +69,7 @@ fn two_receives_in_one_task_rest_while_they_wait(rt: HostRuntime) {
 fn futures_go_on_in_the_task_of_another_thread(rt: HostRuntime) {
     let (tx, rx) = bounded(&rt, rt.alloc(), 1).expect(&rt, "a channel");
     let mut receiving = rx.recv();
-    let polled = block_on(&rt, poll_immediate(&mut receiving)).expect(&rt, "an executor");
+    let polled = answer_of(&rt, Way::Poll, &mut receiving);
     expect_true(&rt, polled.is_none(), "nothing was sent");
     let got = beside(
         &rt,
@@ -86,7 +88,7 @@ fn futures_go_on_in_the_task_of_another_thread(rt: HostRuntime) {
 fn a_stream_goes_on_in_the_task_of_another_thread(rt: HostRuntime) {
     let (tx, rx) = bounded(&rt, rt.alloc(), 1).expect(&rt, "a channel");
     let mut stream = rx.into_stream();
-    let polled = block_on(&rt, poll_immediate(stream.next())).expect(&rt, "an executor");
+    let polled = answer_of(&rt, Way::Poll, stream.next());
     expect_true(&rt, polled.is_none(), "nothing was sent");
     let got = beside(
         &rt,
