@@ -71,15 +71,26 @@ fn counting(count: &Cell<u64>, none_at: [u64; 2]) -> Peekable<Asked<'_>> {
     Asked { count, none_at }.peekable()
 }
 
-// What the next five questions give.
-fn next_five(mut rest: Peekable<Asked<'_>>) -> [Option<u64>; 5] {
-    [
-        rest.next().map(|pair| pair.0),
-        rest.next().map(|pair| pair.0),
-        rest.next().map(|pair| pair.0),
-        rest.next().map(|pair| pair.0),
-        rest.next().map(|pair| pair.0),
-    ]
+fn next_number(rest: &mut Peekable<Asked<'_>>) -> Option<u64> {
+    rest.next().map(|pair| pair.0)
+}
+
+// Of the next five questions.
+fn expect_next(rt: &impl Abort, mut rest: Peekable<Asked<'_>>, wanted: [Option<u64>; 5]) {
+    let got = [
+        next_number(&mut rest),
+        next_number(&mut rest),
+        next_number(&mut rest),
+        next_number(&mut rest),
+        next_number(&mut rest),
+    ];
+    expect_equal(rt, got, wanted);
+}
+
+// No question was asked before.
+fn expect_untouched(rt: &impl Abort, count: &Cell<u64>, rest: Peekable<Asked<'_>>) {
+    expect_equal(rt, count.get(), 0);
+    expect_next(rt, rest, [Some(1), Some(2), Some(3), Some(4), Some(5)]);
 }
 
 #[test]
@@ -91,11 +102,7 @@ fn a_bulk_send_asks_for_one_pair_more_than_it_takes(rt: HostRuntime) {
     };
     expect_equal(&rt, (count.get(), core.len()), (3, 2));
     // Behind its end too.
-    expect_equal(
-        &rt,
-        next_five(rest),
-        [Some(3), Some(4), Some(5), None, Some(7)],
-    );
+    expect_next(&rt, rest, [Some(3), Some(4), Some(5), None, Some(7)]);
 
     let mut core = Core::bounded(rt.alloc(), 2);
     expect_true(
@@ -124,32 +131,27 @@ fn a_bulk_send_asks_for_one_pair_more_than_it_takes(rt: HostRuntime) {
 #[test]
 fn a_bulk_send_does_not_touch_its_iterator_where_it_takes_nothing(rt: HostRuntime) {
     let count = Cell::new(0);
-    let first = [Some(1), Some(2), Some(3), Some(4), Some(5)];
     let mut core = Core::bounded(rt.alloc(), 1);
     expect_equal(&rt, unwoken(core.try_send(1, 1)), Ok(()));
 
     let Err(TrySendError::Full(rest)) = unwoken(core.try_sendv(counting(&count, [6, 6]))) else {
         panic!(rt; "it was not full");
     };
-    expect_equal(&rt, count.get(), 0);
-    expect_equal(&rt, next_five(rest), first);
+    expect_untouched(&rt, &count, rest);
     let polled = unwoken(core.poll_sendv(counting(&count, [6, 6]), None, &7));
     let CorePoll::Pending(rest, 0) = polled else {
         panic!(rt; "it does not wait");
     };
-    expect_equal(&rt, count.get(), 0);
-    expect_equal(&rt, next_five(rest), first);
+    expect_untouched(&rt, &count, rest);
 
     expect_true(&rt, unwoken(core.close()), "a close");
     let Err(TrySendError::Closed(rest)) = unwoken(core.try_sendv(counting(&count, [6, 6]))) else {
         panic!(rt; "it was not closed");
     };
-    expect_equal(&rt, count.get(), 0);
-    expect_equal(&rt, next_five(rest), first);
+    expect_untouched(&rt, &count, rest);
     let polled = unwoken(core.poll_sendv(counting(&count, [6, 6]), None, &7));
     let CorePoll::Ready(Err(SendFault::Closed(SendError(rest)))) = polled else {
         panic!(rt; "the poll was not closed");
     };
-    expect_equal(&rt, count.get(), 0);
-    expect_equal(&rt, next_five(rest), first);
+    expect_untouched(&rt, &count, rest);
 }

@@ -108,10 +108,8 @@ fn a_run_makes_each_call_in_order(rt: HostRuntime) {
     expect_true(&rt, core.is_closed() && core.is_empty(), "nothing changed");
 }
 
-// Each growth of the answers is refused in turn; the calls that are left are then run with memory.
-#[test]
-fn a_run_stops_before_the_call_whose_answer_has_no_place(rt: HostRuntime) {
-    let alloc = Refusing::new(rt.alloc());
+// The calls that are left are then run with memory.
+fn run_refused<R: Abort + AllocGlobal>(rt: &R, alloc: &Refusing<Global>, n: u64) {
     let wanted = [
         "Err(Full([('c', 5)]))",
         "true",
@@ -122,30 +120,36 @@ fn a_run_stops_before_the_call_whose_answer_has_no_place(rt: HostRuntime) {
         "Ok(('a', 4))",
         "Err(Closed)",
     ];
+    let made: Result<Core<&Refusing<_>>, _> = Core::bounded_reserved(alloc, 2);
+    let mut core = made.expect(rt, "a channel");
+    let calls: Result<Vec<Call<char, u64, u64, Pairs>, _>, _> = vec![in alloc;
+        Call::TrySendv(pairs(rt, &["a4", "b6", "c5"]).into_iter().peekable()),
+        Call::CloneSender,
+        Call::DropSender,
+        Call::DropSender,
+        Call::IsClosed,
+        Call::TryRecv,
+        Call::TryRecv,
+        Call::TryRecv,
+    ];
+    let calls = calls.expect(rt, "calls");
+    alloc.refuse_nth(n);
+    let Progress { done, left } = core.run(calls);
+    let met_none = alloc.refuse_none();
+    let made = done.len();
+    let told = (n, left.is_empty(), made.wrapping_add(left.len()));
+    expect_equal(rt, told, (n, met_none, 8));
+    expect_answers(rt, done, wanted.as_slice());
+    let Progress { done, left } = core.run(left);
+    expect_true(rt, left.is_empty(), "the others are made");
+    expect_answers(rt, done, wanted.get(made..).unwrap_or(&[]));
+}
+
+// Each growth of the answers is refused in turn.
+#[test]
+fn a_run_stops_before_the_call_whose_answer_has_no_place(rt: HostRuntime) {
+    let alloc = Refusing::new(rt.alloc());
     for round in alloc.rounds() {
-        let n = round.expect(&rt, "a request");
-        let made: Result<Core<&Refusing<_>>, _> = Core::bounded_reserved(&alloc, 2);
-        let mut core = made.expect(&rt, "a channel");
-        let calls: Result<Vec<Call<char, u64, u64, Pairs>, _>, _> = vec![in &alloc;
-            Call::TrySendv(pairs(&rt, &["a4", "b6", "c5"]).into_iter().peekable()),
-            Call::CloneSender,
-            Call::DropSender,
-            Call::DropSender,
-            Call::IsClosed,
-            Call::TryRecv,
-            Call::TryRecv,
-            Call::TryRecv,
-        ];
-        let calls = calls.expect(&rt, "calls");
-        alloc.refuse_nth(n);
-        let Progress { done, left } = core.run(calls);
-        let met_none = alloc.refuse_none();
-        let made = done.len();
-        let told = (n, left.is_empty(), made.wrapping_add(left.len()));
-        expect_equal(&rt, told, (n, met_none, 8));
-        expect_answers(&rt, done, wanted.as_slice());
-        let Progress { done, left } = core.run(left);
-        expect_true(&rt, left.is_empty(), "the others are made");
-        expect_answers(&rt, done, wanted.get(made..).unwrap_or(&[]));
+        run_refused(&rt, &alloc, round.expect(&rt, "a request"));
     }
 }
