@@ -28,7 +28,9 @@ mod weak;
 
 /// `assert_eq!`, proved once: each one in place takes seconds of the check.
 fn expect_equal<X: PartialEq + Debug + Drop>(rt: &impl Abort, got: X, wanted: X) {
-    assert_eq!(rt; got, wanted);
+    if got != wanted {
+        panic!(rt; "got {got:?}, wanted {wanted:?}");
+    }
 }
 
 /// The same in one round of a loop, which it names where the two differ.
@@ -38,7 +40,9 @@ fn expect_equal_at<N: Debug + Drop, X: PartialEq + Debug + Drop>(
     got: X,
     wanted: X,
 ) {
-    assert_eq!(rt; got, wanted, "at {round:?}");
+    if got != wanted {
+        panic!(rt; "at {round:?}: got {got:?}, wanted {wanted:?}");
+    }
 }
 
 fn is_pending<T: Drop>(polled: Poll<T>) -> bool {

@@ -4,7 +4,6 @@ ghost use Rattle.std.specs.Iterator.{IsFinite};
 use super::words::{Host, Text, joined, letter, number, pairs, told, told_sent, told_sent_all};
 use async_priority_channel::{End, Receiver, Role, Sender, Weak, WeakReceiver, WeakSender};
 use std::alloc::{AllocError, Allocator};
-use std::fmt::Write;
 use std::time::Duration;
 
 pub type Tx<R, A> = Sender<char, u64, R, A>;
@@ -19,30 +18,38 @@ pub enum Handle<R: Host, A: Allocator + Copy> {
     WeakReceiver(WeakReceiver<char, u64, R, A>),
 }
 
+fn word_if(is_true: bool, word: Text) -> Text {
+    if is_true { word } else { "" }
+}
+
 // As `2 of 2 full 1+1`: how many are pending, the capacity, which is true of empty, full and closed,
 // and how many senders and receivers there are.
 fn told_looks<S: Role, R: Host, A: Allocator + Copy>(
     rt: &R,
     end: &End<S, char, u64, R, A>,
 ) -> String {
-    let mut text = String::new(rt.alloc());
-    let looks = match end.capacity() {
-        Some(most) => write!(text, "{} of {most} ", end.len()),
-        None => write!(text, "{} of any ", end.len()),
+    let pending = told(rt, end.len());
+    let capacity = match end.capacity() {
+        Some(most) => told(rt, most),
+        None => joined(rt, &["any"]),
     };
-    looks.expect(rt, "memory");
-    for (is_true, word) in [
-        (end.is_empty(), "empty "),
-        (end.is_full(), "full "),
-        (end.is_closed(), "closed "),
-    ] {
-        if is_true {
-            text.push_str(word).expect(rt, "memory");
-        }
-    }
-    let counts = (end.sender_count(), end.receiver_count());
-    write!(text, "{}+{}", counts.0, counts.1).expect(rt, "memory");
-    text
+    let senders = told(rt, end.sender_count());
+    let receivers = told(rt, end.receiver_count());
+    joined(
+        rt,
+        &[
+            pending.as_str(),
+            " of ",
+            capacity.as_str(),
+            word_if(end.is_empty(), " empty"),
+            word_if(end.is_full(), " full"),
+            word_if(end.is_closed(), " closed"),
+            " ",
+            senders.as_str(),
+            "+",
+            receivers.as_str(),
+        ],
+    )
 }
 
 // A weak handle tells no more than whether its channel is closed, and can be upgraded where it is
@@ -73,9 +80,7 @@ pub fn look<R: Host, A: Allocator + Copy>(rt: &R, handle: &Handle<R, A>, wanted:
 fn fill<R: Host, A: Allocator + Copy>(tx: &Tx<R, A>, msg: char, count: u64) -> u64 {
     let mut sent = 0u64;
     for priority in 0..count {
-        if tx.try_send(msg, priority).is_ok() {
-            sent = sent.wrapping_add(1);
-        }
+        sent = sent.wrapping_add(tx.try_send(msg, priority).is_ok() as u64);
     }
     sent
 }
@@ -199,40 +204,56 @@ fn told_taken<R: Host, A: Allocator>(
     rt: &R,
     taken: Result<Vec<(char, u64), A>, AllocError>,
 ) -> String {
-    let mut taken = match taken {
-        Ok(taken) => taken,
-        Err(error) => return told(rt, error),
-    };
-    taken.sort().expect(rt, "memory");
-    told(rt, taken)
+    match taken {
+        Ok(taken) => told_sorted(rt, taken),
+        Err(error) => told(rt, error),
+    }
+}
+
+fn told_sorted<R: Host, A: Allocator>(rt: &R, messages: Vec<(char, u64), A>) -> String {
+    let mut messages = messages;
+    messages.sort().expect(rt, "memory");
+    told(rt, messages)
+}
+
+fn clone<R: Host, A: Allocator + Copy>(handle: &Handle<R, A>) -> Result<Handle<R, A>, AllocError> {
+    match handle {
+        Handle::Sender(tx) => Ok(Handle::Sender(tx.clone()?)),
+        Handle::Receiver(rx) => Ok(Handle::Receiver(rx.clone()?)),
+        Handle::WeakSender(weak) => Ok(Handle::WeakSender(weak.clone()?)),
+        Handle::WeakReceiver(weak) => Ok(Handle::WeakReceiver(weak.clone()?)),
+    }
+}
+
+fn downgrade<R: Host, A: Allocator + Copy>(
+    rt: &R,
+    handle: &Handle<R, A>,
+) -> Result<Handle<R, A>, AllocError> {
+    match handle {
+        Handle::Sender(tx) => Ok(Handle::WeakSender(tx.downgrade()?)),
+        Handle::Receiver(rx) => Ok(Handle::WeakReceiver(rx.downgrade()?)),
+        _ => panic!(rt; "a weak handle cannot downgrade"),
+    }
+}
+
+fn upgrade<R: Host, A: Allocator + Copy>(rt: &R, handle: &Handle<R, A>) -> Option<Handle<R, A>> {
+    match handle {
+        Handle::WeakSender(weak) => Some(Handle::Sender(weak.upgrade()?)),
+        Handle::WeakReceiver(weak) => Some(Handle::Receiver(weak.upgrade()?)),
+        _ => panic!(rt; "only a weak handle can upgrade"),
+    }
 }
 
 /// The handle that the call makes, or why it makes none.
 pub fn make<R: Host, A: Allocator + Copy>(
     rt: &R,
     handle: &Handle<R, A>,
-    call: &[Text],
+    call: Text,
 ) -> Option<Result<Handle<R, A>, AllocError>> {
-    match (handle, call) {
-        (Handle::Sender(tx), ["clone"]) => Some(tx.clone().map(|tx| Handle::Sender(tx))),
-        (Handle::Sender(tx), ["downgrade"]) => Some(
-            tx.downgrade().map(|weak| Handle::WeakSender(weak)),
-        ),
-        (Handle::Receiver(rx), ["clone"]) => Some(rx.clone().map(|rx| Handle::Receiver(rx))),
-        (Handle::Receiver(rx), ["downgrade"]) => Some(
-            rx.downgrade().map(|weak| Handle::WeakReceiver(weak)),
-        ),
-        (Handle::WeakSender(weak), ["upgrade"]) => weak.upgrade().map(|tx| Ok(Handle::Sender(tx))),
-        (Handle::WeakSender(weak), ["clone"]) => Some(
-            weak.clone().map(|weak| Handle::WeakSender(weak)),
-        ),
-        (Handle::WeakReceiver(weak), ["upgrade"]) => {
-            weak.upgrade().map(|rx| Ok(Handle::Receiver(rx)))
-        }
-        (Handle::WeakReceiver(weak), ["clone"]) => Some(
-            weak.clone().map(|weak| Handle::WeakReceiver(weak)),
-        ),
-        _ => panic!(rt; "it cannot {call:?}"),
+    match call {
+        "clone" => Some(clone(handle)),
+        "downgrade" => Some(downgrade(rt, handle)),
+        _upgrade => Some(Ok(upgrade(rt, handle)?)),
     }
 }
 

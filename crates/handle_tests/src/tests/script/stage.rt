@@ -41,6 +41,11 @@ pub fn put<V: Drop>(rt: &impl Host, named: &mut BTreeMap<Text, V>, name: Text, v
     }
 }
 
+// Whether one has this name.
+fn drop_one<V: Drop>(named: &mut BTreeMap<Text, V>, name: Text) -> bool {
+    named.remove(name).is_some()
+}
+
 impl<'a, R: Host, A: Allocator + Copy> Stage<'a, R, A> {
     pub fn new(
         rt: &R,
@@ -81,8 +86,8 @@ impl<'a, R: Host, A: Allocator + Copy> Stage<'a, R, A> {
 
     pub fn make(&mut self, rt: &R, name: Text, by: Text, call: &[Text]) -> String {
         match call {
-            ["clone" | "downgrade" | "upgrade"] => {
-                match make(rt, find(rt, self.lent, &self.handles, by), call) {
+            [call @ ("clone" | "downgrade" | "upgrade")] => {
+                match make(rt, find(rt, self.lent, &self.handles, by), *call) {
                     Some(Ok(handle)) => {
                         put(rt, &mut self.handles, name, handle);
                     }
@@ -104,8 +109,7 @@ impl<'a, R: Host, A: Allocator + Copy> Stage<'a, R, A> {
     }
 
     fn keep(&mut self, rt: &R, name: Text, lasting: Lasting<'a, R, A>) {
-        let before = self.lasting.insert(name, lasting);
-        if before.is_err() {
+        if self.lasting.insert(name, lasting).is_err() {
             panic!(rt; "memory for {name}");
         }
     }
@@ -141,9 +145,9 @@ impl<'a, R: Host, A: Allocator + Copy> Stage<'a, R, A> {
     }
 
     pub fn drop_named(&mut self, rt: &R, name: Text) {
-        let handle = self.handles.remove(name);
-        let lasting = self.lasting.remove(name);
-        if handle.is_none() && lasting.is_none() {
+        let is_lasting = self.lasting.remove(name).is_some();
+        let is_handle = drop_one(&mut self.handles, name);
+        if !is_lasting && !is_handle {
             panic!(rt; "nothing has the name {name}");
         }
     }
