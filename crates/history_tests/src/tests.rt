@@ -1,4 +1,7 @@
 //! Recorded and witnessed channels.
+use futures::executor::block_on;
+use futures::future::Future;
+use scenes::Host;
 use std::fmt::Debug;
 use std::process::Abort;
 
@@ -13,4 +16,11 @@ mod witnessed;
 /// the round.
 fn expect_equal<X: PartialEq + Debug + Drop>(rt: &impl Abort, got: X, wanted: X) {
     assert_eq!(rt; got, wanted);
+}
+
+/// What the future answers.
+fn wait_for<F: Future>(rt: &impl Host, future: F) -> F::Output
+    requires { F.can_poll future }
+{
+    block_on(rt, future).expect(rt, "an executor")
 }

@@ -95,9 +95,9 @@ fn record_seven<'a, J: Recording, R: Host>(
 ) {
     alloc.refuse_all();
     let mut pass = passes.pop().expect(rt, "a pass");
-    for (call, reply) in SEVEN {
-        let told = recorder.call(rt, &mut pass, call);
-        expect_equal(rt, (call, told), (call, Ok(reply)));
+    for (call, reply) in SEVEN.as_slice() {
+        let told = recorder.call(rt, &mut pass, *call);
+        expect_equal(rt, (*call, told), (*call, Ok(*reply)));
     }
     expect_equal(rt, pass.count(), 7);
     passes.push(pass).expect(rt, "its own place");

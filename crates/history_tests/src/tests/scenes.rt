@@ -33,16 +33,12 @@ where
     requires { parts ≡ J.parts }
 {
     let last = passes.pop().expect(rt, "a pass");
-    let Err((channel, mut passes)) = channel.try_end(rt, passes) else {
-        panic!(rt; "it ended while a pass was out");
-    };
+    let kept = channel.try_end(rt, passes).err();
+    let (channel, mut passes) = kept.expect(rt, "a channel that stays while a pass is out");
     passes.push(last).expect(rt, "its own place");
     if passes.len() == parts {
-        let (core, _seen) = channel.end(rt, passes);
-        return core.len();
+        return channel.end(rt, passes).0.len();
     }
-    let Ok((core, _seen)) = channel.try_end(rt, passes) else {
-        panic!(rt; "it did not end with all passes");
-    };
-    core.len()
+    let ended = channel.try_end(rt, passes).ok();
+    ended.expect(rt, "an end with all passes").0.len()
 }

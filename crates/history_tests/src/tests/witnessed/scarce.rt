@@ -2,10 +2,9 @@
 ghost use Rattle.std.specs.Prelude.{◌≡◌, true};
 ghost use Rattle.priority_channel_witnessed.specs.Log.{names};
 
-use crate::tests::expect_equal;
 use crate::tests::scenes::{Host, end};
 use crate::tests::watch::within;
-use futures::executor::block_on;
+use crate::tests::{expect_equal, wait_for};
 use priority_channel_core::channel::PriorityQueueChannel;
 use priority_channel_core::errors::{RecvError, RecvFault, SendError, SendFault};
 use priority_channel_waiting::timeouts::{RecvTimeoutError, SendTimeoutError};
@@ -76,47 +75,33 @@ fn answer<'a, J: Recording, R: Host>(
     passes: &mut Passes<'a, J>,
 ) {
     let pass = passes.pop().expect(rt, "a pass");
-    let pairs = Vec::from_array(alloc, [(text(rt, "nine"), 3u64), (text(rt, "ten"), 4)]).expect(
-        rt, "memory",
-    );
+    let pairs = [(text(rt, "nine"), 3), (text(rt, "ten"), 4)];
+    let pairs = Vec::from_array(alloc, pairs).expect(rt, "memory");
     alloc.refuse_nth(1);
-    let (sent, pass) = block_on(rt, channel.send(rt, pass, text(rt, "seven"), 1)).expect(
-        rt,
-        "an executor",
-    );
+    let (sent, pass) = wait_for(rt, channel.send(rt, pass, text(rt, "seven"), 1));
     expect_equal(rt, sent, Ok(()));
-    let (received, pass) = block_on(rt, channel.recv(rt, pass)).expect(rt, "an executor");
+    let (received, pass) = wait_for(rt, channel.recv(rt, pass));
     expect_equal(rt, received, Ok((text(rt, "seven"), 1)));
     let mut pass = pass;
     let (_, wakes) = channel.close(rt, &mut pass);
     wake_all(rt, wakes);
-    let (unsent, pass) = block_on(rt, channel.send(rt, pass, text(rt, "eight"), 2)).expect(
-        rt,
-        "an executor",
-    );
+    let (unsent, pass) = wait_for(rt, channel.send(rt, pass, text(rt, "eight"), 2));
     expect_equal(
         rt,
         unsent,
         Err(SendFault::Closed(SendError((text(rt, "eight"), 2)))),
     );
-    let (closed, pass) = block_on(rt, channel.recv(rt, pass)).expect(rt, "an executor");
+    let (closed, pass) = wait_for(rt, channel.recv(rt, pass));
     expect_equal(rt, closed, Err(RecvFault::Closed(RecvError)));
-    let sending = channel.sendv(rt, pass, pairs.into_iter().peekable());
-    let (unsent, pass) = block_on(rt, sending).expect(rt, "an executor");
-    let Err(fault) = unsent else {
-        panic!(rt; "a send into a closed channel");
-    };
-    let mut rest = fault.into_inner();
+    let (unsent, pass) = wait_for(rt, channel.sendv(rt, pass, pairs.into_iter().peekable()));
+    let mut rest = unsent.err().expect(rt, "a closed channel").into_inner();
     let rest = [rest.next(), rest.next(), rest.next()];
-    expect_equal(
-        rt,
-        rest,
-        [
-            Some((text(rt, "nine"), 3)),
-            Some((text(rt, "ten"), 4)),
-            None,
-        ],
-    );
+    let wanted = [
+        Some((text(rt, "nine"), 3)),
+        Some((text(rt, "ten"), 4)),
+        None,
+    ];
+    expect_equal(rt, rest, wanted);
     expect_equal(rt, alloc.refuse_none(), true);
     passes.push(pass).expect(rt, "its own place");
 }
@@ -180,7 +165,7 @@ fn receive_late<J: Recording + Send + Sync, A: Allocator + Copy + Send + Sync, R
     memory.hold_nth(1);
     let ((received, receiver), sent) = thread::join(
         rt,
-        || block_on(rt, channel.recv(rt, receiver)).expect(rt, "an executor"),
+        || wait_for(rt, channel.recv(rt, receiver)),
         || {
             for _ in 0..u64::MAX {
                 if memory.is_holding() {

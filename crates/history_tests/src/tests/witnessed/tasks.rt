@@ -1,12 +1,19 @@
 //! Futures, which hold their pass until they answer.
 use super::{Caller, Channel, NOBODY, Passes, Scene, close, play, tickets};
-use crate::tests::expect_equal;
 use crate::tests::scenes::Host;
-use futures::executor::block_on;
-use futures::future::poll_immediate;
+use crate::tests::{expect_equal, wait_for};
+use futures::future::{Future, poll_immediate};
 use priority_channel_witnessed::Recording;
 use std::sync::WaitMethods;
 use std::thread;
+
+// Polls the future once, which is to wait.
+fn drop_pending<F: Future<Output: Drop>>(rt: &impl Host, future: F)
+    requires { F.can_poll future }
+{
+    let polled = wait_for(rt, poll_immediate(future));
+    expect_equal(rt, polled.is_none(), true);
+}
 
 /// A receive and a send wait, each with a pass that comes where the one before has left, and are
 /// dropped: what they waited for hands out nobody, and their passes have left.
@@ -18,15 +25,12 @@ pub(super) fn drop_those_that_wait<J: Recording, R: Host>(
     let mut own = passes.pop().expect(rt, "a pass");
     let guest = channel.admit(rt).expect(rt, "a pass to admit");
     expect_equal(rt, guest.number(), 1);
-    let polled = block_on(rt, poll_immediate(channel.recv(rt, guest))).expect(rt, "an executor");
-    expect_equal(rt, polled.is_none(), true);
+    drop_pending(rt, channel.recv(rt, guest));
     let (_, wakes) = channel.try_send(rt, &mut own, 7, 1);
     expect_equal(rt, tickets(wakes), NOBODY);
     let guest = channel.fork(rt, &own).expect(rt, "a pass to fork");
     expect_equal(rt, guest.number(), 2);
-    let sending = channel.send(rt, guest, 8, 2);
-    let polled = block_on(rt, poll_immediate(sending)).expect(rt, "an executor");
-    expect_equal(rt, polled.is_none(), true);
+    drop_pending(rt, channel.send(rt, guest, 8, 2));
     let (_, wakes) = channel.try_recv(rt, &mut own);
     expect_equal(rt, tickets(wakes), NOBODY);
     let guest = channel.admit(rt).expect(rt, "a pass to admit");
@@ -48,13 +52,12 @@ fn send_many<J: Recording, R: Host>(
 ) -> (u64, Caller<J>) {
     let mut sent = 0u64;
     for number in 0..300u64 {
-        let sending = channel.send(rt, pass, number, number % 7);
-        let (answer, back) = block_on(rt, sending).expect(rt, "an executor");
+        let (answer, back) = wait_for(rt, channel.send(rt, pass, number, number % 7));
         sent = sent.wrapping_add(answer.is_ok() as u64);
         let pairs = [(number, 1u64), (number, 2), (number, 3)];
         let pairs = Vec::from_array(rt.alloc(), pairs).expect(rt, "memory");
         let sending = channel.sendv(rt, back, pairs.into_iter().peekable());
-        let (answer, back) = block_on(rt, sending).expect(rt, "an executor");
+        let (answer, back) = wait_for(rt, sending);
         sent = sent.wrapping_add(if answer.is_ok() { 3 } else { 0 });
         pass = back;
     }
@@ -70,7 +73,7 @@ fn receive_many<J: Recording, R: Host>(
 ) -> (u64, Caller<J>) {
     let mut received = 0u64;
     for _ in rt.forever() {
-        let (answer, back) = block_on(rt, channel.recv(rt, pass)).expect(rt, "an executor");
+        let (answer, back) = wait_for(rt, channel.recv(rt, pass));
         pass = back;
         if answer.is_err() {
             return (received, pass);

@@ -82,9 +82,7 @@ pub(super) fn send_in_time<J: Recording, R: Host>(
     let begun = Instant::now(rt).expect(rt, "a clock");
     let pairs = Vec::from_array(rt.alloc(), [(7u64, 1u64), (8, 1), (9, 1)]).expect(rt, "memory");
     let sent = channel.sendv_timeout(rt, &mut pass, pairs.into_iter().peekable(), limit());
-    let Err(error) = sent else {
-        panic!(rt; "room for three in a channel for one");
-    };
+    let error = sent.err().expect(rt, "room for one and not for three");
     expect_equal(
         rt,
         (error.is_timeout(), error.into_inner().count()),
