@@ -1,5 +1,8 @@
 //! Scripts of calls by handles and futures, and the tests that are none.
+use futures::executor::block_on;
+use futures::future::Future;
 use futures::task::Poll;
+use script::Host;
 use std::fmt::Debug;
 use std::process::Abort;
 
@@ -43,6 +46,13 @@ fn expect_equal_at<N: Debug + Drop, X: PartialEq + Debug + Drop>(
     if got != wanted {
         panic!(rt; "at {round:?}: got {got:?}, wanted {wanted:?}");
     }
+}
+
+/// What the future answers.
+fn wait_for<F: Future>(rt: &impl Host, future: F) -> F::Output
+    requires { F.can_poll future }
+{
+    block_on(rt, future).expect(rt, "an executor")
 }
 
 fn is_pending<T: Drop>(polled: Poll<T>) -> bool {

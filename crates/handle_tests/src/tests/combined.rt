@@ -1,7 +1,6 @@
 //! Futures of channels in the combinators of `futures`.
-use super::expect_equal;
+use super::{expect_equal, wait_for};
 use async_priority_channel::{TryRecvError, bounded};
-use futures::executor::block_on;
 use futures::future::{Either, select};
 
 // The one that was not chosen takes nothing where it is given up.
@@ -10,8 +9,8 @@ fn the_first_of_two_channels_ends_a_select(rt: HostRuntime) {
     let (first_tx, first_rx) = bounded(&rt, rt.alloc(), 1).expect(&rt, "a channel");
     let (second_tx, second_rx) = bounded(&rt, rt.alloc(), 1).expect(&rt, "a channel");
     expect_equal(&rt, second_tx.try_send('s', 2u64), Ok(()));
-    let selected = block_on(&rt, select(first_rx.recv(), second_rx.recv()));
-    let Either::Right((received, other)) = selected.expect(&rt, "an executor") else {
+    let selected = wait_for(&rt, select(first_rx.recv(), second_rx.recv()));
+    let Either::Right((received, other)) = selected else {
         panic!(&rt; "nothing was sent to the first");
     };
     expect_equal(&rt, received, Ok(('s', 2)));

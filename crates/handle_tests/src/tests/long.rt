@@ -1,7 +1,6 @@
 //! Long runs: nothing changes after many messages, waits or turns.
-use super::{expect_equal, expect_equal_at, is_pending};
+use super::{expect_equal, expect_equal_at, is_pending, wait_for};
 use async_priority_channel::{bounded, unbounded};
-use futures::executor::block_on;
 use futures::test::MockTask;
 use std::sync::atomic::{AtomicU64, Ordering};
 
@@ -10,6 +9,10 @@ const MANY: u64 = 1_050_000;
 
 // More than 2^16.
 const SOME: u64 = 66_000;
+
+fn message(number: u64) -> (u64, u64) {
+    (number, 0)
+}
 
 #[test]
 fn many_waits_leave_room_for_more(rt: HostRuntime) {
@@ -42,7 +45,7 @@ fn a_million_messages_are_pending(rt: HostRuntime) {
     let (tx, rx) = unbounded(&rt, rt.alloc()).expect(&rt, "a channel");
     expect_equal(
         &rt,
-        tx.try_sendv((0..MANY).map(|i| (i, 0)).peekable()).is_ok(),
+        tx.try_sendv((0..MANY).map(message).peekable()).is_ok(),
         true,
     );
     for msg in 0..9u64 {
@@ -65,22 +68,18 @@ fn many_messages_come_in_one_go(rt: HostRuntime) {
     let (tx, rx) = bounded(&rt, rt.alloc(), SOME).expect(&rt, "a channel");
     expect_equal(
         &rt,
-        tx.try_sendv((0..SOME).map(|i| (i, 0)).peekable()).is_ok(),
+        tx.try_sendv((0..SOME).map(message).peekable()).is_ok(),
         true,
     );
     let mut batch = Vec::new(rt.alloc());
     let count = SOME as usize;
     expect_equal(&rt, rx.try_recv_many(&mut batch, usize::MAX), Ok(count));
-    let sent = block_on(&rt, tx.sendv((0..SOME).map(|i| (i, 0)).peekable())).expect(
-        &rt,
-        "an executor",
-    );
+    let sent = wait_for(&rt, tx.sendv((0..SOME).map(message).peekable()));
     expect_equal(&rt, sent.is_ok(), true);
     expect_equal(&rt, rx.try_iter().count(), count);
     expect_equal(
         &rt,
-        tx.sendv_blocking((0..SOME).map(|i| (i, 0)).peekable())
-            .is_ok(),
+        tx.sendv_blocking((0..SOME).map(message).peekable()).is_ok(),
         true,
     );
     expect_equal(&rt, tx.close(), true);

@@ -1,43 +1,31 @@
 //! The greatest priority comes first, and equals in the order of sending, for priorities of several
 //! types: by calls that answer at once, and by futures.
-use super::expect_equal;
+use super::script::Host;
+use super::{expect_equal, wait_for};
 use async_priority_channel::unbounded;
-use futures::executor::block_on;
-use std::alloc::AllocGlobal;
 use std::cmp::Reverse;
-use std::process::Abort;
-use std::random::RandomSource;
-use std::sync::Wait;
 
 // Sends a number with each of the priorities, counting from 0, by tries and by futures in turn, and
 // receives in the same way. Expects the numbers to come so.
-fn expect_order<P, R>(rt: &R, priorities: &[P], wanted: &[usize])
-where
-    P: Ord + Copy + Drop,
-    R: Wait + Clone + RandomSource + AllocGlobal + Abort,
-{
+fn expect_order<P: Ord + Copy + Drop, R: Host>(rt: &R, priorities: &[P], wanted: &[usize]) {
     let (tx, rx) = unbounded(rt, rt.alloc()).expect(rt, "a channel");
     for (number, priority) in priorities.iter().enumerate() {
         let is_sent = if number % 2 == 0 {
             tx.try_send(number, *priority).is_ok()
         } else {
-            matches!(block_on(rt, tx.send(number, *priority)), Ok(Ok(())))
+            wait_for(rt, tx.send(number, *priority)).is_ok()
         };
         expect_equal(rt, is_sent, true);
     }
     let mut numbers = Vec::new(rt.alloc());
     for turn in 0..priorities.len() {
-        let number = if turn % 2 == 0 {
-            rx.try_recv().ok().map(|pair| pair.0)
+        let received = if turn % 2 == 0 {
+            rx.try_recv().ok()
         } else {
-            block_on(rt, rx.recv())
-                .ok()
-                .and_then(|received| received.ok())
-                .map(|pair| pair.0)
+            wait_for(rt, rx.recv()).ok()
         };
-        numbers
-            .push(number.unwrap_or(usize::MAX))
-            .expect(rt, "memory");
+        let number = received.map_or(usize::MAX, |pair| pair.0);
+        numbers.push(number).expect(rt, "memory");
     }
     expect_equal(rt, numbers.as_slice(), wanted);
 }

@@ -153,9 +153,7 @@ fn lend<R: Host, A: Allocator + Copy>(
     let mut stage = Stage::new(rt, handles, &lent, Some(&mut batch));
     play(ground, &mut stage, script);
     let mut handles = stage.into_handles();
-    for (name, handle) in lent {
-        put(rt, &mut handles, name, handle);
-    }
+    handles.append(&mut lent).expect(rt, "memory");
     handles
 }
 
