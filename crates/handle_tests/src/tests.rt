@@ -31,9 +31,7 @@ mod weak;
 
 /// `assert_eq!`, proved once: each one in place takes seconds of the check.
 fn expect_equal<X: PartialEq + Debug + Drop>(rt: &impl Abort, got: X, wanted: X) {
-    if got != wanted {
-        panic!(rt; "got {got:?}, wanted {wanted:?}");
-    }
+    assert_eq!(rt; got, wanted);
 }
 
 /// The same in one round of a loop, which it names where the two differ.
@@ -43,9 +41,7 @@ fn expect_equal_at<N: Debug + Drop, X: PartialEq + Debug + Drop>(
     got: X,
     wanted: X,
 ) {
-    if got != wanted {
-        panic!(rt; "at {round:?}: got {got:?}, wanted {wanted:?}");
-    }
+    assert_eq!(rt; got, wanted, "at {round:?}");
 }
 
 /// What the future answers.

@@ -204,16 +204,12 @@ fn told_taken<R: Host, A: Allocator>(
     rt: &R,
     taken: Result<Vec<(char, u64), A>, AllocError>,
 ) -> String {
-    match taken {
-        Ok(taken) => told_sorted(rt, taken),
-        Err(error) => told(rt, error),
-    }
-}
-
-fn told_sorted<R: Host, A: Allocator>(rt: &R, messages: Vec<(char, u64), A>) -> String {
-    let mut messages = messages;
-    messages.sort().expect(rt, "memory");
-    told(rt, messages)
+    let mut taken = match taken {
+        Ok(taken) => taken,
+        Err(error) => return told(rt, error),
+    };
+    taken.sort().expect(rt, "memory");
+    told(rt, taken)
 }
 
 fn clone<R: Host, A: Allocator + Copy>(handle: &Handle<R, A>) -> Result<Handle<R, A>, AllocError> {

@@ -41,11 +41,6 @@ pub fn put<V: Drop>(rt: &impl Host, named: &mut BTreeMap<Text, V>, name: Text, v
     }
 }
 
-// Whether one has this name.
-fn drop_one<V: Drop>(named: &mut BTreeMap<Text, V>, name: Text) -> bool {
-    named.remove(name).is_some()
-}
-
 impl<'a, R: Host, A: Allocator + Copy> Stage<'a, R, A> {
     pub fn new(
         rt: &R,
@@ -145,9 +140,9 @@ impl<'a, R: Host, A: Allocator + Copy> Stage<'a, R, A> {
     }
 
     pub fn drop_named(&mut self, rt: &R, name: Text) {
-        let is_lasting = self.lasting.remove(name).is_some();
-        let is_handle = drop_one(&mut self.handles, name);
-        if !is_lasting && !is_handle {
+        let handle = self.handles.remove(name);
+        let lasting = self.lasting.remove(name);
+        if handle.is_none() && lasting.is_none() {
             panic!(rt; "nothing has the name {name}");
         }
     }
