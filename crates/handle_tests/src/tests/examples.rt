@@ -4,16 +4,15 @@
 //! compares the tests with the doc comments. This file has what the examples name.
 use super::{expect_equal, wait_for};
 use async_priority_channel::{
-    End, Ends, Receiver, RecvError, RecvFault, RecvTimeoutError, Role, SendTimeoutError, Sender,
-    TryRecvError, TrySendError, bounded, bounded_reserved, unbounded,
+    Ends, RecvError, RecvFault, RecvTimeoutError, SendTimeoutError, Sender, TryRecvError,
+    TrySendError, bounded, bounded_reserved, unbounded,
 };
-use futures::future::{Either, Future, join, poll_immediate, select};
+use futures::executor::block_on;
+use futures::future::{Either, join, select};
 use futures::stream::StreamExt;
-use std::alloc::{AllocError, AllocGlobal, Global};
+use std::alloc::{AllocError, Global};
 use std::cmp::Reverse;
-use std::fmt::Debug;
 use std::process::Abort;
-use std::random::RandomSource;
 use std::sync::Wait;
 use std::thread;
 use std::time::{Duration, Instant};
