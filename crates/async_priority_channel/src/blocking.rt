@@ -130,14 +130,6 @@ impl<T, P: Ord, R: Wait + Clone, A: Allocator + Copy> Sender<T, P, R, A> {
     }
 
     /// As `send_timeout`, but waits no longer than until `deadline`.
-    ///
-    /// ```
-    /// let limit = Duration::from_millis(5);
-    /// let deadline = Instant::now(&rt)?.checked_add(limit).ok_or("too late")?;
-    /// tx.send_deadline("Foo", 0, deadline)?;
-    /// let refused = tx.send_deadline("Bar", 2, deadline);
-    /// assert_eq!(rt; refused, Err(SendTimeoutError::Timeout(("Bar", 2))));
-    /// ```
     pub fn send_deadline(
         &self,
         msg: T,
@@ -209,16 +201,6 @@ impl<T: Drop, P: Ord + Drop, R: Wait + Clone, A: Allocator + Copy> Sender<T, P, 
     }
 
     /// As `sendv_timeout`, but waits no longer than until `deadline`.
-    ///
-    /// ```
-    /// let now = Instant::now(&rt)?;
-    /// let jobs = [("compile", 1), ("link", 2)].into_iter().peekable();
-    /// if let Err(error) = tx.sendv_deadline(jobs, now) {
-    ///     assert!(rt; error.is_timeout());
-    ///     assert_eq!(rt; error.into_inner().next(), Some(("link", 2)));
-    /// }
-    /// assert_eq!(rt; rx.try_recv(), Ok(("compile", 1)));
-    /// ```
     pub fn sendv_deadline<I: Iterator<Item = (T, P)>>(
         &self,
         msgs: Peekable<I>,

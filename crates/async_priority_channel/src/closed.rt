@@ -81,16 +81,6 @@ impl<S: Role, T, P: Ord, R: Wait + Clone, A: Allocator + Copy> End<S, T, P, R, A
     }
 
     /// As `closed_timeout`, but waits no longer than until `deadline`.
-    ///
-    /// ```
-    /// let (tx, rx) = unbounded::<&str, u64, _, _>(&rt, rt.alloc())?;
-    /// let limit = Duration::from_millis(5);
-    /// let deadline = Instant::now(&rt)?.checked_add(limit).ok_or("too late")?;
-    /// assert_eq!(rt; tx.closed_deadline(deadline), Ok(false));
-    /// assert!(rt; deadline <= Instant::now(&rt)?);
-    /// rx.close();
-    /// assert_eq!(rt; tx.closed_deadline(deadline), Ok(true));
-    /// ```
     pub fn closed_deadline(&self, deadline: Instant) -> Result<bool, AllocError>
     where
         R: Clock,

@@ -37,6 +37,18 @@ pub trait Role: Copy {
 /// `take_where`, `retain`, `change_priority`, `count_where` and `try_recv_if` are given, and the
 /// clone of a priority that `peek_priority` makes. If this code makes a call on the channel, or
 /// drops a handle of it, it waits for ever. It should be short, since all other calls wait for it.
+///
+/// A query tells what was so under the lock. Another thread may have changed it by then.
+///
+/// ```
+/// let (tx, rx) = bounded(&rt, rt.alloc(), 2)?;
+/// tx.try_send("Foo", 0)?;
+/// assert_eq!(rt; (rx.len(), rx.capacity()), (1, Some(2)));
+/// assert!(rt; !rx.is_empty() && !rx.is_full());
+/// assert_eq!(rt; (tx.sender_count(), tx.receiver_count()), (1, 1));
+/// drop(tx);
+/// assert!(rt; rx.is_closed() && rx.len() == 1);
+/// ```
 pub struct End<S: Role, T, P: Ord, R: Wait + Clone, A: Allocator + Copy = Global> {
     pub(crate) handle: Handle<T, P, R, A>,
     pub(crate) role: S,
@@ -76,67 +88,27 @@ impl<S: Role, T, P: Ord, R: Wait + Clone, A: Allocator + Copy> End<S, T, P, R, A
 
     /// Whether the channel is closed: by a call of `close`, or by the drop of the last sender or
     /// receiver.
-    ///
-    /// ```
-    /// let (tx, rx) = unbounded(&rt, rt.alloc())?;
-    /// tx.try_send("Foo", 0)?;
-    /// assert!(rt; !tx.is_closed());
-    /// drop(tx);
-    /// assert!(rt; rx.is_closed() && !rx.is_empty());
-    /// ```
     pub fn is_closed(&self) -> bool {
         self.handle.look().core().is_closed()
     }
 
     /// Whether no message is pending.
-    ///
-    /// ```
-    /// let (tx, rx) = unbounded(&rt, rt.alloc())?;
-    /// tx.try_send("Foo", 0)?;
-    /// assert!(rt; !tx.is_empty());
-    /// rx.try_recv()?;
-    /// assert!(rt; tx.is_empty());
-    /// ```
     pub fn is_empty(&self) -> bool {
         self.handle.look().core().is_empty()
     }
 
     /// Whether there is no room.
-    ///
-    /// ```
-    /// let (tx, rx) = bounded(&rt, rt.alloc(), 1)?;
-    /// tx.try_send("Foo", 0)?;
-    /// assert!(rt; tx.is_full());
-    /// rx.try_recv()?;
-    /// assert!(rt; !tx.is_full());
-    /// ```
     pub fn is_full(&self) -> bool {
         self.handle.look().core().is_full()
     }
 
     /// The number of pending messages.
-    ///
-    /// ```
-    /// let (tx, rx) = unbounded(&rt, rt.alloc())?;
-    /// tx.try_send("Foo", 0)?;
-    /// tx.try_send("Bar", 2)?;
-    /// assert_eq!(rt; rx.len(), 2);
-    /// drop(tx);
-    /// assert_eq!(rt; rx.len(), 2);
-    /// ```
     pub fn len(&self) -> u64 {
         self.handle.look().core().len()
     }
 
     /// The greatest number of messages that may be pending at a time. None if the capacity is
     /// `u64::MAX`. It takes no lock.
-    ///
-    /// ```
-    /// let (tx, _rx) = bounded::<&str, u64, _, _>(&rt, rt.alloc(), 10)?;
-    /// assert_eq!(rt; tx.capacity(), Some(10));
-    /// let (tx, _rx) = unbounded::<&str, u64, _, _>(&rt, rt.alloc())?;
-    /// assert_eq!(rt; tx.capacity(), None);
-    /// ```
     pub fn capacity(&self) -> Option<u64>
         ensures { result ≡ capacity_told self.now.capacity }
     {
@@ -163,26 +135,11 @@ impl<S: Role, T, P: Ord, R: Wait + Clone, A: Allocator + Copy> End<S, T, P, R, A
     }
 
     /// The number of the channel's senders.
-    ///
-    /// ```
-    /// let (tx, _rx) = unbounded::<&str, u64, _, _>(&rt, rt.alloc())?;
-    /// let other = tx.clone()?;
-    /// assert_eq!(rt; tx.sender_count(), 2);
-    /// drop(other);
-    /// assert_eq!(rt; tx.sender_count(), 1);
-    /// ```
     pub fn sender_count(&self) -> usize {
         self.handle.look().core().sender_count()
     }
 
     /// The number of the channel's receivers.
-    ///
-    /// ```
-    /// let (tx, rx) = unbounded::<&str, u64, _, _>(&rt, rt.alloc())?;
-    /// assert_eq!(rt; tx.receiver_count(), 1);
-    /// drop(rx);
-    /// assert_eq!(rt; tx.receiver_count(), 0);
-    /// ```
     pub fn receiver_count(&self) -> usize {
         self.handle.look().core().receiver_count()
     }

@@ -119,16 +119,6 @@ impl<T, P: Ord, R: Wait + Clone, A: Allocator + Copy> Receiver<T, P, R, A> {
     }
 
     /// As `recv_many_timeout`, but waits no longer than until `deadline`.
-    ///
-    /// ```
-    /// let (tx, rx) = bounded(&rt, rt.alloc(), 10)?;
-    /// tx.try_send("Foo", 0)?;
-    /// let now = Instant::now(&rt)?;
-    /// let mut batch = Vec::new(rt.alloc());
-    /// assert_eq!(rt; rx.recv_many_deadline(&mut batch, 8, now), Ok(1));
-    /// let late = rx.recv_many_deadline(&mut batch, 8, now);
-    /// assert_eq!(rt; late, Err(RecvTimeoutError::Timeout));
-    /// ```
     pub fn recv_many_deadline<B: Allocator>(
         &self,
         batch: &mut Vec<(T, P), B>,

@@ -64,14 +64,6 @@ impl<S: Role, T: Drop, P: Ord + Drop, R: Wait + Clone, A: Allocator + Copy> Weak
 
 impl<S: Role, T, P: Ord, R: Wait + Clone, A: Allocator + Copy> Weak<S, T, P, R, A> {
     /// Whether the channel is closed, as `End::is_closed` tells.
-    ///
-    /// ```
-    /// let (tx, _rx) = unbounded::<&str, u64, _, _>(&rt, rt.alloc())?;
-    /// let weak = tx.downgrade()?;
-    /// assert!(rt; !weak.is_closed());
-    /// drop(tx);
-    /// assert!(rt; weak.is_closed());
-    /// ```
     pub fn is_closed(&self) -> bool {
         self.handle.look().core().is_closed()
     }
@@ -80,14 +72,6 @@ impl<S: Role, T, P: Ord, R: Wait + Clone, A: Allocator + Copy> Weak<S, T, P, R, 
 impl<S: Role, T, P: Ord, R: Wait + Clone, A: Allocator + Copy> End<S, T, P, R, A> {
     /// A handle of the channel that is not counted as a sender or a receiver. It changes no count.
     /// It is refused if memory is refused.
-    ///
-    /// ```
-    /// let (tx, rx) = unbounded::<&str, u64, _, _>(&rt, rt.alloc())?;
-    /// let _weak = tx.downgrade()?;
-    /// assert_eq!(rt; rx.sender_count(), 1);
-    /// drop(tx);
-    /// assert!(rt; rx.is_closed());
-    /// ```
     pub fn downgrade(&self) -> Result<Weak<S, T, P, R, A>, AllocError>
         ensures { IfOk result (λ weak. SameChannel self.now weak) }
     {
@@ -98,15 +82,6 @@ impl<S: Role, T, P: Ord, R: Wait + Clone, A: Allocator + Copy> End<S, T, P, R, A
 }
 
 /// Another weak handle of the channel.
-///
-/// ```
-/// let (tx, rx) = unbounded(&rt, rt.alloc())?;
-/// let weak = tx.downgrade()?;
-/// let other = weak.clone()?;
-/// drop(weak);
-/// other.upgrade().ok_or("closed")?.try_send("Foo", 0)?;
-/// assert_eq!(rt; rx.try_recv(), Ok(("Foo", 0)));
-/// ```
 impl<S: Role, T: Drop, P: Ord + Drop, R: Wait + Clone, A: Allocator + Copy> Clone
     for Weak<S, T, P, R, A> {
     ghost use Rattle.async_priority_channel.specs.Handles.{SameChannel};

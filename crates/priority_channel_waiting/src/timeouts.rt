@@ -50,6 +50,14 @@ impl<C: Drop> From<Ended<C, Infallible>> for RecvFault {
 }
 
 /// Why a send that waits for a limited time has not sent. It holds what was not sent.
+///
+/// ```
+/// let (tx, rx) = bounded(&rt, rt.alloc(), 1)?;
+/// drop(rx);
+/// let refused = tx.send_timeout("Foo", 0, Duration::from_millis(5));
+/// assert!(rt; refused.is_err_and(|error| error.is_closed()));
+/// assert!(rt; refused.is_err_and(|error| error.into_inner() == ("Foo", 0)));
+/// ```
 #[derive(Clone, Copy, Drop, PartialEq, Eq)]
 pub enum SendTimeoutError<T> {
     /// There was no room in time.
@@ -62,14 +70,6 @@ pub enum SendTimeoutError<T> {
 
 impl<T> SendTimeoutError<T> {
     /// Returns what was not sent.
-    ///
-    /// ```
-    /// let (tx, rx) = bounded(&rt, rt.alloc(), 1)?;
-    /// drop(rx);
-    /// let refused = tx.send_timeout("Foo", 0, Duration::from_millis(5));
-    /// let unsent = refused.err().map(|error| error.into_inner());
-    /// assert_eq!(rt; unsent, Some(("Foo", 0)));
-    /// ```
     pub fn into_inner(self) -> T
         ensures { result ≡ unsent_in_time self }
     {
@@ -81,13 +81,6 @@ impl<T> SendTimeoutError<T> {
     }
 
     /// Whether the time was over.
-    ///
-    /// ```
-    /// let (tx, _rx) = bounded(&rt, rt.alloc(), 1)?;
-    /// tx.try_send("Foo", 0)?;
-    /// let refused = tx.send_timeout("Bar", 2, Duration::from_millis(5));
-    /// assert!(rt; refused.is_err_and(|error| error.is_timeout()));
-    /// ```
     pub fn is_timeout(&self) -> bool
         ensures { IsTrue result ↔ (self.now ≡ SendTimeoutError.Timeout (unsent_in_time self.now)) }
     {
@@ -95,13 +88,6 @@ impl<T> SendTimeoutError<T> {
     }
 
     /// Whether the channel was closed, so that it accepts nothing more.
-    ///
-    /// ```
-    /// let (tx, rx) = bounded(&rt, rt.alloc(), 1)?;
-    /// drop(rx);
-    /// let refused = tx.send_timeout("Foo", 0, Duration::from_millis(5));
-    /// assert!(rt; refused.is_err_and(|error| error.is_closed()));
-    /// ```
     pub fn is_closed(&self) -> bool
         ensures { IsTrue result ↔ (self.now ≡ SendTimeoutError.Closed (unsent_in_time self.now)) }
     {
@@ -109,11 +95,6 @@ impl<T> SendTimeoutError<T> {
     }
 
     /// Whether memory was refused.
-    ///
-    /// ```
-    /// let refused = SendTimeoutError::Memory(("Foo", 0));
-    /// assert!(rt; refused.is_memory() && !refused.is_timeout());
-    /// ```
     pub fn is_memory(&self) -> bool
         ensures { IsTrue result ↔ (self.now ≡ SendTimeoutError.Memory (unsent_in_time self.now)) }
     {
@@ -180,6 +161,12 @@ impl<T> fmt::Debug for SendTimeoutError<T> {
 impl<T: Drop> Error for SendTimeoutError<T> {}
 
 /// Why a receive that waits for a limited time has no message.
+///
+/// ```
+/// let (_tx, rx) = bounded::<&str, u64, _, _>(&rt, rt.alloc(), 1)?;
+/// let refused = rx.recv_timeout(Duration::from_millis(5));
+/// assert!(rt; refused.is_err_and(|error| error.is_timeout()));
+/// ```
 #[derive(Clone, Copy, Debug, Drop, PartialEq, Eq)]
 pub enum RecvTimeoutError {
     /// No message came in time.
@@ -192,12 +179,6 @@ pub enum RecvTimeoutError {
 
 impl RecvTimeoutError {
     /// Whether the time was over, so that a message may still come.
-    ///
-    /// ```
-    /// let (_tx, rx) = bounded::<&str, u64, _, _>(&rt, rt.alloc(), 1)?;
-    /// let refused = rx.recv_timeout(Duration::from_millis(5));
-    /// assert!(rt; refused.is_err_and(|error| error.is_timeout()));
-    /// ```
     pub fn is_timeout(&self) -> bool
         ensures { IsTrue result ↔ (self.now ≡ RecvTimeoutError.Timeout) }
     {
@@ -205,13 +186,6 @@ impl RecvTimeoutError {
     }
 
     /// Whether the channel was closed, so that no message will come.
-    ///
-    /// ```
-    /// let (tx, rx) = bounded::<&str, u64, _, _>(&rt, rt.alloc(), 1)?;
-    /// drop(tx);
-    /// let refused = rx.recv_timeout(Duration::from_millis(5));
-    /// assert!(rt; refused.is_err_and(|error| error.is_closed()));
-    /// ```
     pub fn is_closed(&self) -> bool
         ensures { IsTrue result ↔ (self.now ≡ RecvTimeoutError.Closed) }
     {
@@ -219,11 +193,6 @@ impl RecvTimeoutError {
     }
 
     /// Whether memory was refused.
-    ///
-    /// ```
-    /// let refused = RecvTimeoutError::Memory;
-    /// assert!(rt; refused.is_memory() && !refused.is_timeout());
-    /// ```
     pub fn is_memory(&self) -> bool
         ensures { IsTrue result ↔ (self.now ≡ RecvTimeoutError.Memory) }
     {

@@ -66,21 +66,6 @@ fn example_of_sender_send_timeout(rt: HostRuntime) {
 }
 
 #[test]
-fn example_of_sender_send_deadline(rt: HostRuntime) {
-    let (tx, rx) = bounded(&rt, rt.alloc(), 1).expect(&rt, "bounded");
-    let limit = Duration::from_millis(5);
-    let deadline = Instant::now(&rt)
-        .expect(&rt, "now")
-        .checked_add(limit)
-        .ok_or("too late")
-        .expect(&rt, "ok_or");
-    tx.send_deadline("Foo", 0, deadline)
-        .expect(&rt, "send_deadline");
-    let refused = tx.send_deadline("Bar", 2, deadline);
-    expect_equal(&rt, refused, Err(SendTimeoutError::Timeout(("Bar", 2))));
-}
-
-#[test]
 fn example_of_sender_sendv_blocking(rt: HostRuntime) {
     let (tx, rx) = bounded(&rt, rt.alloc(), 1).expect(&rt, "bounded");
     let jobs = [(3, 1), (4, 2)].into_iter().peekable();
@@ -101,18 +86,6 @@ fn example_of_sender_sendv_timeout(rt: HostRuntime) {
         expect_true(&rt, tx.try_sendv(error.into_inner()).is_ok());
     }
     expect_equal(&rt, rx.try_recv(), Ok(("link", 2)));
-}
-
-#[test]
-fn example_of_sender_sendv_deadline(rt: HostRuntime) {
-    let (tx, rx) = bounded(&rt, rt.alloc(), 1).expect(&rt, "bounded");
-    let now = Instant::now(&rt).expect(&rt, "now");
-    let jobs = [("compile", 1), ("link", 2)].into_iter().peekable();
-    if let Err(error) = tx.sendv_deadline(jobs, now) {
-        expect_true(&rt, error.is_timeout());
-        expect_equal(&rt, error.into_inner().next(), Some(("link", 2)));
-    }
-    expect_equal(&rt, rx.try_recv(), Ok(("compile", 1)));
 }
 
 fn numbers<R: Wait + Clone>(rt: &R, alloc: Global) -> Result<Ends<u64, u64, R>, AllocError> {
@@ -205,18 +178,14 @@ fn example_of_end_closed_timeout(rt: HostRuntime) {
 }
 
 #[test]
-fn example_of_end_closed_deadline(rt: HostRuntime) {
-    let (tx, rx) = unbounded::<&str, u64, _, _>(&rt, rt.alloc()).expect(&rt, "unbounded");
-    let limit = Duration::from_millis(5);
-    let deadline = Instant::now(&rt)
-        .expect(&rt, "now")
-        .checked_add(limit)
-        .ok_or("too late")
-        .expect(&rt, "ok_or");
-    expect_equal(&rt, tx.closed_deadline(deadline), Ok(false));
-    expect_true(&rt, deadline <= Instant::now(&rt).expect(&rt, "now"));
-    rx.close();
-    expect_equal(&rt, tx.closed_deadline(deadline), Ok(true));
+fn example_of_end(rt: HostRuntime) {
+    let (tx, rx) = bounded(&rt, rt.alloc(), 2).expect(&rt, "bounded");
+    tx.try_send("Foo", 0).expect(&rt, "try_send");
+    expect_equal(&rt, (rx.len(), rx.capacity()), (1, Some(2)));
+    expect_true(&rt, !rx.is_empty() && !rx.is_full());
+    expect_equal(&rt, (tx.sender_count(), tx.receiver_count()), (1, 1));
+    drop(tx);
+    expect_true(&rt, rx.is_closed() && rx.len() == 1);
 }
 
 #[test]
@@ -232,73 +201,11 @@ fn example_of_end_close(rt: HostRuntime) {
 }
 
 #[test]
-fn example_of_end_is_closed(rt: HostRuntime) {
-    let (tx, rx) = unbounded(&rt, rt.alloc()).expect(&rt, "unbounded");
-    tx.try_send("Foo", 0).expect(&rt, "try_send");
-    expect_true(&rt, !tx.is_closed());
-    drop(tx);
-    expect_true(&rt, rx.is_closed() && !rx.is_empty());
-}
-
-#[test]
-fn example_of_end_is_empty(rt: HostRuntime) {
-    let (tx, rx) = unbounded(&rt, rt.alloc()).expect(&rt, "unbounded");
-    tx.try_send("Foo", 0).expect(&rt, "try_send");
-    expect_true(&rt, !tx.is_empty());
-    rx.try_recv().expect(&rt, "try_recv");
-    expect_true(&rt, tx.is_empty());
-}
-
-#[test]
-fn example_of_end_is_full(rt: HostRuntime) {
-    let (tx, rx) = bounded(&rt, rt.alloc(), 1).expect(&rt, "bounded");
-    tx.try_send("Foo", 0).expect(&rt, "try_send");
-    expect_true(&rt, tx.is_full());
-    rx.try_recv().expect(&rt, "try_recv");
-    expect_true(&rt, !tx.is_full());
-}
-
-#[test]
-fn example_of_end_len(rt: HostRuntime) {
-    let (tx, rx) = unbounded(&rt, rt.alloc()).expect(&rt, "unbounded");
-    tx.try_send("Foo", 0).expect(&rt, "try_send");
-    tx.try_send("Bar", 2).expect(&rt, "try_send");
-    expect_equal(&rt, rx.len(), 2);
-    drop(tx);
-    expect_equal(&rt, rx.len(), 2);
-}
-
-#[test]
-fn example_of_end_capacity(rt: HostRuntime) {
-    let (tx, _rx) = bounded::<&str, u64, _, _>(&rt, rt.alloc(), 10).expect(&rt, "bounded");
-    expect_equal(&rt, tx.capacity(), Some(10));
-    let (tx, _rx) = unbounded::<&str, u64, _, _>(&rt, rt.alloc()).expect(&rt, "unbounded");
-    expect_equal(&rt, tx.capacity(), None);
-}
-
-#[test]
 fn example_of_end_same_channel(rt: HostRuntime) {
     let (tx, _rx) = unbounded::<&str, u64, _, _>(&rt, rt.alloc()).expect(&rt, "unbounded");
     let (other, _other_rx) = unbounded(&rt, rt.alloc()).expect(&rt, "unbounded");
     expect_true(&rt, tx.same_channel(&tx.clone().expect(&rt, "clone")));
     expect_true(&rt, !tx.same_channel(&other));
-}
-
-#[test]
-fn example_of_end_sender_count(rt: HostRuntime) {
-    let (tx, _rx) = unbounded::<&str, u64, _, _>(&rt, rt.alloc()).expect(&rt, "unbounded");
-    let other = tx.clone().expect(&rt, "clone");
-    expect_equal(&rt, tx.sender_count(), 2);
-    drop(other);
-    expect_equal(&rt, tx.sender_count(), 1);
-}
-
-#[test]
-fn example_of_end_receiver_count(rt: HostRuntime) {
-    let (tx, rx) = unbounded::<&str, u64, _, _>(&rt, rt.alloc()).expect(&rt, "unbounded");
-    expect_equal(&rt, tx.receiver_count(), 1);
-    drop(rx);
-    expect_equal(&rt, tx.receiver_count(), 0);
 }
 
 #[test]
@@ -551,17 +458,6 @@ fn example_of_receiver_recv_many_timeout(rt: HostRuntime) {
 }
 
 #[test]
-fn example_of_receiver_recv_many_deadline(rt: HostRuntime) {
-    let (tx, rx) = bounded(&rt, rt.alloc(), 10).expect(&rt, "bounded");
-    tx.try_send("Foo", 0).expect(&rt, "try_send");
-    let now = Instant::now(&rt).expect(&rt, "now");
-    let mut batch = Vec::new(rt.alloc());
-    expect_equal(&rt, rx.recv_many_deadline(&mut batch, 8, now), Ok(1));
-    let late = rx.recv_many_deadline(&mut batch, 8, now);
-    expect_equal(&rt, late, Err(RecvTimeoutError::Timeout));
-}
-
-#[test]
 fn example_of_receiver_recv_many(rt: HostRuntime) {
     let (tx, rx) = unbounded(&rt, rt.alloc()).expect(&rt, "unbounded");
     tx.try_send("Foo", 0).expect(&rt, "try_send");
@@ -791,86 +687,20 @@ fn example_of_weak_upgrade(rt: HostRuntime) {
 }
 
 #[test]
-fn example_of_weak_is_closed(rt: HostRuntime) {
-    let (tx, _rx) = unbounded::<&str, u64, _, _>(&rt, rt.alloc()).expect(&rt, "unbounded");
-    let weak = tx.downgrade().expect(&rt, "downgrade");
-    expect_true(&rt, !weak.is_closed());
-    drop(tx);
-    expect_true(&rt, weak.is_closed());
-}
-
-#[test]
-fn example_of_end_downgrade(rt: HostRuntime) {
-    let (tx, rx) = unbounded::<&str, u64, _, _>(&rt, rt.alloc()).expect(&rt, "unbounded");
-    let _weak = tx.downgrade().expect(&rt, "downgrade");
-    expect_equal(&rt, rx.sender_count(), 1);
-    drop(tx);
-    expect_true(&rt, rx.is_closed());
-}
-
-#[test]
-fn example_of_clone_for_weak(rt: HostRuntime) {
-    let (tx, rx) = unbounded(&rt, rt.alloc()).expect(&rt, "unbounded");
-    let weak = tx.downgrade().expect(&rt, "downgrade");
-    let other = weak.clone().expect(&rt, "clone");
-    drop(weak);
-    other
-        .upgrade()
-        .ok_or("closed")
-        .expect(&rt, "ok_or")
-        .try_send("Foo", 0)
-        .expect(&rt, "try_send");
-    expect_equal(&rt, rx.try_recv(), Ok(("Foo", 0)));
-}
-
-#[test]
-fn example_of_send_timeout_error_into_inner(rt: HostRuntime) {
-    let (tx, rx) = bounded(&rt, rt.alloc(), 1).expect(&rt, "bounded");
-    drop(rx);
-    let refused = tx.send_timeout("Foo", 0, Duration::from_millis(5));
-    let unsent = refused.err().map(|error| error.into_inner());
-    expect_equal(&rt, unsent, Some(("Foo", 0)));
-}
-
-#[test]
-fn example_of_send_timeout_error_is_timeout(rt: HostRuntime) {
-    let (tx, _rx) = bounded(&rt, rt.alloc(), 1).expect(&rt, "bounded");
-    tx.try_send("Foo", 0).expect(&rt, "try_send");
-    let refused = tx.send_timeout("Bar", 2, Duration::from_millis(5));
-    expect_true(&rt, refused.is_err_and(|error| error.is_timeout()));
-}
-
-#[test]
-fn example_of_send_timeout_error_is_closed(rt: HostRuntime) {
+fn example_of_send_timeout_error(rt: HostRuntime) {
     let (tx, rx) = bounded(&rt, rt.alloc(), 1).expect(&rt, "bounded");
     drop(rx);
     let refused = tx.send_timeout("Foo", 0, Duration::from_millis(5));
     expect_true(&rt, refused.is_err_and(|error| error.is_closed()));
+    expect_true(
+        &rt,
+        refused.is_err_and(|error| error.into_inner() == ("Foo", 0)),
+    );
 }
 
 #[test]
-fn example_of_send_timeout_error_is_memory(rt: HostRuntime) {
-    let refused = SendTimeoutError::Memory(("Foo", 0));
-    expect_true(&rt, refused.is_memory() && !refused.is_timeout());
-}
-
-#[test]
-fn example_of_recv_timeout_error_is_timeout(rt: HostRuntime) {
+fn example_of_recv_timeout_error(rt: HostRuntime) {
     let (_tx, rx) = bounded::<&str, u64, _, _>(&rt, rt.alloc(), 1).expect(&rt, "bounded");
     let refused = rx.recv_timeout(Duration::from_millis(5));
     expect_true(&rt, refused.is_err_and(|error| error.is_timeout()));
-}
-
-#[test]
-fn example_of_recv_timeout_error_is_closed(rt: HostRuntime) {
-    let (tx, rx) = bounded::<&str, u64, _, _>(&rt, rt.alloc(), 1).expect(&rt, "bounded");
-    drop(tx);
-    let refused = rx.recv_timeout(Duration::from_millis(5));
-    expect_true(&rt, refused.is_err_and(|error| error.is_closed()));
-}
-
-#[test]
-fn example_of_recv_timeout_error_is_memory(rt: HostRuntime) {
-    let refused = RecvTimeoutError::Memory;
-    expect_true(&rt, refused.is_memory() && !refused.is_timeout());
 }
