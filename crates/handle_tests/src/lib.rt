@@ -1,6 +1,6 @@
-//! Tests of what handles do on one thread: each call's answer, weak handles, guards, streams,
-//! batches, peeks, evicting sends, takings, and which task is woken. Most are scripts, which one
-//! runner plays; what no script can tell is a test of its own.
+//! Tests of what handles do on one thread, and the tables of `call_tests` do not show: futures that
+//! are polled more than once or go, weak handles, what is asked and dropped where, texts, and long
+//! runs. Those of futures are scripts, which one runner plays.
 #![tactic(auto)]
 
 #[cfg(test)]

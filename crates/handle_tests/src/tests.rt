@@ -6,28 +6,19 @@ use script::Host;
 use std::fmt::Debug;
 use std::process::Abort;
 
-mod batches;
 mod bulk;
-mod closed;
-mod combined;
 mod contracts;
 mod drops;
-mod errors;
-mod evicting;
 mod examples;
-mod guards;
+mod handles;
 mod long;
-mod looks;
 mod messages;
-mod orders;
-mod peeks;
+mod scarce;
 mod script;
-mod streams;
 mod taking;
-mod tries;
+mod texts;
 mod waits;
 mod wakers;
-mod weak;
 
 /// `assert_eq!`, proved once: each one in place takes seconds of the check.
 fn expect_equal<X: PartialEq + Debug + Drop>(rt: &impl Abort, got: X, wanted: X) {

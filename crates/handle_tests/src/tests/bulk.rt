@@ -2,7 +2,7 @@
 //! pair that it takes and once more.
 use super::expect_equal_at;
 use super::script::Host;
-use async_priority_channel::{TrySendError, bounded};
+use async_priority_channel::bounded;
 use std::cell::Cell;
 use std::iter::Peekable;
 
@@ -54,13 +54,10 @@ fn send_five<R: Host>(rt: &R, room: u64, is_closed: bool) -> (u64, u64, u64) {
         calls: &calls,
     };
     let sent = tx.try_sendv(five.peekable());
-    let called = calls.get();
-    let accepted = rx.len().saturating_sub(1);
+    let (accepted, called) = (rx.len().saturating_sub(1), calls.get());
     match sent {
         Ok(()) => (accepted, called, 0),
-        Err(TrySendError::Full(rest)) => (accepted, called, count_pairs(rest)),
-        Err(TrySendError::Closed(rest)) => (accepted, called, count_pairs(rest)),
-        Err(TrySendError::Memory(rest)) => (accepted, called, count_pairs(rest)),
+        Err(error) => (accepted, called, count_pairs(error.into_inner())),
     }
 }
 
@@ -73,11 +70,7 @@ fn a_bulk_send_looks_one_pair_ahead(rt: HostRuntime) {
         (5, false, (5, 6, 0)),
         (6, false, (5, 6, 0)),
     ] {
-        expect_equal_at(
-            &rt,
-            (room, is_closed),
-            send_five(&rt, room, is_closed),
-            wanted,
-        );
+        let sent = send_five(&rt, room, is_closed);
+        expect_equal_at(&rt, (room, is_closed), sent, wanted);
     }
 }

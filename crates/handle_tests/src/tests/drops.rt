@@ -39,46 +39,28 @@ fn use_once<T: Drop, R: Wait + Clone + Clock>(
 
 #[derive(Clone, Copy, Debug)]
 enum Holder {
-    Unpolled,
-    Waiting,
-    Bulk,
-    WaitingBulk,
+    Send,
+    Sendv,
     /// The channel, whose last receiver goes.
     Channel,
 }
 
-const HOLDERS: [Holder; 5] = [
-    Holder::Unpolled,
-    Holder::Waiting,
-    Holder::Bulk,
-    Holder::WaitingBulk,
-    Holder::Channel,
-];
-
-// Drops what has that message, by itself or as all that it has. Tells whether it was as it says.
+// Drops what has that message, a future as it was made or as it waits. Tells whether it had it.
 fn drop_holder<T: Drop, R: Wait + Clone>(
     task: &MockTask,
     tx: &Sender<T, u64, R>,
     rx: Receiver<T, u64, R>,
     msg: T,
-    by: Holder,
+    (by, waits): (Holder, bool),
 ) -> bool {
     match by {
-        Holder::Unpolled => {
-            drop(tx.send(msg, 1));
-            true
-        }
-        Holder::Waiting => {
+        Holder::Send => {
             let mut sending = tx.send(msg, 1);
-            is_pending(task.poll(&mut sending))
+            !waits || is_pending(task.poll(&mut sending))
         }
-        Holder::Bulk => {
-            drop(tx.sendv(once((msg, 1)).peekable()));
-            true
-        }
-        Holder::WaitingBulk => {
+        Holder::Sendv => {
             let mut sending = tx.sendv(once((msg, 1)).peekable());
-            is_pending(task.poll(&mut sending))
+            !waits || is_pending(task.poll(&mut sending))
         }
         Holder::Channel => {
             let was_sent = rx.try_recv().is_ok() && tx.try_send(msg, 1).is_ok();
@@ -93,7 +75,13 @@ fn drop_holder<T: Drop, R: Wait + Clone>(
 #[test]
 fn a_message_is_dropped_outside_the_lock(rt: HostRuntime) {
     let task = MockTask::new(&rt).expect(&rt, "a task");
-    for by in HOLDERS {
+    for by in [
+        (Holder::Send, false),
+        (Holder::Send, true),
+        (Holder::Sendv, false),
+        (Holder::Sendv, true),
+        (Holder::Channel, false),
+    ] {
         let (ask, asked) = bounded(&rt, rt.alloc(), 1).expect(&rt, "a channel");
         let (use_it, used) = bounded(&rt, rt.alloc(), 1).expect(&rt, "a channel");
         let (told, tells) = bounded(&rt, rt.alloc(), 1).expect(&rt, "a channel");

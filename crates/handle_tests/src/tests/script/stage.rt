@@ -1,8 +1,7 @@
 //! What the names of a script stand for.
-use super::handles::{Handle, Rx, are_same, ask_receiver, ask_sender, look, make};
+use super::handles::{Handle, ask, clone};
 use super::lasting::{Lasting, begin, poll};
-use super::words::{Host, Text, joined, told};
-use async_priority_channel::Ends;
+use super::words::{Host, Text};
 use futures::test::MockTask;
 use std::alloc::Allocator;
 use std::collections::BTreeMap;
@@ -11,27 +10,13 @@ pub type Handles<R, A> = BTreeMap<Text, Handle<R, A>>;
 
 #[derive(Drop)]
 pub struct Stage<'a, R: Host, A: Allocator + Copy> {
-    handles: Handles<R, A>,
-    // Those that futures, streams and guards borrow.
+    pub handles: Handles<R, A>,
+    // Those that futures and streams borrow.
     lent: &'a Handles<R, A>,
     lasting: BTreeMap<Text, Lasting<'a, R, A>>,
     tasks: BTreeMap<Text, MockTask>,
-    // What the receives of many at once bring.
-    batch: Vec<(char, u64)>,
-    // What one future of such a receive brings.
-    lent_batch: Option<&'a mut Vec<(char, u64)>>,
-}
-
-fn find<'h, R: Host, A: Allocator + Copy>(
-    rt: &R,
-    lent: &'h Handles<R, A>,
-    handles: &'h Handles<R, A>,
-    name: Text,
-) -> &'h Handle<R, A> {
-    match handles.get(name) {
-        Some(handle) => handle,
-        None => lent.get(name).expect(rt, "a handle of this name"),
-    }
+    // What one future of a receive of many at once brings.
+    batch: Option<&'a mut Vec<(char, u64)>>,
 }
 
 pub fn put<V: Drop>(rt: &impl Host, named: &mut BTreeMap<Text, V>, name: Text, value: V) {
@@ -46,15 +31,14 @@ impl<'a, R: Host, A: Allocator + Copy> Stage<'a, R, A> {
         rt: &R,
         handles: Handles<R, A>,
         lent: &'a Handles<R, A>,
-        lent_batch: Option<&'a mut Vec<(char, u64)>>,
+        batch: Option<&'a mut Vec<(char, u64)>>,
     ) -> Self {
         Stage {
             handles,
             lent,
             lasting: BTreeMap::new(rt.alloc()),
             tasks: BTreeMap::new(rt.alloc()),
-            batch: Vec::new(rt.alloc()),
-            lent_batch,
+            batch,
         }
     }
 
@@ -63,56 +47,40 @@ impl<'a, R: Host, A: Allocator + Copy> Stage<'a, R, A> {
         self.handles
     }
 
-    pub fn open(&mut self, rt: &R, tx: Text, rx: Text, ends: Ends<char, u64, R, A>) {
-        put(rt, &mut self.handles, tx, Handle::Sender(ends.0));
-        put(rt, &mut self.handles, rx, Handle::Receiver(ends.1));
-    }
-
-    // Asks all handles, and tells what the first one tells that does not tell what it should.
-    pub fn look(&self, rt: &R, wanted: Text) -> String {
-        for (name, handle) in self.handles.iter().chain(self.lent.iter()) {
-            let told = look(rt, handle, wanted);
-            if told.as_str() != wanted {
-                return joined(rt, &[told.as_str(), " of ", name]);
-            }
+    fn find(&self, rt: &R, name: Text) -> &Handle<R, A> {
+        match self.handles.get(name) {
+            Some(handle) => handle,
+            None => self.lent.get(name).expect(rt, "a handle of this name"),
         }
-        String::from_str(rt.alloc(), wanted).expect(rt, "memory")
     }
 
-    pub fn make(&mut self, rt: &R, name: Text, by: Text, call: &[Text]) -> String {
+    pub fn ask(&self, rt: &R, name: Text, call: &[Text]) -> String {
+        ask(rt, self.find(rt, name), call)
+    }
+
+    pub fn make(&mut self, rt: &R, name: Text, by: Text, call: &[Text]) {
         match call {
-            [call @ ("clone" | "downgrade" | "upgrade")] => {
-                match make(rt, find(rt, self.lent, &self.handles, by), *call) {
-                    Some(Ok(handle)) => {
-                        put(rt, &mut self.handles, name, handle);
-                    }
-                    Some(Err(error)) => return told(rt, error),
-                    None => return told(rt, None::<()>),
+            ["clone"] => {
+                let other = clone(rt, self.find(rt, by));
+                put(rt, &mut self.handles, name, other);
+            }
+            ["into_stream"] => match self.handles.remove(by) {
+                Some(Handle::Receiver(rx)) => {
+                    self.keep(rt, name, Lasting::IntoStream(rx.into_stream()));
                 }
-            }
-            ["into_stream"] => {
-                let rx = self.take_receiver(rt, by);
-                self.keep(rt, name, Lasting::IntoStream(rx.into_stream()));
-            }
+                _ => panic!(rt; "no receiver {by}"),
+            },
             _ => {
                 let lender = self.lent.get(by).expect(rt, "a handle that is lent");
-                let lasting = begin(rt, lender, &mut self.lent_batch, call);
+                let lasting = begin(rt, lender, &mut self.batch, call);
                 self.keep(rt, name, lasting);
             }
         }
-        String::new(rt.alloc())
     }
 
     fn keep(&mut self, rt: &R, name: Text, lasting: Lasting<'a, R, A>) {
         if self.lasting.insert(name, lasting).is_err() {
             panic!(rt; "memory for {name}");
-        }
-    }
-
-    pub fn take_receiver(&mut self, rt: &R, name: Text) -> Rx<R, A> {
-        match self.handles.remove(name) {
-            Some(Handle::Receiver(rx)) => rx,
-            _ => panic!(rt; "no receiver of this name"),
         }
     }
 
@@ -129,22 +97,7 @@ impl<'a, R: Host, A: Allocator + Copy> Stage<'a, R, A> {
     }
 
     pub fn rest(&self, rt: &R, task: Text) {
-        match self.tasks.get(task) {
-            Some(task) => task.enter(|_| {}),
-            None => panic!(rt; "no task {task}"),
-        }
-    }
-
-    pub fn batch(&self, rt: &R) -> String {
-        told(rt, &self.batch)
-    }
-
-    pub fn drop_named(&mut self, rt: &R, name: Text) {
-        let handle = self.handles.remove(name);
-        let lasting = self.lasting.remove(name);
-        if handle.is_none() && lasting.is_none() {
-            panic!(rt; "nothing has the name {name}");
-        }
+        self.tasks.get(task).expect(rt, "a task").enter(|_| {});
     }
 
     pub fn woken(&self, rt: &R) -> String {
@@ -159,23 +112,11 @@ impl<'a, R: Host, A: Allocator + Copy> Stage<'a, R, A> {
         names
     }
 
-    pub fn ask(&mut self, rt: &R, name: Text, call: &[Text]) -> String {
-        let Stage {
-            handles,
-            lent,
-            batch,
-            ..
-        } = self;
-        let handle = find(rt, lent, handles, name);
-        match (handle, call) {
-            (_, ["same_channel", other]) => {
-                told(rt, are_same(handle, find(rt, lent, handles, *other)))
-            }
-            (Handle::Sender(tx), _) => ask_sender(rt, tx, call),
-            (Handle::Receiver(rx), _) => ask_receiver(rt, rx, batch, call),
-            (Handle::WeakSender(weak), ["debug"]) => told(rt, weak),
-            (Handle::WeakReceiver(weak), ["debug"]) => told(rt, weak),
-            _ => panic!(rt; "no such call: {call:?}"),
+    pub fn drop_named(&mut self, rt: &R, name: Text) {
+        let handle = self.handles.remove(name);
+        let lasting = self.lasting.remove(name);
+        if handle.is_none() && lasting.is_none() {
+            panic!(rt; "nothing has the name {name}");
         }
     }
 }

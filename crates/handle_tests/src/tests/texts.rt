@@ -1,11 +1,12 @@
-//! What the errors print.
+//! What errors and handles print.
 use super::expect_equal;
 use async_priority_channel::{
     RecvError, RecvFault, RecvTimeoutError, SendError, SendFault, SendTimeoutError, TryRecvError,
-    TryRecvManyError, TrySendError,
+    TryRecvManyError, TrySendError, bounded,
 };
 use std::alloc::AllocGlobal;
 use std::error::Error;
+use std::fmt::Debug;
 use std::process::Abort;
 
 /// A message that can be neither printed nor compared.
@@ -18,24 +19,25 @@ fn expect_texts<R: Abort + AllocGlobal>(rt: &R, error: impl Error + Drop, texts:
     expect_equal(rt, printed.as_str(), texts);
 }
 
+fn expect_name<R: Abort + AllocGlobal>(rt: &R, handle: &impl Debug, name: &str) {
+    let printed = format!(in rt.alloc(); "{handle:?}").expect(rt, "memory");
+    expect_equal(rt, printed.as_str(), name);
+}
+
 #[test]
 fn errors_of_sends_print_why_and_not_what(rt: HostRuntime) {
+    let full = "sending into a full channel / Full(..)";
     let closed = "sending into a closed channel / Closed(..)";
+    let late = "sending into a full channel timed out / Timeout(..)";
     let memory = "no memory for sending / Memory(..)";
-    let error = SendError(Opaque);
-    expect_texts(&rt, error, "sending into a closed channel / SendError(..)");
-    let error = TrySendError::Full(Opaque);
-    expect_texts(&rt, error, "sending into a full channel / Full(..)");
+    let error = "sending into a closed channel / SendError(..)";
+    expect_texts(&rt, SendError(Opaque), error);
+    expect_texts(&rt, TrySendError::Full(Opaque), full);
     expect_texts(&rt, TrySendError::Closed(Opaque), closed);
     expect_texts(&rt, TrySendError::Memory(Opaque), memory);
     expect_texts(&rt, SendFault::Closed(SendError(Opaque)), closed);
     expect_texts(&rt, SendFault::Memory(Opaque), memory);
-    let error = SendTimeoutError::Timeout(Opaque);
-    expect_texts(
-        &rt,
-        error,
-        "sending into a full channel timed out / Timeout(..)",
-    );
+    expect_texts(&rt, SendTimeoutError::Timeout(Opaque), late);
     expect_texts(&rt, SendTimeoutError::Closed(Opaque), closed);
     expect_texts(&rt, SendTimeoutError::Memory(Opaque), memory);
 }
@@ -44,32 +46,30 @@ fn errors_of_sends_print_why_and_not_what(rt: HostRuntime) {
 fn errors_of_receives_print_why(rt: HostRuntime) {
     let empty = "receiving from an empty channel / Empty";
     let closed = "receiving from an empty and closed channel / Closed";
+    let late = "receiving from an empty channel timed out / Timeout";
     let memory = "no memory for receiving / Memory";
-    let error = RecvError;
-    expect_texts(
-        &rt,
-        error,
-        "receiving from an empty and closed channel / RecvError",
-    );
+    let error = "receiving from an empty and closed channel / RecvError";
+    let fault = "receiving from an empty and closed channel / Closed(RecvError)";
+    expect_texts(&rt, RecvError, error);
     expect_texts(&rt, TryRecvError::Empty, empty);
     expect_texts(&rt, TryRecvError::Closed, closed);
     expect_texts(&rt, TryRecvManyError::Empty, empty);
     expect_texts(&rt, TryRecvManyError::Closed, closed);
-    let error = TryRecvManyError::Memory;
-    expect_texts(&rt, error, "no memory for receiving / Memory");
-    let error = RecvFault::Closed(RecvError);
-    expect_texts(
-        &rt,
-        error,
-        "receiving from an empty and closed channel / Closed(RecvError)",
-    );
+    expect_texts(&rt, TryRecvManyError::Memory, memory);
+    expect_texts(&rt, RecvFault::Closed(RecvError), fault);
     expect_texts(&rt, RecvFault::Memory, memory);
-    let error = RecvTimeoutError::Timeout;
-    expect_texts(
-        &rt,
-        error,
-        "receiving from an empty channel timed out / Timeout",
-    );
+    expect_texts(&rt, RecvTimeoutError::Timeout, late);
     expect_texts(&rt, RecvTimeoutError::Closed, closed);
     expect_texts(&rt, RecvTimeoutError::Memory, memory);
+}
+
+#[test]
+fn handles_print_their_names(rt: HostRuntime) {
+    let (tx, rx) = bounded::<Opaque, u64, _, _>(&rt, rt.alloc(), 1).expect(&rt, "a channel");
+    let senders = tx.downgrade().expect(&rt, "a weak handle");
+    let receivers = rx.downgrade().expect(&rt, "a weak handle");
+    expect_name(&rt, &tx, "Sender { .. }");
+    expect_name(&rt, &rx, "Receiver { .. }");
+    expect_name(&rt, &senders, "WeakSender { .. }");
+    expect_name(&rt, &receivers, "WeakReceiver { .. }");
 }

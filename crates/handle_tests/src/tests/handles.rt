@@ -1,0 +1,68 @@
+//! Weak handles, and to which channel handles belong.
+use super::script::Host;
+use super::{expect_equal, expect_equal_at};
+use async_priority_channel::{End, Role, bounded};
+
+// A weak handle counts for nothing beside the last of its side, and opens nothing behind it.
+fn expect_closed_by_last<S: Role, O: Role, R: Host>(
+    rt: &R,
+    end: End<S, char, u64, R>,
+    other: &End<O, char, u64, R>,
+) {
+    let weak = end.downgrade().expect(rt, "a weak handle");
+    let weak = weak.clone().expect(rt, "a weak handle");
+    let beside = other.downgrade().expect(rt, "a weak handle");
+    let upgraded = weak.upgrade().expect(rt, "a handle");
+    drop(end);
+    let counts = (other.sender_count(), other.receiver_count());
+    expect_equal(rt, (counts, weak.is_closed()), ((1, 1), false));
+    drop(upgraded);
+    let late = other.downgrade().expect(rt, "a weak handle");
+    for (round, is_closed, is_upgraded) in [
+        ("weak", weak.is_closed(), weak.upgrade().is_some()),
+        ("beside", beside.is_closed(), beside.upgrade().is_some()),
+        ("late", late.is_closed(), late.upgrade().is_some()),
+    ] {
+        expect_equal_at(rt, round, (is_closed, is_upgraded), (true, false));
+    }
+    let counts = other.sender_count().wrapping_add(other.receiver_count());
+    expect_equal(rt, (counts, other.is_closed()), (1, true));
+}
+
+#[test]
+fn the_last_handle_closes_beside_weak_ones(rt: HostRuntime) {
+    let (tx, rx) = bounded(&rt, rt.alloc(), 1).expect(&rt, "a channel");
+    expect_closed_by_last(&rt, tx, &rx);
+    let (tx, rx) = bounded(&rt, rt.alloc(), 1).expect(&rt, "a channel");
+    expect_closed_by_last(&rt, rx, &tx);
+}
+
+// Only a receiver's guard does.
+#[test]
+fn a_senders_guard_lets_nothing_go(rt: HostRuntime) {
+    let (tx, rx) = bounded(&rt, rt.alloc(), 1).expect(&rt, "a channel");
+    expect_equal(&rt, tx.try_send('x', 1u64), Ok(()));
+    drop(tx.close_on_drop());
+    drop(rx);
+    expect_equal(&rt, (tx.len(), tx.is_closed()), (1, true));
+}
+
+// Of each two channels of many, those are the same that are one.
+#[test]
+fn each_of_many_channels_is_itself_alone(rt: HostRuntime) {
+    let mut ends = Vec::new(rt.alloc());
+    for _ in 0..12 {
+        let (tx, rx) = bounded::<u64, u64, _, _>(&rt, rt.alloc(), 1).expect(&rt, "a channel");
+        let other_tx = tx.clone().expect(&rt, "a sender");
+        let weak = rx.downgrade().expect(&rt, "a weak handle");
+        let other_rx = weak.upgrade().expect(&rt, "a receiver");
+        ends.push((tx, rx, other_tx, other_rx))
+            .expect(&rt, "memory");
+    }
+    for (one, (tx, rx, ..)) in ends.iter().enumerate() {
+        for (other, (.., other_tx, other_rx)) in ends.iter().enumerate() {
+            let are_same = (tx.same_channel(other_tx), rx.same_channel(other_rx));
+            expect_equal(&rt, are_same, (one == other, one == other));
+        }
+    }
+}

@@ -1,0 +1,44 @@
+//! Memory that is not the channel's: a batch's, and that of priorities.
+use super::expect_equal;
+use async_priority_channel::{RecvTimeoutError, TryRecvManyError, unbounded};
+use refusing::Refusing;
+use std::time::Duration;
+
+#[test]
+fn a_batch_takes_what_there_is_place_for(rt: HostRuntime) {
+    let alloc = Refusing::new(rt.alloc());
+    let (tx, rx) = unbounded(&rt, rt.alloc()).expect(&rt, "a channel");
+    for pair in [('a', 3u64), ('b', 1), ('c', 7)] {
+        expect_equal(&rt, tx.try_send(pair.0, pair.1), Ok(()));
+    }
+    let mut batch = Vec::with_capacity(&alloc, 3).expect(&rt, "memory");
+    batch.push(('z', 0)).expect(&rt, "memory");
+    alloc.refuse_all();
+    expect_equal(&rt, rx.try_recv_many(&mut batch, 3), Ok(2));
+    let refused = rx.try_recv_many(&mut batch, 3);
+    expect_equal(&rt, refused, Err(TryRecvManyError::Memory));
+    expect_equal(&rt, rx.try_recv_many(&mut batch, 0), Ok(0));
+    let wanted = [('z', 0), ('c', 7), ('a', 3)];
+    expect_equal(&rt, batch.as_slice(), wanted.as_slice());
+    expect_equal(&rt, rx.try_recv(), Ok(('b', 1)));
+    // Without a place for a first message there is nothing to wait for.
+    let refused = rx.recv_many_timeout(&mut batch, 3, Duration::ZERO);
+    expect_equal(&rt, refused, Err(RecvTimeoutError::Memory));
+}
+
+// The priorities own memory, so that a clone asks for some.
+#[test]
+fn a_refused_clone_of_a_priority_is_an_error(rt: HostRuntime) {
+    let alloc = Refusing::new(rt.alloc());
+    let (tx, rx) = unbounded(&rt, rt.alloc()).expect(&rt, "a channel");
+    for (msg, priority) in [('l', 1u8), ('h', 9)] {
+        let mut levels = Vec::with_capacity(&alloc, 1).expect(&rt, "memory");
+        levels.push(priority).expect(&rt, "memory");
+        expect_equal(&rt, tx.try_send(msg, levels).is_ok(), true);
+    }
+    alloc.refuse_all();
+    expect_equal(&rt, rx.peek_priority().is_err(), true);
+    // To look takes none, and nothing was taken.
+    expect_equal(&rt, rx.peek_with(|msg, _| *msg), Some('h'));
+    expect_equal(&rt, rx.len(), 2);
+}
