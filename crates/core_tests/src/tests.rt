@@ -9,16 +9,11 @@ mod iterators;
 mod lists;
 mod long;
 mod memory;
-mod plain;
-mod random;
 mod rows;
 mod runs;
 mod script;
 mod spins;
-mod states;
 mod uses;
-mod waits;
-mod word;
 
 /// `assert!`, proved once: each one in place takes a second of the check.
 fn expect_true(rt: &impl Abort, holds: bool, what: &str) {

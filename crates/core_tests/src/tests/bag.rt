@@ -1,8 +1,7 @@
-//! The bag compares seldom, in either heap, and a reserved one asks for memory once.
+//! The bag compares seldom and keeps its order, in either heap.
 use super::{expect_equal, expect_true};
 use priority_channel_core::bag::Bag;
 use priority_channel_core::comparisons::Comparisons;
-use refusing::Refusing;
 use std::cell::Cell;
 use std::cmp::Ordering;
 use std::mem::size_of;
@@ -115,6 +114,24 @@ fn drain(rt: &impl Abort, bag: &mut Counting<'_>, count: &Cell<u64>, heap: &str)
     }
 }
 
+// Displaces as many pairs as there are, the least first, by greater ones.
+fn displace<'a>(rt: &impl Abort, bag: &mut Counting<'a>, count: &'a Cell<u64>) {
+    let most = digits_of(MANY).wrapping_mul(2).wrapping_add(1);
+    let mut last = 0;
+    for number in 0..MANY {
+        let value = (number ^ 0x2aa).wrapping_add(0x8000_0000);
+        assert!(rt; bag.can_push());
+        count.set(0);
+        let displaced = bag.displace(number, Counted { value, count });
+        let (_, least) = displaced.ok().expect(rt, "a pair that makes room");
+        assert!(rt;
+            count.get() <= most && last <= least.value,
+            "displacement {number}"
+        );
+        last = least.value;
+    }
+}
+
 // Also comparisons that go past the counter are seen here.
 #[test]
 fn a_bag_compares_seldom_at_each_length(rt: HostRuntime) {
@@ -128,37 +145,8 @@ fn a_bag_compares_seldom_at_each_length(rt: HostRuntime) {
     let displaced = bag.displace(0, Counted { value: 0, count });
     expect_true(&rt, displaced.is_err(), "nothing to displace");
     fill(&rt, &mut bag, count, "interval heap");
-    count.set(0);
-    assert!(rt; bag.can_push());
-    let displaced = bag.displace(
-        0,
-        Counted {
-            value: 1 << 30,
-            count,
-        },
-    );
-    expect_true(&rt, displaced.is_ok(), "the least makes room");
-    let most = digits_of(MANY).wrapping_mul(2).wrapping_add(1);
-    assert!(rt; count.get() <= most, "a displacement");
+    displace(&rt, &mut bag, count);
     drain(&rt, &mut bag, count, "interval heap");
     // What counts them for the contracts.
     expect_equal(&rt, size_of::<Comparisons>(), 0);
-}
-
-#[test]
-fn a_reserved_bag_asks_for_memory_once(rt: HostRuntime) {
-    let alloc = Refusing::new(rt.alloc());
-    alloc.refuse_nth(1);
-    let refused: Result<Bag<u64, u64, &Refusing<_>>, _> = Bag::reserved(&alloc, 2);
-    expect_true(&rt, refused.is_err(), "the memory of two slots");
-    let made: Result<Bag<u64, u64, &Refusing<_>>, _> = Bag::reserved(&alloc, 2);
-    let mut bag = made.expect(&rt, "two slots");
-    alloc.refuse_all();
-    bag.push(1, 1);
-    bag.push(2, 2);
-    expect_true(&rt, bag.make_slot().is_err(), "the memory of a third");
-    expect_equal(&rt, bag.pop(), Some((2, 2)));
-    expect_true(&rt, bag.make_slot().is_ok(), "a slot that is free");
-    expect_equal(&rt, (bag.pop(), bag.pop()), (Some((1, 1)), None));
-    expect_equal(&rt, bag.len(), 0);
 }

@@ -7,7 +7,7 @@
 use priority_channel_core::awaitable_atomics::Wakes;
 use priority_channel_core::calls::CorePoll;
 use priority_channel_core::channel::PriorityQueueChannel;
-use priority_channel_core::errors::{SendError, SendFault, TrySendError};
+use priority_channel_core::errors::{SendFault, TrySendError};
 use refusing::Refusing;
 use std::alloc::{AllocError, AllocGlobal, Allocator, Global};
 use std::fmt;
@@ -27,15 +27,15 @@ pub fn number(word: &str) -> u64 {
 }
 
 /// None is `-`.
-pub fn ticket(word: &str) -> Option<u64> {
+fn ticket(word: &str) -> Option<u64> {
     word.parse().ok()
 }
 
-pub fn letter(word: &str) -> char {
+fn letter(word: &str) -> char {
     word.chars().next().unwrap_or('?')
 }
 
-pub fn pair(word: &str) -> Pair {
+fn pair(word: &str) -> Pair {
     let msg = letter(word);
     (msg, number(word.strip_prefix(msg).unwrap_or("")))
 }
@@ -84,7 +84,7 @@ impl Debug for Numbered<'_> {
 
 /// Why a send was refused, and what came back.
 #[derive(Debug, Drop)]
-pub enum Unsent<K> {
+enum Unsent<K> {
     Full(K),
     Closed(K),
     Memory(K),
@@ -102,20 +102,17 @@ impl<K> From<TrySendError<K>> for Unsent<K> {
 
 impl<K> From<SendFault<K>> for Unsent<K> {
     fn from(fault: SendFault<K>) -> Unsent<K> {
-        match fault {
-            SendFault::Closed(SendError(held)) => Unsent::Closed(held),
-            SendFault::Memory(held) => Unsent::Memory(held),
-        }
+        Unsent::from(TrySendError::from(fault))
     }
 }
 
-pub type Sent<K> = Result<(), Unsent<K>>;
+type Sent<K> = Result<(), Unsent<K>>;
 
-pub fn list<R: Abort + AllocGlobal>(rt: &R, rest: Pairs) -> Vec<Pair> {
+fn list<R: Abort + AllocGlobal>(rt: &R, rest: Pairs) -> Vec<Pair> {
     rest.collect(rt.alloc()).expect(rt, "memory")
 }
 
-pub fn listed<R: Abort + AllocGlobal>(rt: &R, sent: Sent<Pairs>) -> Sent<Vec<Pair>> {
+fn listed<R: Abort + AllocGlobal>(rt: &R, sent: Sent<Pairs>) -> Sent<Vec<Pair>> {
     match sent {
         Ok(()) => Ok(()),
         Err(Unsent::Full(rest)) => Err(Unsent::Full(list(rt, rest))),
@@ -146,7 +143,7 @@ pub fn said_to<R: Abort + AllocGlobal, W: Debug + Drop, A: Allocator>(
     said.expect(rt, "memory")
 }
 
-pub fn told<'a, R: Abort + AllocGlobal>(
+fn told<'a, R: Abort + AllocGlobal>(
     rt: &R,
     answer: impl Debug + Drop,
     wakes: Wakes<Numbered<'a>, &'a Refusing<Global>>,

@@ -1,5 +1,4 @@
-//! What the errors of the core print, and which are equal. What they hold, tell and turn into,
-//! their clauses say.
+//! What the errors of the core print. What they hold, tell and turn into, their clauses say.
 use super::expect_equal;
 use priority_channel_core::errors::{
     RecvError, RecvFault, SendError, SendFault, TryRecvError, TryRecvManyError, TrySendError,
@@ -49,41 +48,4 @@ fn errors_print_why_and_not_what(rt: HostRuntime) {
     expect_texts(&rt, TryRecvManyError::Memory, RECV_MEMORY, "Memory");
     expect_texts(&rt, closed, RECV_CLOSED, "Closed(RecvError)");
     expect_texts(&rt, RecvFault::Memory, RECV_MEMORY, "Memory");
-}
-
-// Of errors that all differ, each equals itself and its clone alone.
-fn expect_apart<E: PartialEq + Clone + Drop>(rt: &impl Abort, errors: &[E]) {
-    for (at, error) in errors.iter().enumerate() {
-        let clone = error.clone().expect(rt, "a clone");
-        let found = errors.iter().position(|other| *other == clone);
-        expect_equal(rt, found, Some(at));
-    }
-}
-
-#[test]
-fn errors_are_equal_where_variant_and_content_are(rt: HostRuntime) {
-    let copy = SendError(1);
-    expect_equal(&rt, copy, SendError(1));
-    expect_apart(&rt, &[copy, SendError(2)]);
-    expect_apart(
-        &rt,
-        &[
-            TrySendError::Full(1),
-            TrySendError::Full(2),
-            TrySendError::Closed(1),
-            TrySendError::Memory(1),
-        ],
-    );
-    expect_apart(
-        &rt,
-        &[
-            SendFault::Memory(1),
-            SendFault::Closed(copy),
-            SendFault::Memory(2),
-        ],
-    );
-    expect_apart(&rt, &[RecvError]);
-    expect_apart(&rt, &[TryRecvError::Empty, TryRecvError::Closed]);
-    expect_apart(&rt, &[RecvFault::Memory, RecvFault::Closed(RecvError)]);
-    expect_apart(&rt, &[TryRecvManyError::Memory, TryRecvManyError::Empty]);
 }

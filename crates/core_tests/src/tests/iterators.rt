@@ -5,7 +5,6 @@ use super::{expect_equal, expect_true};
 use priority_channel_core::awaitable_atomics::Wakes;
 use priority_channel_core::calls::CorePoll;
 use priority_channel_core::channel::PriorityQueueChannel;
-use priority_channel_core::errors::{SendError, SendFault, TrySendError};
 use std::cell::Cell;
 use std::iter::{Peekable, once, repeat_n};
 use std::process::Abort;
@@ -87,45 +86,33 @@ fn expect_next(rt: &impl Abort, mut rest: Peekable<Asked<'_>>, wanted: [Option<u
     expect_equal(rt, got, wanted);
 }
 
+#[test]
+fn a_bulk_send_asks_for_one_pair_more_than_it_takes(rt: HostRuntime) {
+    let count = Cell::new(0);
+    // Two just fill it.
+    for end in [1u64, 2, 3] {
+        let mut core = Core::bounded(rt.alloc(), 2);
+        let sent = unwoken(core.try_sendv(counting(&count, [end, end])));
+        let told = (sent.is_ok(), count.get(), core.len().wrapping_add(1));
+        expect_equal(&rt, told, (true, end, end));
+        let mut core = Core::bounded(rt.alloc(), 2);
+        let polled = unwoken(core.poll_sendv(counting(&count, [end, end]), None, &7));
+        let sent = matches!(polled, CorePoll::Ready(Ok(())));
+        let told = (sent, count.get(), core.len().wrapping_add(1));
+        expect_equal(&rt, told, (true, end, end));
+    }
+    let mut core = Core::bounded(rt.alloc(), 2);
+    let sent = unwoken(core.try_sendv(counting(&count, [6, 8])));
+    expect_equal(&rt, (count.get(), core.len()), (3, 2));
+    let rest = sent.err().expect(&rt, "no room for all").into_inner();
+    // Behind its end too.
+    expect_next(&rt, rest, [Some(3), Some(4), Some(5), None, Some(7)]);
+}
+
 // No question was asked before.
 fn expect_untouched(rt: &impl Abort, count: &Cell<u64>, rest: Peekable<Asked<'_>>) {
     expect_equal(rt, count.get(), 0);
     expect_next(rt, rest, [Some(1), Some(2), Some(3), Some(4), Some(5)]);
-}
-
-#[test]
-fn a_bulk_send_asks_for_one_pair_more_than_it_takes(rt: HostRuntime) {
-    let count = Cell::new(0);
-    let mut core = Core::bounded(rt.alloc(), 2);
-    let Err(TrySendError::Full(rest)) = unwoken(core.try_sendv(counting(&count, [6, 8]))) else {
-        panic!(rt; "it took all");
-    };
-    expect_equal(&rt, (count.get(), core.len()), (3, 2));
-    // Behind its end too.
-    expect_next(&rt, rest, [Some(3), Some(4), Some(5), None, Some(7)]);
-
-    let mut core = Core::bounded(rt.alloc(), 2);
-    expect_true(
-        &rt,
-        unwoken(core.try_sendv(counting(&count, [3, 3]))).is_ok(),
-        "two just fill it",
-    );
-    expect_equal(&rt, (count.get(), core.len()), (3, 2));
-
-    let mut core = Core::bounded(rt.alloc(), 9);
-    expect_true(
-        &rt,
-        unwoken(core.try_sendv(counting(&count, [2, 2]))).is_ok(),
-        "one, and an end",
-    );
-    expect_equal(&rt, (count.get(), core.len()), (2, 1));
-    let polled = unwoken(core.poll_sendv(counting(&count, [1, 1]), None, &7));
-    expect_true(
-        &rt,
-        matches!(polled, CorePoll::Ready(Ok(()))),
-        "an end at once",
-    );
-    expect_equal(&rt, (count.get(), core.len()), (1, 1));
 }
 
 #[test]
@@ -134,9 +121,8 @@ fn a_bulk_send_does_not_touch_its_iterator_where_it_takes_nothing(rt: HostRuntim
     let mut core = Core::bounded(rt.alloc(), 1);
     expect_equal(&rt, unwoken(core.try_send(1, 1)), Ok(()));
 
-    let Err(TrySendError::Full(rest)) = unwoken(core.try_sendv(counting(&count, [6, 6]))) else {
-        panic!(rt; "it was not full");
-    };
+    let sent = unwoken(core.try_sendv(counting(&count, [6, 6])));
+    let rest = sent.err().expect(&rt, "a full channel").into_inner();
     expect_untouched(&rt, &count, rest);
     let polled = unwoken(core.poll_sendv(counting(&count, [6, 6]), None, &7));
     let CorePoll::Pending(rest, 0) = polled else {
@@ -145,13 +131,12 @@ fn a_bulk_send_does_not_touch_its_iterator_where_it_takes_nothing(rt: HostRuntim
     expect_untouched(&rt, &count, rest);
 
     expect_true(&rt, unwoken(core.close()), "a close");
-    let Err(TrySendError::Closed(rest)) = unwoken(core.try_sendv(counting(&count, [6, 6]))) else {
-        panic!(rt; "it was not closed");
-    };
+    let sent = unwoken(core.try_sendv(counting(&count, [6, 6])));
+    let rest = sent.err().expect(&rt, "a closed channel").into_inner();
     expect_untouched(&rt, &count, rest);
     let polled = unwoken(core.poll_sendv(counting(&count, [6, 6]), None, &7));
-    let CorePoll::Ready(Err(SendFault::Closed(SendError(rest)))) = polled else {
+    let CorePoll::Ready(Err(fault)) = polled else {
         panic!(rt; "the poll was not closed");
     };
-    expect_untouched(&rt, &count, rest);
+    expect_untouched(&rt, &count, fault.into_inner());
 }

@@ -1,9 +1,5 @@
 //! Where memory is refused, the core hands back what it was to take.
-use super::calls::{Core, pairs};
-use super::expect_equal;
 use super::script::{play, play_refused};
-use priority_channel_core::errors::TrySendError;
-use refusing::Refusing;
 
 #[test]
 fn a_reserved_channel_needs_no_memory(rt: HostRuntime) {
@@ -51,22 +47,6 @@ fn what_is_refused_comes_back_and_waits_no_more(rt: HostRuntime) {
     );
 }
 
-#[test]
-fn a_list_that_came_back_is_sent_again(rt: HostRuntime) {
-    let alloc = Refusing::new(rt.alloc());
-    let mut core: Core<'_> = Core::bounded(&alloc, 10);
-    alloc.refuse_nth(1);
-    let (sent, wakes) = core.try_sendv(pairs(&rt, &["a0", "b1"]).into_iter().peekable());
-    let (_room, _message) = wakes.into_lists();
-    let Err(TrySendError::Memory(rest)) = sent else {
-        panic!(rt; "it was not refused");
-    };
-    expect_equal(&rt, core.len(), 0);
-    let (sent, wakes) = core.try_sendv(rest);
-    let (_room, _message) = wakes.into_lists();
-    expect_equal(&rt, (sent.is_ok(), core.len()), (true, 2));
-}
-
 // Each message is in one call, and is accepted there or comes back.
 #[test]
 fn each_request_may_be_refused(rt: HostRuntime) {
@@ -92,27 +72,13 @@ fn each_request_may_be_refused(rt: HostRuntime) {
         try_send m1 = Err(Closed(('m', 1)))",
         "abcdefghijklm",
     );
-    // Each growth of a vector.
+    // Each growth of the pairs that are pending.
     play_refused(
         &rt,
         "
         unbounded
-        A is sendv a1 b1 c1 d1 e1 f1 g1 h1 i1 j1 k1
-        A poll 1 = Ready(Ok(()))
+        try_sendv a1 b1 c1 d1 e1 f1 g1 h1 i1 j1 k1
         try_sendv l1 m1 n1 o1 p1 q1 r1 s1 t1",
         "abcdefghijklmnopqrst",
-    );
-    play_refused(
-        &rt,
-        "
-        bounded 2
-        A is sendv a1 b2 c4 d8 e9
-        A poll 7 = Pending
-        try_recv = Ok(('b', 2)), room [(0, 7)]
-        A poll 7 = Pending
-        try_recv = Ok(('c', 4)), room [(1, 7)]
-        A poll 7 = Pending
-        A give_up = Some([('e', 9)])",
-        "abcde",
     );
 }

@@ -2,113 +2,55 @@
 //!
 //! Calls stand on lines or between semicolons, and behind ` = ` what comes of a call, where that is
 //! more than `()` or `Ok(())`. `bounded 2`, `reserved 2` and `unbounded` make a new channel.
-//! `refuse` names the requests for memory that are refused from then on. `A is send x5` makes the
-//! state of a future, and `A` with a call asks it. What stands behind `#` is for the reader.
-use super::calls::{Core, ask, ask_to_wait, letter, number, said};
-use super::plain::Plain;
-use super::states::State;
+//! `refuse` names the requests for memory that are refused from then on. What stands behind `#` is
+//! for the reader.
+use super::calls::{Core, ask, ask_to_wait, number, said};
 use refusing::Refusing;
 use std::alloc::{AllocError, AllocGlobal, Global};
-use std::collections::BTreeMap;
 use std::process::Abort;
 
 // The largest capacity of a reserved channel.
 const MOST: u64 = 9223372036854775807;
 
-/// A core with its states, and the list that makes the same calls, while memory is not refused and
-/// no state is made.
+/// A core, and what refuses its requests for memory.
 #[derive(Drop)]
-pub struct Stage<'a> {
+struct Stage<'a> {
     alloc: &'a Refusing<Global>,
     core: Core<'a>,
-    states: BTreeMap<char, State>,
-    beside: Option<Plain>,
 }
 
-impl<'a> Stage<'a> {
-    pub fn new<R: AllocGlobal>(rt: &R, alloc: &'a Refusing<Global>) -> Self {
-        Stage {
-            alloc,
-            core: Core::unbounded(alloc),
-            states: BTreeMap::new(rt.alloc()),
-            beside: None,
-        }
-    }
-
-    /// Makes a call, and tells what came of it.
-    pub fn make<R: Abort + AllocGlobal>(&mut self, rt: &R, call: &str) -> String {
+impl Stage<'_> {
+    // Makes a call, and tells what came of it.
+    fn make<R: Abort + AllocGlobal>(&mut self, rt: &R, call: &str) -> String {
         let words: Vec<&str> = call
             .split_whitespace()
             .collect(rt.alloc())
             .expect(rt, "memory");
         match words.as_slice() {
-            ["unbounded"] => self.open(rt, Core::unbounded(self.alloc), u64::MAX),
+            ["unbounded"] => self.core = Core::unbounded(self.alloc),
             ["bounded", capacity] => {
                 let capacity = number(*capacity);
                 assert!(rt; 0 < capacity);
-                self.open(rt, Core::bounded(self.alloc, capacity), capacity)
+                self.core = Core::bounded(self.alloc, capacity);
             }
             ["reserved", capacity] => {
                 let capacity = number(*capacity);
                 assert!(rt; 0 < capacity && capacity <= MOST);
-                let made: Result<Core<'_>, AllocError> = Core::bounded_reserved(
-                    self.alloc, capacity,
-                );
+                let made: Result<_, AllocError> = Core::bounded_reserved(self.alloc, capacity);
                 match made {
-                    Ok(core) => self.open(rt, core, capacity),
-                    Err(error) => said(rt, error),
+                    Ok(core) => self.core = core,
+                    Err(error) => return said(rt, error),
                 }
             }
-            ["refuse", which] => {
-                self.beside = None;
-                match *which {
-                    // Tells whether the request that was named is still to come.
-                    "none" => said(rt, self.alloc.refuse_none()),
-                    "all" => said(rt, self.alloc.refuse_all()),
-                    nth => said(rt, self.alloc.refuse_nth(number(nth))),
-                }
-            }
-            [name, "is", state @ ..] => {
-                self.beside = None;
-                let state = State::new(rt, state);
-                let inserted: Result<_, _> = self.states.insert(letter(*name), state);
-                let _replaced = inserted.expect(rt, "memory");
-                said(rt, ())
-            }
-            [name, call @ ..] if name.starts_with(char::is_uppercase) => {
-                let state = self.states.get_mut(&letter(*name)).expect(rt, "a state");
-                state.ask(rt, self.alloc, &mut self.core, call)
-            }
-            words => self.ask(rt, words),
-        }
-    }
-
-    // Asks the core, and the list beside it, which has to answer the same.
-    fn ask<R: Abort + AllocGlobal>(&mut self, rt: &R, words: &[&str]) -> String {
-        // The list counts no handles.
-        if matches!(words, ["drop_sender" | "drop_receiver"]) {
-            self.beside = None;
-        }
-        let beside = self.beside.as_mut();
-        let wanted = beside.and_then(|plain| plain.ask(rt, words));
-        let got = match words {
+            // Tells whether the request that was named is still to come.
+            ["refuse", "none"] => return said(rt, self.alloc.refuse_none()),
+            ["refuse", "all"] => self.alloc.refuse_all(),
+            ["refuse", nth] => self.alloc.refuse_nth(number(*nth)),
             ["poll_send" | "poll_sendv" | "poll_recv" | "give_up", ..] => {
-                ask_to_wait(rt, self.alloc, &mut self.core, words)
+                return ask_to_wait(rt, self.alloc, &mut self.core, words.as_slice());
             }
-            _at_once => ask(rt, &mut self.core, words),
-        };
-        if let Some(wanted) = wanted {
-            assert!(rt;
-                got.as_str() == wanted.as_str(),
-                "{words:?}: {got}, not {wanted}"
-            );
+            _at_once => return ask(rt, &mut self.core, words.as_slice()),
         }
-        got
-    }
-
-    fn open<R: Abort + AllocGlobal>(&mut self, rt: &R, core: Core<'a>, capacity: u64) -> String {
-        self.core = core;
-        self.beside = Some(Plain::new(rt.alloc(), capacity));
         said(rt, ())
     }
 }
@@ -126,8 +68,9 @@ fn asked(call: &str) -> &str {
 
 /// Plays a script, and fails at the first call of which something else comes.
 pub fn play<R: Abort + AllocGlobal>(rt: &R, script: &str) {
-    let alloc = Refusing::new(rt.alloc());
-    let mut stage = Stage::new(rt, &alloc);
+    let alloc = &Refusing::new(rt.alloc());
+    let core = Core::unbounded(alloc);
+    let mut stage = Stage { alloc, core };
     for line in script.lines() {
         let (line, _comment) = line.split_once('#').unwrap_or((line, ""));
         for call in line.split(';') {
@@ -166,15 +109,14 @@ fn tell_refused<R: Abort + AllocGlobal>(
     script: &str,
 ) -> String {
     let mut told = String::new(rt.alloc());
-    let mut stage = Stage::new(rt, alloc);
+    let core = Core::unbounded(alloc);
+    let mut stage = Stage { alloc, core };
     let mut is_as_said = true;
     alloc.refuse_nth(n);
     for call in script.lines() {
         if call.trim().is_empty() {
             continue;
         }
-        // The list has its memory from elsewhere.
-        stage.beside = None;
         let got = stage.make(rt, asked(call));
         if is_as_said && !is_wanted(got.as_str(), call) {
             is_as_said = false;

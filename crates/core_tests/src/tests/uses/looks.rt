@@ -5,11 +5,13 @@ ghost use Rattle.std.specs.Prelude.{◌≡◌, ◌<◌, ◌+◌, ◌^◌, Some, 
 use priority_channel_core::channel::PriorityQueueChannel;
 use std::alloc::Allocator;
 
+type Core<A> = PriorityQueueChannel<u64, u64, u64, A>;
+
 /// Looks at a new channel.
 pub fn look_at_new<A: Allocator + Copy>(alloc: A, cap: u64)
     requires { 0 < cap }
 {
-    let channel: PriorityQueueChannel<u64, u64, u64, A> = PriorityQueueChannel::bounded(alloc, cap);
+    let channel = Core::<A>::bounded(alloc, cap);
     prove!(!channel.is_closed());
     prove!(channel.is_empty());
     prove!(channel.len() == 0);
@@ -24,23 +26,19 @@ pub fn capacity_of_bounded<A: Allocator + Copy>(alloc: A, cap: u64) -> Option<u6
     requires limit { cap + 1 < 2 ^ 64 }
     ensures { result ≡ Some cap }
 {
-    let channel: PriorityQueueChannel<u64, u64, u64, A> = PriorityQueueChannel::bounded(alloc, cap);
-    channel.capacity()
+    Core::<A>::bounded(alloc, cap).capacity()
 }
 
 /// An unbounded channel tells none.
 pub fn capacity_of_unbounded<A: Allocator + Copy>(alloc: A) -> Option<u64>
     ensures { result ≡ None }
 {
-    let channel: PriorityQueueChannel<u64, u64, u64, A> = PriorityQueueChannel::unbounded(alloc);
-    channel.capacity()
+    Core::<A>::unbounded(alloc).capacity()
 }
 
 /// A clone of a sender is one more sender, and no receiver.
 pub fn count_clones<A: Allocator + Copy>(alloc: A) {
-    let mut channel: PriorityQueueChannel<u64, u64, u64, A> = PriorityQueueChannel::unbounded(
-        alloc,
-    );
+    let mut channel = Core::<A>::unbounded(alloc);
     prove!(channel.clone_sender());
     prove!(channel.sender_count() == 2);
     prove!(channel.receiver_count() == 1);
@@ -51,9 +49,7 @@ pub fn count_clones<A: Allocator + Copy>(alloc: A) {
 
 /// A close answers true once, and the channel is closed then.
 pub fn close_twice<A: Allocator + Copy>(alloc: A) {
-    let mut channel: PriorityQueueChannel<u64, u64, u64, A> = PriorityQueueChannel::unbounded(
-        alloc,
-    );
+    let mut channel = Core::<A>::unbounded(alloc);
     let (was_open, wakes) = channel.close();
     let (_for_room, _for_message) = wakes.into_lists();
     prove!(was_open && channel.is_closed());
