@@ -1,16 +1,24 @@
 //! Recorded and witnessed channels.
 use futures::executor::block_on;
 use futures::future::Future;
-use scenes::Host;
+use std::alloc::AllocGlobal;
 use std::fmt::Debug;
 use std::process::Abort;
+use std::random::RandomSource;
+use std::sync::Wait;
+use std::thread::Threads;
+use std::time::Clock;
 
 mod books;
 mod recorded;
 mod replay;
-mod scenes;
 mod watch;
 mod witnessed;
+
+/// What a test asks of its runtime.
+pub trait Host: Abort + Threads + Wait + Clock + RandomSource + AllocGlobal + Sync {}
+
+impl<R: Abort + Threads + Wait + Clock + RandomSource + AllocGlobal + Sync> Host for R {}
 
 /// `assert_eq!`, proved once: each one in place takes seconds of the check. In a loop both sides name
 /// the round.

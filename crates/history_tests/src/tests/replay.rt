@@ -1,7 +1,6 @@
 //! Calls on four threads, waits among them, which a plain channel explains in some order.
-use super::expect_equal;
-use super::scenes::Host;
-use super::witnessed::{Caller, Channel, Passes, Scene, play};
+use super::witnessed::{Alloc, Caller, Channel, Passes, Scene, play};
+use super::{Host, expect_equal};
 use mix::{Mix, make};
 use model::CAPACITY;
 use notes::{Call, Noted, Pair, Refusal, Reply, Way};
@@ -11,21 +10,22 @@ use std::sync::Mutex;
 use std::sync::atomic::{AtomicU64, Ordering};
 use std::{mem, thread};
 
-mod mix;
-mod model;
-mod notes;
+pub mod mix;
+pub mod model;
+pub mod notes;
 mod order;
 
 const CALLS: u64 = 1000;
 
 // The calls of one pass. That of thread 0 closes the channel at last.
-fn thousand<J: Recording, R: Host>(
+fn thousand<'a, J: Recording, R: Host>(
     rt: &R,
-    channel: &Channel<J>,
+    alloc: Alloc<'a>,
+    channel: &Channel<'a, J>,
     stamps: &AtomicU64,
     threads: &Mutex<Vec<Vec<Noted>>>,
-    mut pass: Caller<J>,
-) -> Caller<J> {
+    mut pass: Caller<'a, J>,
+) -> Caller<'a, J> {
     let who = pass.number();
     let mut mix = Mix::new(who);
     let mut notes = Vec::new(rt.alloc());
@@ -36,7 +36,7 @@ fn thousand<J: Recording, R: Host>(
             mix.draw()
         };
         let begin = stamps.fetch_add(1, Ordering::SeqCst);
-        let reply = make(rt, channel, &mut pass, call);
+        let reply = make(rt, alloc, channel, &mut pass, call);
         let end = stamps.fetch_add(1, Ordering::SeqCst);
         let _ = notes.push(Noted {
             begin,
@@ -50,19 +50,22 @@ fn thousand<J: Recording, R: Host>(
 }
 
 /// Four threads make their calls, which some order explains.
-pub fn explain_four_threads<J: Recording + Send + Sync, R: Host>(
+pub fn explain_four_threads<'a, J: Recording + Send + Sync, R: Host>(
     rt: &R,
-    channel: &Channel<J>,
-    passes: &mut Passes<J>,
+    alloc: Alloc<'a>,
+    channel: &Channel<'a, J>,
+    passes: &mut Passes<'a, J>,
 ) {
     let stamps = &AtomicU64::new(0);
     let threads = Mutex::new(Vec::new(rt.alloc()));
     let noted = &threads;
-    let all = mem::replace(passes, Vec::new(rt.alloc()));
-    *passes = thread::map_vec(rt, all, &|pass| thousand(rt, channel, stamps, noted, pass)).expect(
+    let all = mem::replace(passes, Vec::new(alloc));
+    *passes = thread::map_vec(
         rt,
-        "memory for the passes",
-    );
+        all,
+        &|pass| thousand(rt, alloc, channel, stamps, noted, pass),
+    )
+    .expect(rt, "memory for the passes");
     let mut threads = threads.into_inner();
     let threads = [
         threads.pop().expect(rt, "a thread"),

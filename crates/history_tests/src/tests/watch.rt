@@ -1,5 +1,5 @@
 //! A thread beside a wait, which ends the test if the wait does not end.
-use super::scenes::Host;
+use super::Host;
 use std::process::Abort;
 use std::sync::atomic::{AtomicBool, Ordering};
 use std::thread;

@@ -1,68 +1,75 @@
 //! Witnessed channels: scenes, and what they are played on.
-ghost use Rattle.std.specs.Prelude.{◌≡◌, ◌<◌, ◌≤◌};
+ghost use Rattle.std.specs.Prelude.{◌≡◌, ◌<◌, ◌≤◌, ◌^◌};
 ghost use Rattle.priority_channel_core.specs.machine.State.{opening};
 ghost use Rattle.priority_channel_witnessed.specs.Log.{names};
 
-use super::expect_equal;
+use super::Host;
 use super::replay::explain_four_threads;
-use super::scenes::{Host, end};
 use super::watch::within;
-use calls::{call_all, give_up};
-use passes::{call_on_four_threads, come_and_go, come_late};
+use late::receive_late;
+use passes::come_and_go;
 use priority_channel_core::awaitable_atomics::Wakes;
 use priority_channel_core::channel::PriorityQueueChannel;
-use priority_channel_witnessed::{Fresh, Pass, Recording, Waiter, Witnessed, wake_all};
+use priority_channel_witnessed::{Fresh, Pass, Recording, Waiter, Witnessed};
+use refusing::Refusing;
 use std::alloc::{Allocator, Global};
 use std::marker::Brand;
-use tasks::{drop_those_that_wait, relay};
-use waits::{block_on_four_threads, receive_in_time, send_in_time};
+use tasks::poll_futures;
+use threads::call_on_four_threads;
+use waits::end_in_time;
 
-mod calls;
+mod late;
 mod passes;
-mod scarce;
 mod tasks;
+mod threads;
 mod waits;
 
-pub type Channel<J> = Witnessed<u64, u64, Waiter<Global>, J>;
+pub type Alloc<'a> = &'a Refusing<Global>;
 
-pub type Caller<J> = Pass<u64, u64, Waiter<Global>, J>;
+pub type Channel<'a, J> = Witnessed<u64, u64, Waiter<Alloc<'a>>, J, Alloc<'a>>;
 
-pub type Passes<J> = Vec<Caller<J>>;
+pub type Caller<'a, J> = Pass<u64, u64, Waiter<Alloc<'a>>, J>;
 
-type Core = PriorityQueueChannel<u64, u64, Waiter<Global>>;
+pub type Passes<'a, J> = Vec<Caller<'a, J>, Alloc<'a>>;
+
+type Core<'a> = PriorityQueueChannel<u64, u64, Waiter<Alloc<'a>>, Alloc<'a>>;
 
 /// What is played on such a channel.
 #[derive(Clone, Copy)]
 pub enum Scene {
-    AllCalls,
-    Polls,
-    Nothing,
     Guests,
-    LateGuest,
-    GuestsOnThreads,
-    DroppedFutures,
-    Tasks,
-    ReceivesInTime,
-    SendsInTime,
-    BlockingThreads,
+    Futures,
+    Limits,
+    LateMessage,
+    Threads,
     MixedThreads,
 }
 
-/// Plays a scene on a channel for so many pairs, with so many passes at first of so many parts.
-/// Tells how many pairs are left.
+/// Plays a scene on a reserved channel for so many pairs, with so many passes at first of so many
+/// parts. Tells how many pairs are left.
 pub fn play<R: Host>(rt: &R, scene: Scene, cap: u64, passes: usize, parts: usize) -> u64
     requires positive { 0 < cap }
+    requires fits { cap < 2 ^ 63 }
     requires passes { passes ≤ parts }
 {
-    let core = PriorityQueueChannel::bounded(rt.alloc(), cap);
-    play_as::<Brand, R>(rt, scene, core, Fresh::new(cap, false, parts), passes)
+    let alloc = Refusing::new(rt.alloc());
+    let core = PriorityQueueChannel::bounded_reserved(&alloc, cap).expect(rt, "a core");
+    play_as::<Brand, R>(
+        rt,
+        &alloc,
+        scene,
+        core,
+        Fresh::new(cap, true, parts),
+        passes,
+    )
 }
 
-fn play_as<J: Recording + Send + Sync, R: Host>(
+fn play_as<'a, J: Recording + Send + Sync, R: Host>(
     rt: &R,
+    alloc: Alloc<'a>,
     scene: Scene,
-    core: Core,
-    fresh: Fresh<u64, u64, Waiter<Global>>,
+    core: Core<'a>,
+    fresh: Fresh<u64, u64, Waiter<Alloc<'a>>>,
     passes: usize,
 ) -> u64
     requires opens { core.state ≡ opening fresh.capacity fresh.is_reserved }
@@ -70,55 +77,57 @@ fn play_as<J: Recording + Send + Sync, R: Host>(
     requires passes { passes ≤ fresh.passes }
 {
     let parts = fresh.passes();
-    let made = Channel::<J>::new(rt.alloc(), fresh, core, passes);
+    let made = Channel::<'a, J>::new(alloc, fresh, core, passes);
     let (channel, mut passes) = made.expect(rt, "a channel");
     within(
         rt,
         "the end of a scene",
-        || act(rt, scene, &channel, &mut passes),
+        || act(rt, alloc, scene, &channel, &mut passes),
     );
     end(rt, channel, passes, parts)
 }
 
 // Gives the passes back that it takes, or as many others.
-fn act<J: Recording + Send + Sync, R: Host>(
+fn act<'a, J: Recording + Send + Sync, R: Host>(
     rt: &R,
+    alloc: Alloc<'a>,
     scene: Scene,
-    channel: &Channel<J>,
-    passes: &mut Passes<J>,
+    channel: &Channel<'a, J>,
+    passes: &mut Passes<'a, J>,
 ) {
     match scene {
-        Scene::AllCalls => call_all(rt, channel, passes),
-        Scene::Polls => give_up(rt, channel, passes),
-        Scene::Nothing => {}
         Scene::Guests => come_and_go(rt, channel, passes),
-        Scene::LateGuest => come_late(rt, channel, passes),
-        Scene::GuestsOnThreads => call_on_four_threads(rt, channel, passes),
-        Scene::DroppedFutures => drop_those_that_wait(rt, channel, passes),
-        Scene::Tasks => relay(rt, channel, passes),
-        Scene::ReceivesInTime => receive_in_time(rt, channel, passes),
-        Scene::SendsInTime => send_in_time(rt, channel, passes),
-        Scene::BlockingThreads => block_on_four_threads(rt, channel, passes),
-        Scene::MixedThreads => explain_four_threads(rt, channel, passes),
+        Scene::Futures => poll_futures(rt, alloc, channel, passes),
+        Scene::Limits => end_in_time(rt, alloc, channel, passes),
+        Scene::LateMessage => receive_late(rt, alloc, channel, passes),
+        Scene::Threads => call_on_four_threads(rt, alloc, channel, passes),
+        Scene::MixedThreads => explain_four_threads(rt, alloc, channel, passes),
     }
 }
 
-/// The tickets of the first waiters that a call has woken: for room, and for a message.
-pub type Tickets = (Option<u64>, Option<u64>);
-
-pub const NOBODY: Tickets = (None, None);
-
-pub fn tickets<W: Clone + Drop, A: Allocator>(wakes: Wakes<W, A>) -> Tickets {
-    let (for_room, for_message) = wakes.into_lists();
-    (
-        for_room.iter().next().map(|entry| entry.0),
-        for_message.iter().next().map(|entry| entry.0),
-    )
+// Ends a channel with parts for so many passes, and tells how many pairs are left. While a pass is
+// out it does not end.
+fn end<'a, J: Recording, R: Host>(
+    rt: &R,
+    channel: Channel<'a, J>,
+    mut passes: Passes<'a, J>,
+    parts: usize,
+) -> u64
+    requires { parts ≡ J.parts }
+{
+    let last = passes.pop().expect(rt, "a pass");
+    let kept = channel.try_end(rt, passes).err();
+    let (channel, mut passes) = kept.expect(rt, "a channel that stays while a pass is out");
+    passes.push(last).expect(rt, "its own place");
+    if passes.len() == parts {
+        return channel.end(rt, passes).0.len();
+    }
+    let ended = channel.try_end(rt, passes).ok();
+    ended.expect(rt, "an end with all passes").0.len()
 }
 
-/// Closes a channel that is open, and wakes all that wait.
-pub fn close<J: Recording, R: Host>(rt: &R, channel: &Channel<J>, pass: &mut Caller<J>) {
-    let (was_open, wakes) = channel.close(rt, pass);
-    wake_all(rt, wakes);
-    expect_equal(rt, was_open, true);
+/// How many waiters a call has woken.
+pub fn count<W: Clone + Drop, A: Allocator>(wakes: Wakes<W, A>) -> usize {
+    let (for_room, for_message) = wakes.into_lists();
+    for_room.len().wrapping_add(for_message.len())
 }

@@ -1,7 +1,7 @@
 //! A thread's calls, drawn and made.
 use super::notes::{Call, Pair, Refusal, Refused, Reply, Way};
-use crate::tests::scenes::Host;
-use crate::tests::witnessed::{Caller, Channel};
+use crate::tests::Host;
+use crate::tests::witnessed::{Alloc, Caller, Channel};
 use priority_channel_core::errors::{RecvFault, SendError, SendFault, TryRecvError, TrySendError};
 use priority_channel_waiting::timeouts::{RecvTimeoutError, SendTimeoutError};
 use priority_channel_witnessed::{Recording, wake_all};
@@ -11,14 +11,14 @@ use std::time::Duration;
 
 /// What a thread will call, the same each time.
 #[derive(Drop)]
-pub(super) struct Mix {
+pub struct Mix {
     generator: Xoshiro256PlusPlus,
     who: u64,
     sent: u64,
 }
 
 impl Mix {
-    pub(super) fn new(who: u64) -> Self {
+    pub fn new(who: u64) -> Self {
         Mix {
             generator: Xoshiro256PlusPlus::seed_from_u64(who),
             who,
@@ -26,7 +26,7 @@ impl Mix {
         }
     }
 
-    pub(super) fn draw(&mut self) -> Call {
+    pub fn draw(&mut self) -> Call {
         match self.below(16) {
             0..4 => Call::Send(self.way(), self.pair()),
             4 => Call::SendEvicting(self.pair()),
@@ -65,16 +65,17 @@ impl Mix {
 const LIMIT_MICROS: u64 = 200;
 
 /// Makes a call on a channel.
-pub(super) fn make<J: Recording, R: Host>(
+pub fn make<'a, J: Recording, R: Host>(
     rt: &R,
-    channel: &Channel<J>,
-    pass: &mut Caller<J>,
+    alloc: Alloc<'a>,
+    channel: &Channel<'a, J>,
+    pass: &mut Caller<'a, J>,
     call: Call,
 ) -> Reply {
     match call {
         Call::Send(way, pair) => Reply::Sent(send(rt, channel, pass, way, pair)),
         Call::SendEvicting(pair) => Reply::Displaced(send_evicting(rt, channel, pass, pair)),
-        Call::Sendv(pairs) => Reply::SentMany(send_many(rt, channel, pass, pairs)),
+        Call::Sendv(pairs) => Reply::SentMany(send_many(rt, alloc, channel, pass, pairs)),
         Call::Recv(way) => Reply::Received(receive(rt, channel, pass, way)),
         Call::Len => Reply::Number(channel.len(rt, pass)),
         Call::IsEmpty => Reply::Bool(channel.is_empty(rt, pass)),
@@ -88,10 +89,10 @@ pub(super) fn make<J: Recording, R: Host>(
     }
 }
 
-fn send<J: Recording, R: Host>(
+fn send<'a, J: Recording, R: Host>(
     rt: &R,
-    channel: &Channel<J>,
-    pass: &mut Caller<J>,
+    channel: &Channel<'a, J>,
+    pass: &mut Caller<'a, J>,
     way: Way,
     pair: Pair,
 ) -> Result<(), Refused> {
@@ -118,10 +119,10 @@ fn send<J: Recording, R: Host>(
     }
 }
 
-fn send_evicting<J: Recording, R: Host>(
+fn send_evicting<'a, J: Recording, R: Host>(
     rt: &R,
-    channel: &Channel<J>,
-    pass: &mut Caller<J>,
+    channel: &Channel<'a, J>,
+    pass: &mut Caller<'a, J>,
     pair: Pair,
 ) -> Result<Option<Pair>, Refused> {
     let (sent, wakes) = channel.try_send_evicting(rt, pass, pair.0, pair.1);
@@ -129,7 +130,7 @@ fn send_evicting<J: Recording, R: Host>(
     sent.map_err(refused)
 }
 
-fn refused(error: TrySendError<Pair>) -> Refused {
+pub fn refused(error: TrySendError<Pair>) -> Refused {
     match error {
         TrySendError::Full(pair) => (Refusal::Blocked, pair),
         TrySendError::Closed(pair) => (Refusal::Closed, pair),
@@ -138,13 +139,14 @@ fn refused(error: TrySendError<Pair>) -> Refused {
 }
 
 // Where there is no memory for the vector, no call is made, and a reply noted that is none.
-fn send_many<J: Recording, R: Host>(
+fn send_many<'a, J: Recording, R: Host>(
     rt: &R,
-    channel: &Channel<J>,
-    pass: &mut Caller<J>,
+    alloc: Alloc<'a>,
+    channel: &Channel<'a, J>,
+    pass: &mut Caller<'a, J>,
     pairs: [Pair; 3],
 ) -> [Option<Refused>; 3] {
-    let Ok(vector) = Vec::from_array(rt.alloc(), pairs) else {
+    let Ok(vector) = Vec::from_array(alloc, pairs) else {
         return pairs.map(|pair| Some((Refusal::Memory, pair)));
     };
     let (sent, wakes) = channel.try_sendv(rt, pass, vector.into_iter().peekable());
@@ -163,10 +165,10 @@ fn send_many<J: Recording, R: Host>(
     [rest.next(), rest.next(), rest.next()]
 }
 
-fn receive<J: Recording, R: Host>(
+fn receive<'a, J: Recording, R: Host>(
     rt: &R,
-    channel: &Channel<J>,
-    pass: &mut Caller<J>,
+    channel: &Channel<'a, J>,
+    pass: &mut Caller<'a, J>,
     way: Way,
 ) -> Result<Pair, Refusal> {
     match way {

@@ -2,24 +2,24 @@
 use super::notes::{Call, Pair, Refusal, Refused, Reply};
 use std::alloc::{AllocError, Global};
 
-pub(super) const CAPACITY: u64 = 3;
+pub const CAPACITY: u64 = 3;
 
 /// The pending pairs, in the order in which they are to be received, and whether it is closed.
 #[derive(Drop)]
-pub(super) struct Model {
+pub struct Model {
     pending: Vec<Pair>,
     is_closed: bool,
 }
 
 impl Model {
-    pub(super) fn new(alloc: Global) -> Self {
+    pub fn new(alloc: Global) -> Self {
         Model {
             pending: Vec::new(alloc),
             is_closed: false,
         }
     }
 
-    pub(super) fn copy(&self) -> Result<Self, AllocError> {
+    pub fn copy(&self) -> Result<Self, AllocError> {
         Ok(Model {
             pending: self.pending.clone()?,
             is_closed: self.is_closed,
@@ -27,7 +27,7 @@ impl Model {
     }
 
     /// Makes a call. One that waits is made where it ends, so it is as one that does not.
-    pub(super) fn make(&mut self, call: Call) -> Result<Reply, AllocError> {
+    pub fn make(&mut self, call: Call) -> Result<Reply, AllocError> {
         Ok(match call {
             Call::Send(_, pair) => Reply::Sent(self.send(pair)?),
             Call::SendEvicting(pair) => Reply::Displaced(self.send_evicting(pair)?),

@@ -1,17 +1,17 @@
 //! What a thread notes of its calls.
 
-pub(super) type Pair = (u64, u64);
+pub type Pair = (u64, u64);
 
 /// How long a call waits.
 #[derive(Clone, Copy, Debug, Drop, PartialEq, Eq)]
-pub(super) enum Way {
+pub enum Way {
     AtOnce,
     InTime,
     Blocking,
 }
 
 #[derive(Clone, Copy, Debug, Drop, PartialEq, Eq)]
-pub(super) enum Call {
+pub enum Call {
     Send(Way, Pair),
     SendEvicting(Pair),
     Sendv([Pair; 3]),
@@ -26,17 +26,17 @@ pub(super) enum Call {
 /// Why a call has not done its work: there was no room, or no message; the channel is closed; or
 /// memory was refused.
 #[derive(Clone, Copy, Debug, Drop, PartialEq, Eq)]
-pub(super) enum Refusal {
+pub enum Refusal {
     Blocked,
     Closed,
     Memory,
 }
 
 /// A pair that came back.
-pub(super) type Refused = (Refusal, Pair);
+pub type Refused = (Refusal, Pair);
 
 #[derive(Clone, Copy, Debug, Drop, PartialEq, Eq)]
-pub(super) enum Reply {
+pub enum Reply {
     Sent(Result<(), Refused>),
     /// What went for it.
     Displaced(Result<Option<Pair>, Refused>),
@@ -49,9 +49,9 @@ pub(super) enum Reply {
 
 /// A call, its reply, and a stamp from before it and one from after it.
 #[derive(Clone, Copy, Debug, Drop, PartialEq, Eq)]
-pub(super) struct Noted {
-    pub(super) begin: u64,
-    pub(super) end: u64,
-    pub(super) call: Call,
-    pub(super) reply: Reply,
+pub struct Noted {
+    pub begin: u64,
+    pub end: u64,
+    pub call: Call,
+    pub reply: Reply,
 }

@@ -1,0 +1,107 @@
+//! Threads and tasks that wait for each other, with passes that come and go.
+use super::{Alloc, Caller, Channel, Passes, Scene, play};
+use crate::tests::{Host, expect_equal, wait_for};
+use priority_channel_witnessed::{Pairs, Recording, wake_all};
+use std::sync::WaitMethods;
+use std::sync::atomic::{AtomicU64, Ordering};
+use std::{mem, thread};
+
+/// How many pairs threads have received, and how many threads are still to send.
+#[derive(Drop)]
+struct Done {
+    received: AtomicU64,
+    left: AtomicU64,
+}
+
+fn three<'a, R: Host>(rt: &R, alloc: Alloc<'a>, number: u64) -> Pairs<u64, u64, Alloc<'a>> {
+    let pairs = Vec::from_array(alloc, [(number, 1u64), (number, 2), (number, 3)]);
+    pairs.expect(rt, "memory").into_iter().peekable()
+}
+
+// Sends a pair and then three, by a pass that comes for that and blocks its thread, and as many by
+// futures.
+fn send_eight<'a, J: Recording, R: Host>(
+    rt: &R,
+    alloc: Alloc<'a>,
+    channel: &Channel<'a, J>,
+    own: Caller<'a, J>,
+    number: u64,
+) -> Caller<'a, J> {
+    let mut guest = channel.fork(rt, &own).expect(rt, "a pass to fork");
+    let one = channel.send_blocking(rt, &mut guest, number, number % 7);
+    let many = channel.sendv_blocking(rt, &mut guest, three(rt, alloc, number));
+    expect_equal(rt, (one.is_ok(), many.is_ok()), (true, true));
+    channel.leave(rt, guest);
+    let (one, own) = wait_for(rt, channel.send(rt, own, number, number % 7));
+    let (many, own) = wait_for(rt, channel.sendv(rt, own, three(rt, alloc, number)));
+    expect_equal(rt, (one.is_ok(), many.is_ok()), (true, true));
+    own
+}
+
+// Receives by a future and then on its thread, until the channel is closed and empty.
+fn receive_all<'a, J: Recording, R: Host>(
+    rt: &R,
+    received: &AtomicU64,
+    channel: &Channel<'a, J>,
+    own: Caller<'a, J>,
+) -> Caller<'a, J> {
+    let mut pass = own;
+    for _ in rt.forever() {
+        let (answer, back) = wait_for(rt, channel.recv(rt, pass));
+        pass = back;
+        received.fetch_add(answer.is_ok() as u64, Ordering::SeqCst);
+        if channel.recv_blocking(rt, &mut pass).is_err() {
+            return pass;
+        }
+        received.fetch_add(1, Ordering::SeqCst);
+    }
+    unreachable!()
+}
+
+// Passes 0 and 1 send, and the last that has sent closes the channel. The others receive.
+fn send_or_receive<'a, J: Recording, R: Host>(
+    rt: &R,
+    alloc: Alloc<'a>,
+    done: &Done,
+    channel: &Channel<'a, J>,
+    mut pass: Caller<'a, J>,
+) -> Caller<'a, J> {
+    if pass.number() >= 2 {
+        return receive_all(rt, &done.received, channel, pass);
+    }
+    for number in 0..100u64 {
+        pass = send_eight(rt, alloc, channel, pass, number);
+    }
+    if done.left.fetch_sub(1, Ordering::SeqCst) == 1 {
+        let (was_open, wakes) = channel.close(rt, &mut pass);
+        wake_all(rt, wakes);
+        expect_equal(rt, was_open, true);
+    }
+    pass
+}
+
+/// Two threads send, and two receive.
+pub(super) fn call_on_four_threads<'a, J: Recording + Send + Sync, R: Host>(
+    rt: &R,
+    alloc: Alloc<'a>,
+    channel: &Channel<'a, J>,
+    passes: &mut Passes<'a, J>,
+) {
+    let done = &Done {
+        received: AtomicU64::new(0),
+        left: AtomicU64::new(2),
+    };
+    let all = mem::replace(passes, Vec::new(alloc));
+    let called = thread::map_vec(
+        rt,
+        all,
+        &|pass| send_or_receive(rt, alloc, done, channel, pass),
+    );
+    *passes = called.expect(rt, "memory for the passes");
+    expect_equal(rt, done.received.load(Ordering::SeqCst), 1600);
+}
+
+#[test]
+fn threads_wait_until_others_go_on(rt: HostRuntime) {
+    expect_equal(&rt, play(&rt, Scene::Threads, 2, 4, 7), 0);
+}
