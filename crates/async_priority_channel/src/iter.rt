@@ -209,17 +209,18 @@ impl<T, P: Ord, R: Wait + Clone, A: Allocator + Copy> Receiver<T, P, R, A> {
         }
     }
 
-    /// The messages that are pending, until there is none. It never waits.
+    /// The messages that are pending, until there is none. It never waits, and stays ended.
     ///
     /// ```
     /// let (tx, rx) = unbounded(&rt, rt.alloc())?;
     /// tx.try_send("tidy up", 1)?;
     /// tx.try_send("put out the fire", 9)?;
-    /// let mut done = Vec::new(rt.alloc());
-    /// for (job, _) in rx.try_iter() {
-    ///     done.push(job)?;
-    /// }
-    /// assert_eq!(rt; done.as_slice(), ["put out the fire", "tidy up"].as_slice());
+    /// let mut jobs = rx.try_iter();
+    /// assert_eq!(rt; jobs.next(), Some(("put out the fire", 9)));
+    /// assert_eq!(rt; jobs.next(), Some(("tidy up", 1)));
+    /// assert_eq!(rt; jobs.next(), None);
+    /// tx.try_send("call for help", 9)?;
+    /// assert_eq!(rt; jobs.next(), None);
     /// ```
     pub fn try_iter(&self) -> TryIter<'_, T, P, R, A> {
         TryIter {

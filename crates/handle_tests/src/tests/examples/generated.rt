@@ -236,15 +236,12 @@ fn example_of_receiver_try_iter(rt: HostRuntime) {
     let (tx, rx) = unbounded(&rt, rt.alloc()).expect(&rt, "unbounded");
     tx.try_send("tidy up", 1).expect(&rt, "try_send");
     tx.try_send("put out the fire", 9).expect(&rt, "try_send");
-    let mut done = Vec::new(rt.alloc());
-    for (job, _) in rx.try_iter() {
-        done.push(job).expect(&rt, "push");
-    }
-    expect_equal(
-        &rt,
-        done.as_slice(),
-        ["put out the fire", "tidy up"].as_slice(),
-    );
+    let mut jobs = rx.try_iter();
+    expect_equal(&rt, jobs.next(), Some(("put out the fire", 9)));
+    expect_equal(&rt, jobs.next(), Some(("tidy up", 1)));
+    expect_equal(&rt, jobs.next(), None);
+    tx.try_send("call for help", 9).expect(&rt, "try_send");
+    expect_equal(&rt, jobs.next(), None);
 }
 
 #[test]
