@@ -34,10 +34,6 @@ fn expect_true(rt: &impl Abort, holds: bool, what: &str) {
     assert!(rt; holds, "{what}");
 }
 
-fn is_pending<T: Drop>(polled: Poll<T>) -> bool {
-    matches!(polled, Poll::Pending)
-}
-
 /// None where it is pending.
 fn ready<T>(polled: Poll<T>) -> Option<T> {
     match polled {

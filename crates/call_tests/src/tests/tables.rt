@@ -18,11 +18,7 @@ mod mirror;
 // The message 2 is chosen, and no call has time to wait.
 fn input(first: u64, count: u64, most: usize) -> Input {
     Input {
-        pairs: Pairs {
-            first,
-            count,
-            spread: 100,
-        },
+        pairs: Pairs::new(first, count, 100),
         most,
         limit: Duration::ZERO,
         chosen: 2,

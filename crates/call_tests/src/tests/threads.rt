@@ -5,15 +5,13 @@ use std::time::{Clock, Duration};
 
 mod clocks;
 mod either;
-mod gate;
+mod halts;
 mod limits;
 mod places;
 mod queue;
 mod refusals;
-mod relays;
 mod soak;
 mod steps;
-mod tasks;
 mod waits;
 mod watch;
 

@@ -5,7 +5,7 @@ use super::calls::Side::*;
 use super::calls::Way::*;
 
 /// Those of a sender come first, and those that may close the channel last.
-pub const ALL: [Call; 65] = [
+pub const ALL: [Call; 63] = [
     Send(Try),
     Send(Poll),
     Send(Future),
@@ -57,8 +57,6 @@ pub const ALL: [Call; 65] = [
     Closed(Receiver, Blocking),
     Closed(Receiver, Timeout),
     Closed(Receiver, Deadline),
-    Unpolled(Sender),
-    Unpolled(Receiver),
     Look(Sender),
     Look(Receiver),
     Clone(Sender),

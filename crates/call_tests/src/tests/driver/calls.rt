@@ -21,6 +21,23 @@ pub enum Side {
     Receiver,
 }
 
+impl Side {
+    pub fn other(self) -> Side {
+        match self {
+            Side::Sender => Side::Receiver,
+            Side::Receiver => Side::Sender,
+        }
+    }
+
+    /// The call of that side which moves one message in this way.
+    pub fn call(self, way: Way) -> Call {
+        match self {
+            Side::Sender => Call::Send(way),
+            Side::Receiver => Call::Recv(way),
+        }
+    }
+}
+
 #[derive(Clone, Copy, Debug)]
 pub enum Call {
     Send(Way),
@@ -42,8 +59,6 @@ pub enum Call {
     PeekPriority,
     /// A wait for the close.
     Closed(Side, Way),
-    /// Each kind of future, stream and loop is dropped as it was made.
-    Unpolled(Side),
     Look(Side),
     Clone(Side),
     /// By the clone of a weak handle, which also tells whether the channel is closed.
@@ -62,7 +77,6 @@ impl Call {
             | Call::Retain(side)
             | Call::ChangePriority(side)
             | Call::Closed(side, _)
-            | Call::Unpolled(side)
             | Call::Look(side)
             | Call::Clone(side)
             | Call::Upgrade(side)
@@ -97,14 +111,29 @@ impl Call {
     }
 }
 
+/// Whether it waits for the close, and not for room or for a message.
+pub fn is_for_close(call: Call) -> bool {
+    matches!(call, Call::Closed(..))
+}
+
 pub type Pair = (u64, u64);
 
 /// Numbered messages, each with the rest that its number leaves as its priority.
-#[derive(Clone, Copy)]
+#[derive(Clone, Copy, Debug)]
 pub struct Pairs {
     pub first: u64,
     pub count: u64,
     pub spread: u64,
+}
+
+impl Pairs {
+    pub fn new(first: u64, count: u64, spread: u64) -> Self {
+        Pairs {
+            first,
+            count,
+            spread,
+        }
+    }
 }
 
 impl Iterator for Pairs {
@@ -124,7 +153,7 @@ impl Iterator for Pairs {
 }
 
 /// What a call is given, as far as it takes it.
-#[derive(Clone, Copy)]
+#[derive(Clone, Copy, Debug)]
 pub struct Input {
     /// What a bulk send sends. A send of one sends the first, also where the count is 0.
     pub pairs: Pairs,
@@ -141,11 +170,7 @@ pub struct Input {
 impl Input {
     /// The list of the first pair.
     pub fn one(&self) -> Pairs {
-        Pairs {
-            first: self.pairs.first,
-            count: 1,
-            spread: self.pairs.spread,
-        }
+        Pairs::new(self.pairs.first, 1, self.pairs.spread)
     }
 
     pub fn pair(&self) -> Pair {

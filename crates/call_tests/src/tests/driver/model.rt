@@ -68,11 +68,11 @@ impl Model {
             Call::ChangePriority(_) => self.change_priority(rt, input),
             Call::RecvIf => self.receive_if(rt, input.chosen),
             Call::PeekWith => {
-                let seen = self.first_greatest().map(|(_, pair)| pair);
+                let seen = self.find(true).map(|(_, pair)| pair);
                 Reply::found(rt, seen, Outcome::Empty)
             }
             Call::PeekPriority => {
-                let seen = self.first_greatest().map(|(_, pair)| (0, pair.1));
+                let seen = self.find(true).map(|(_, pair)| (0, pair.1));
                 Reply::found(rt, seen, Outcome::Empty)
             }
             _no_pairs => {
@@ -105,7 +105,7 @@ impl Model {
             }
             Call::Drop(Side::Sender) => self.senders = self.senders.saturating_sub(1),
             Call::Drop(_) => self.receivers = self.receivers.saturating_sub(1),
-            _unpolled => {}
+            _ => {}
         }
         self.is_closed = self.is_closed || self.senders == 0 || self.receivers == 0;
         if self.receivers == 0 && self.lets_go {
@@ -141,17 +141,9 @@ impl Model {
             capacity: (self.capacity < u64::MAX).then_some(self.capacity),
             sender_count: self.senders,
             receiver_count: self.receivers,
-            odd: self.count_odd(),
+            odd: self.pending.iter().filter(|pair| pair.0 % 2 == 1).count() as u64,
             is_of_itself: true,
         }
-    }
-
-    fn count_odd(&self) -> u64 {
-        let mut count = 0u64;
-        for pair in self.pending.iter() {
-            count = count.wrapping_add(pair.0 % 2);
-        }
-        count
     }
 
     // A front of the list is accepted. The rest comes back, but from a future that is dropped.
@@ -187,7 +179,7 @@ impl Model {
             return self.send(rt, Way::Try, input.one());
         }
         let (_, priority) = input.pair();
-        match self.last_least() {
+        match self.find(false) {
             Some((place, least)) if least.1 < priority => {
                 self.remove(place);
                 self.accept(rt, input.pair());
@@ -217,7 +209,7 @@ impl Model {
     fn receive(&mut self, rt: &impl Host, most: usize, short: Outcome) -> Reply {
         let mut reply = Reply::new(rt, Outcome::Done);
         for _ in 0..most {
-            let Some((place, pair)) = self.first_greatest() else {
+            let Some((place, pair)) = self.find(true) else {
                 reply.outcome = short;
                 return reply;
             };
@@ -229,7 +221,7 @@ impl Model {
     }
 
     fn receive_if(&mut self, rt: &impl Host, chosen: u64) -> Reply {
-        match self.first_greatest() {
+        match self.find(true) {
             Some((_, (msg, _))) if msg % 2 != chosen % 2 => Reply::new(rt, Outcome::Was(false)),
             _ => self.receive_one(rt, Way::Try, Outcome::Closed),
         }
@@ -239,10 +231,8 @@ impl Model {
         let Some(place) = self.pending.iter().position(|pair| pair.0 == chosen) else {
             return Reply::new(rt, Outcome::Empty);
         };
-        let taken = self.pending.get(place).copied();
-        self.remove(place);
         self.taken = self.taken.wrapping_add(1);
-        Reply::found(rt, taken, Outcome::Empty)
+        Reply::found(rt, self.remove(place), Outcome::Empty)
     }
 
     // Sorted, since their order is not said.
@@ -273,26 +263,26 @@ impl Model {
         Reply::new(rt, Outcome::Empty)
     }
 
-    fn remove(&mut self, place: usize) {
+    fn remove(&mut self, place: usize) -> Option<Pair> {
         if place < self.pending.len() {
-            self.pending.remove(place);
+            Some(self.pending.remove(place))
+        } else {
+            None
         }
     }
 
-    fn first_greatest(&self) -> Option<(usize, Pair)> {
+    // The first pair of greatest priority, or the last one of least.
+    fn find(&self, is_greatest: bool) -> Option<(usize, Pair)> {
         let mut found: Option<(usize, Pair)> = None;
         for (place, pair) in self.pending.iter().enumerate() {
-            if found.is_none_or(|(_, best)| best.1 < pair.1) {
-                found = Some((place, *pair));
-            }
-        }
-        found
-    }
-
-    fn last_least(&self) -> Option<(usize, Pair)> {
-        let mut found: Option<(usize, Pair)> = None;
-        for (place, pair) in self.pending.iter().enumerate() {
-            if found.is_none_or(|(_, best)| pair.1 <= best.1) {
+            let (priority, is_first) = (pair.1, found.is_none());
+            let (_, (_, best)) = found.unwrap_or((0, (0, 0)));
+            let is_better = if is_greatest {
+                best < priority
+            } else {
+                priority <= best
+            };
+            if is_first || is_better {
                 found = Some((place, *pair));
             }
         }

@@ -1,7 +1,7 @@
 //! The calls of a receiver.
 ghost use Rattle.std.specs.Iterator.{IsFinite};
 
-use super::calls::{Call, Input, Pair, Side, Way};
+use super::calls::{Call, Input, Pair, Way};
 use super::either::{answer_of, make_by_either};
 use super::reply::{Outcome, Refusal, Reply};
 use super::send::deadline_of;
@@ -20,57 +20,37 @@ pub fn receive<R: Host, A: Allocator + Copy, B: Allocator + Copy>(
 ) -> Reply {
     let most = input.most;
     match call {
-        Call::Recv(way) => receive_one(rt, rx, way, input),
+        Call::Recv(Way::Try) => tell_one(rt, Some(rx.try_recv())),
+        Call::Recv(Way::Blocking) => tell_one(rt, Some(rx.recv_blocking())),
+        Call::Recv(Way::Timeout) => tell_one(rt, Some(rx.recv_timeout(input.limit))),
+        Call::Recv(Way::Deadline) => tell_one(rt, Some(rx.recv_deadline(deadline_of(rt, input)))),
+        Call::Recv(way) => tell_one(rt, answer_of(rt, way, rx.recv())),
         Call::RecvMany(way) => receive_many(rt, alloc, rx, way, input),
-        Call::Stream(_) | Call::IntoStream(_) => stream(rt, rx, call),
+        Call::Stream(way) => tell_next(rt, answer_of(rt, way, rx.stream().next())),
+        Call::IntoStream(way) => {
+            let mut stream = rx.clone().expect(rt, "a receiver").into_stream();
+            tell_next(rt, answer_of(rt, way, stream.next()))
+        }
         Call::TryIter => tell_loop(rt, rx.try_iter().take(most), most),
         Call::Iter => tell_loop(rt, rx.iter().take(most), most),
-        Call::IntoIter => tell_loop(rt, other(rt, rx).into_iter().take(most), most),
-        Call::Unpolled(Side::Receiver) => {
-            drop_unpolled(rx, &mut Vec::new(alloc));
-            Reply::new(rt, Outcome::Done)
+        Call::IntoIter => {
+            let other = rx.clone().expect(rt, "a receiver");
+            tell_loop(rt, other.into_iter().take(most), most)
         }
-        Call::RecvIf => receive_if(rt, rx, input.chosen),
-        Call::PeekWith => peek(rt, rx),
-        Call::PeekPriority => peek_priority(rt, rx),
+        Call::RecvIf => match rx.try_recv_if(|msg, _| *msg % 2 == input.chosen % 2) {
+            Ok(None) => Reply::new(rt, Outcome::Was(false)),
+            Ok(found) => Reply::found(rt, found, Outcome::Empty),
+            Err(refusal) => tell_one(rt, Some(Err(refusal))),
+        },
+        Call::PeekWith => {
+            let seen = rx.peek_with(|msg, priority| (*msg, *priority));
+            Reply::found(rt, seen, Outcome::Empty)
+        }
+        Call::PeekPriority => {
+            let seen = rx.peek_priority().expect(rt, "a priority");
+            Reply::found(rt, seen.map(|priority| (0, priority)), Outcome::Empty)
+        }
         _by_either => make_by_either(rt, rx, call, input),
-    }
-}
-
-fn drop_unpolled<R: Host, A: Allocator + Copy, B: Allocator>(
-    rx: &Receiver<u64, u64, R, A>,
-    batch: &mut Vec<Pair, B>,
-) {
-    drop(rx.recv());
-    drop(rx.stream());
-    drop(rx.iter());
-    drop(rx.try_iter());
-    drop(rx.closed());
-    drop(rx.recv_many(batch, 1));
-}
-
-fn other<R: Host, A: Allocator + Copy>(
-    rt: &R,
-    rx: &Receiver<u64, u64, R, A>,
-) -> Receiver<u64, u64, R, A> {
-    rx.clone().expect(rt, "a receiver")
-}
-
-fn receive_one<R: Host, A: Allocator + Copy>(
-    rt: &R,
-    rx: &Receiver<u64, u64, R, A>,
-    way: Way,
-    input: Input,
-) -> Reply {
-    match way {
-        Way::Try => tell_one(rt, Some(rx.try_recv())),
-        Way::Poll | Way::Future => tell_one(rt, answer_of(rt, way, rx.recv())),
-        Way::Blocking => tell_one(rt, Some(rx.recv_blocking())),
-        Way::Timeout => tell_one(rt, Some(rx.recv_timeout(input.limit))),
-        Way::Deadline => {
-            let deadline = deadline_of(rt, input);
-            tell_one(rt, Some(rx.recv_deadline(deadline)))
-        }
     }
 }
 
@@ -107,49 +87,20 @@ fn receive_many<R: Host, A: Allocator + Copy, B: Allocator + Copy>(
     }
 }
 
-fn stream<R: Host, A: Allocator + Copy>(
-    rt: &R,
-    rx: &Receiver<u64, u64, R, A>,
-    call: Call,
-) -> Reply {
-    let next = match call {
-        Call::Stream(way) => answer_of(rt, way, rx.stream().next()),
-        _into_stream => answer_of(rt, call.way(), other(rt, rx).into_stream().next()),
-    };
-    match next {
-        None => Reply::new(rt, Outcome::Waits),
-        Some(next) => Reply::found(rt, next, Outcome::Ended),
-    }
-}
-
-fn peek<R: Host, A: Allocator + Copy>(rt: &R, rx: &Receiver<u64, u64, R, A>) -> Reply {
-    let seen = rx.peek_with(|msg, priority| (*msg, *priority));
-    Reply::found(rt, seen, Outcome::Empty)
-}
-
-fn peek_priority<R: Host, A: Allocator + Copy>(rt: &R, rx: &Receiver<u64, u64, R, A>) -> Reply {
-    let seen = rx.peek_priority().expect(rt, "a priority");
-    Reply::found(rt, seen.map(|priority| (0, priority)), Outcome::Empty)
-}
-
-fn receive_if<R: Host, A: Allocator + Copy>(
-    rt: &R,
-    rx: &Receiver<u64, u64, R, A>,
-    chosen: u64,
-) -> Reply {
-    match rx.try_recv_if(|msg, _| *msg % 2 == chosen % 2) {
-        Ok(None) => Reply::new(rt, Outcome::Was(false)),
-        Ok(found) => Reply::found(rt, found, Outcome::Empty),
-        Err(refusal) => tell_one(rt, Some(Err(refusal))),
-    }
-}
-
 /// What a future answers, or one that is pending.
 pub fn tell_one<E: Refusal<()> + Drop>(rt: &impl Host, received: Option<Result<Pair, E>>) -> Reply {
     match received {
         None => Reply::new(rt, Outcome::Waits),
         Some(Ok(pair)) => Reply::found(rt, Some(pair), Outcome::Done),
         Some(Err(refusal)) => Reply::new(rt, refusal.tell().0),
+    }
+}
+
+/// The same of a stream.
+pub fn tell_next(rt: &impl Host, next: Option<Option<Pair>>) -> Reply {
+    match next {
+        None => Reply::new(rt, Outcome::Waits),
+        Some(next) => Reply::found(rt, next, Outcome::Ended),
     }
 }
 

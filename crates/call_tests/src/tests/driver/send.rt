@@ -1,5 +1,5 @@
 //! The calls of a sender.
-use super::calls::{Call, Input, Pair, Pairs, Side, Way};
+use super::calls::{Call, Input, Pair, Pairs, Way};
 use super::either::{answer_of, make_by_either};
 use super::reply::{Outcome, Refusal, Reply};
 use crate::tests::Host;
@@ -16,58 +16,30 @@ pub fn send<R: Host, A: Allocator + Copy>(
     input: Input,
 ) -> Reply {
     let (msg, priority) = input.pair();
+    let pairs = input.pairs.peekable();
+    let limit = input.limit;
     match call {
-        Call::Send(way) => send_one(rt, tx, way, input),
-        Call::Sendv(way) => send_many(rt, tx, way, input),
+        Call::Send(Way::Try) => tell_one(rt, Some(tx.try_send(msg, priority))),
+        Call::Send(Way::Blocking) => tell_one(rt, Some(tx.send_blocking(msg, priority))),
+        Call::Send(Way::Timeout) => tell_one(rt, Some(tx.send_timeout(msg, priority, limit))),
+        Call::Send(Way::Deadline) => {
+            let deadline = deadline_of(rt, input);
+            tell_one(rt, Some(tx.send_deadline(msg, priority, deadline)))
+        }
+        Call::Send(way) => tell_one(rt, answer_of(rt, way, tx.send(msg, priority))),
+        Call::Sendv(Way::Try) => tell_many(rt, Some(tx.try_sendv(pairs))),
+        Call::Sendv(Way::Blocking) => tell_many(rt, Some(tx.sendv_blocking(pairs))),
+        Call::Sendv(Way::Timeout) => tell_many(rt, Some(tx.sendv_timeout(pairs, limit))),
+        Call::Sendv(Way::Deadline) => {
+            let deadline = deadline_of(rt, input);
+            tell_many(rt, Some(tx.sendv_deadline(pairs, deadline)))
+        }
+        Call::Sendv(way) => tell_many(rt, answer_of(rt, way, tx.sendv(pairs))),
         Call::SendEvicting => match tx.try_send_evicting(msg, priority) {
             Ok(displaced) => Reply::found(rt, displaced, Outcome::Done),
             Err(refusal) => tell_one(rt, Some(Err(refusal))),
         },
-        Call::Unpolled(Side::Sender) => {
-            drop(tx.send(msg, priority));
-            drop(tx.closed());
-            drop(tx.sendv(input.pairs.peekable()));
-            Reply::new(rt, Outcome::Done)
-        }
         _by_either => make_by_either(rt, tx, call, input),
-    }
-}
-
-fn send_one<R: Host, A: Allocator + Copy>(
-    rt: &R,
-    tx: &Sender<u64, u64, R, A>,
-    way: Way,
-    input: Input,
-) -> Reply {
-    let (msg, priority) = input.pair();
-    match way {
-        Way::Try => tell_one(rt, Some(tx.try_send(msg, priority))),
-        Way::Poll | Way::Future => tell_one(rt, answer_of(rt, way, tx.send(msg, priority))),
-        Way::Blocking => tell_one(rt, Some(tx.send_blocking(msg, priority))),
-        Way::Timeout => tell_one(rt, Some(tx.send_timeout(msg, priority, input.limit))),
-        Way::Deadline => {
-            let deadline = deadline_of(rt, input);
-            tell_one(rt, Some(tx.send_deadline(msg, priority, deadline)))
-        }
-    }
-}
-
-fn send_many<R: Host, A: Allocator + Copy>(
-    rt: &R,
-    tx: &Sender<u64, u64, R, A>,
-    way: Way,
-    input: Input,
-) -> Reply {
-    let pairs = input.pairs.peekable();
-    match way {
-        Way::Try => tell_many(rt, Some(tx.try_sendv(pairs))),
-        Way::Poll | Way::Future => tell_many(rt, answer_of(rt, way, tx.sendv(pairs))),
-        Way::Blocking => tell_many(rt, Some(tx.sendv_blocking(pairs))),
-        Way::Timeout => tell_many(rt, Some(tx.sendv_timeout(pairs, input.limit))),
-        Way::Deadline => {
-            let deadline = deadline_of(rt, input);
-            tell_many(rt, Some(tx.sendv_deadline(pairs, deadline)))
-        }
     }
 }
 

@@ -2,12 +2,11 @@
 //! back, and the channel goes on.
 use super::{Mirrored, input};
 use crate::tests::driver::all::ALL;
-use crate::tests::driver::calls::{Call, Input, Pairs, Side, Way};
-use crate::tests::driver::handles::Handles;
+use crate::tests::driver::calls::{Call, Input, Side, Way};
 use crate::tests::driver::model::Model;
 use crate::tests::driver::reply::{Outcome, Reply};
 use crate::tests::{Host, expect_equal_at, expect_true};
-use async_priority_channel::{End, Ends, Role, Weak, bounded, bounded_reserved, unbounded};
+use async_priority_channel::{End, Ends, Role, bounded, bounded_reserved, unbounded};
 use refusing::Refusing;
 use std::alloc::{AllocError, Allocator, Global};
 use std::sync::Wait;
@@ -48,12 +47,12 @@ fn expect_refused<R: Host>(
         let accepted = model.answer(rt, Call::Sendv(Way::Try), front);
         expect_equal_at(rt, round, accepted.outcome, Outcome::Done);
     }
-    let rest = Pairs {
-        first: pairs.first.wrapping_add(sent),
-        count: pairs.count.saturating_sub(sent),
-        spread: pairs.spread,
-    };
-    let wanted = Reply::with(rt, Outcome::Memory, rest);
+    let rest = input(
+        pairs.first.wrapping_add(sent),
+        pairs.count.saturating_sub(sent),
+        0,
+    );
+    let wanted = Reply::with(rt, Outcome::Memory, rest.pairs);
     expect_equal_at(rt, round, reply, wanted);
 }
 
@@ -139,11 +138,8 @@ fn a_constructor_may_be_refused(rt: HostRuntime) {
     alloc.refuse_all();
     let bounded_made = bounded::<u64, u64, _, _>(&rt, &alloc, 1).is_ok();
     let unbounded_made = unbounded::<u64, u64, _, _>(&rt, &alloc).is_ok();
-    expect_true(
-        &rt,
-        !bounded_made && !unbounded_made,
-        "each asks for memory",
-    );
+    let made = (bounded_made, unbounded_made);
+    expect_equal_at(&rt, "made", made, (false, false));
     for n in 1..=2u64 {
         alloc.refuse_nth(n);
         let made = bounded_reserved::<u64, u64, _, _>(&rt, &alloc, 1);
@@ -151,126 +147,47 @@ fn a_constructor_may_be_refused(rt: HostRuntime) {
     }
 }
 
-// A place is left by the future that is dropped, so the next one asks for its waiter alone.
-#[test]
-fn dropped_futures_leave_their_places(rt: HostRuntime) {
-    let alloc = Refusing::new(rt.alloc());
-    let ends = bounded_reserved(&rt, &alloc, 1).expect(&rt, "a channel");
-    let mut handles = Handles::new(&rt, &alloc, ends);
-    for call in [
-        Call::Closed(Side::Sender, Way::Poll),
-        Call::Closed(Side::Receiver, Way::Poll),
-        Call::Recv(Way::Poll),
-        Call::Stream(Way::Poll),
-        Call::IntoStream(Way::Poll),
-        Call::Send(Way::Try),
-        Call::Send(Way::Poll),
-        Call::Sendv(Way::Poll),
-    ] {
-        for round in 0..20u64 {
-            alloc.refuse_nth(if round == 0 { 0 } else { 2 });
-            let reply = handles.make(&rt, call, input(1, 1, 1));
-            expect_equal_at(&rt, (call, round), alloc.refuse_none(), round > 0);
-            expect_equal_at(&rt, (call, round), reply.outcome == Outcome::Memory, false);
-        }
-    }
-}
-
 /// A permission to wait that takes memory, so that each handle asks for some.
 #[derive(Drop)]
-struct Boxed<'a, R> {
+struct Asking<'a, R> {
     rt: R,
-    number: Box<u64, &'a Refusing<Global>>,
     alloc: &'a Refusing<Global>,
 }
 
-impl<'a, R: Clone> Boxed<'a, R> {
-    fn new(rt: &R, alloc: &'a Refusing<Global>, number: u64) -> Result<Self, AllocError> {
-        let number = Box::new(alloc, number)?;
-        Ok(Boxed {
-            rt: rt.clone()?,
-            number,
-            alloc,
-        })
+impl<R: Wait> Wait for Asking<'_, R> {}
+
+impl<'a, R: Clone> Clone for Asking<'a, R> {
+    fn clone(&self) -> Result<Asking<'a, R>, AllocError> {
+        drop(Box::new(self.alloc, 0u64)?);
+        let (rt, alloc) = (self.rt.clone()?, self.alloc);
+        Ok(Asking { rt, alloc })
     }
 }
 
-impl<R: Wait> Wait for Boxed<'_, R> {}
-
-impl<'a, R: Clone> Clone for Boxed<'a, R> {
-    fn clone(&self) -> Result<Boxed<'a, R>, AllocError> {
-        Boxed::new(&self.rt, self.alloc, *self.number)
-    }
-}
-
-// Each makes one handle, for which it asks once.
-#[derive(Clone, Copy, Debug)]
-enum Making {
-    Clone,
-    Upgrade,
-    Downgrade,
-}
-
-const MAKINGS: [Making; 3] = [Making::Clone, Making::Upgrade, Making::Downgrade];
-
-type Counts = (usize, usize);
-
-fn counts<S: Role, R: Wait + Clone, A: Allocator + Copy>(end: &End<S, u64, u64, R, A>) -> Counts {
-    (end.sender_count(), end.receiver_count())
-}
-
-// Whether it was made, and the counts as long as it lives.
-fn seen<H: Drop, S: Role, R: Wait + Clone, A: Allocator + Copy>(
-    made: Option<H>,
-    end: &End<S, u64, u64, R, A>,
-) -> (bool, Counts) {
-    (made.is_some(), counts(end))
-}
-
-fn make<S: Role, R: Wait + Clone, A: Allocator + Copy>(
-    end: &End<S, u64, u64, R, A>,
-    weak: &Weak<S, u64, u64, R, A>,
-    making: Making,
-) -> (bool, Counts) {
-    match making {
-        Making::Clone => seen(end.clone().ok(), end),
-        Making::Upgrade => seen(weak.upgrade(), end),
-        Making::Downgrade => seen(end.downgrade().ok(), end),
-    }
-}
-
-// Makes one more of the side that counts so, of each kind: once it is refused, and once it is not.
+// No handle is made, and none is counted.
 fn refuse_handles<S: Role, R: Wait + Clone, A: Allocator + Copy>(
     rt: &impl Host,
     alloc: &Refusing<Global>,
     end: &End<S, u64, u64, R, A>,
-    (senders, receivers): Counts,
 ) {
     let weak = end.downgrade().expect(rt, "a weak handle");
-    for making in MAKINGS {
-        for is_refused in [true, false] {
-            alloc.refuse_nth(if is_refused { 1 } else { 2 });
-            let made = make(end, &weak, making);
-            let got = (made, alloc.refuse_none(), counts(end));
-            let is_counted = !is_refused && !matches!(making, Making::Downgrade);
-            let wanted = if is_counted {
-                (senders, receivers)
-            } else {
-                (1, 1)
-            };
-            let wanted = ((!is_refused, wanted), !is_refused, (1, 1));
-            expect_equal_at(rt, (making, is_refused), got, wanted);
-        }
-    }
+    alloc.refuse_all();
+    let are_strong_made = (end.clone().is_ok(), weak.upgrade().is_some());
+    let are_weak_made = (end.downgrade().is_ok(), weak.clone().is_ok());
+    alloc.refuse_none();
+    let counts = (end.sender_count(), end.receiver_count());
+    let got = (are_strong_made, are_weak_made, counts);
+    expect_equal_at(rt, "handles", got, ((false, false), (false, false), (1, 1)));
 }
 
 #[test]
 fn a_refused_handle_is_not_counted(rt: HostRuntime) {
     let alloc = Refusing::new(rt.alloc());
-    let permission = Boxed::new(&rt, &alloc, 7).expect(&rt, "a permission");
-    let (tx, rx) = bounded::<u64, u64, _, _>(&permission, &alloc, 2).expect(&rt, "a channel");
-    refuse_handles(&rt, &alloc, &tx, (2, 1));
-    refuse_handles(&rt, &alloc, &rx, (1, 2));
+    let (host, alloc) = (&rt, &alloc);
+    let permission = Asking { rt: host, alloc };
+    let (tx, rx) = bounded::<u64, u64, _, _>(&permission, alloc, 2).expect(&rt, "a channel");
+    refuse_handles(&rt, alloc, &tx);
+    refuse_handles(&rt, alloc, &rx);
     drop(tx);
     expect_true(&rt, rx.is_closed(), "the last sender is gone");
 }

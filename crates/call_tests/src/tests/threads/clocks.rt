@@ -1,14 +1,13 @@
 //! A clock that a test controls: what time it is depends on how often it was read.
 use super::Threaded;
-use super::gate::Gate;
 use std::alloc::{Alloc, Global};
 use std::fmt::Display;
-use std::io;
 use std::process::Abort;
 use std::random::RandomSource;
 use std::sync::Wait;
-use std::sync::atomic::{AtomicU64, Ordering};
+use std::sync::atomic::{AtomicBool, AtomicU64, Ordering};
 use std::time::{Clock, Duration};
+use std::{io, thread};
 
 /// The limit of the calls that wait by such a clock.
 pub fn second() -> Duration {
@@ -19,12 +18,8 @@ pub fn second() -> Duration {
 /// passes. So a wait that has a second parks for a millisecond at a time.
 #[derive(Clone, Copy)]
 pub enum Plan {
-    /// The second passes as the test says so.
-    StandsStill,
-    /// So too, and this reading comes by the gate, where it halts.
+    /// This reading halts its thread until another one lets it go on.
     HaltsAt(u64),
-    /// The second has passed at this reading.
-    OverAt(u64),
     /// It cannot be read from this reading on.
     FailsFrom(u64),
 }
@@ -33,29 +28,41 @@ pub enum Plan {
 pub struct Times {
     plan: Plan,
     readings: AtomicU64,
-    millis: AtomicU64,
-    pub gate: Gate,
+    is_over: AtomicBool,
+    is_reached: AtomicBool,
+    is_open: AtomicBool,
 }
 
 impl Times {
     pub fn new(plan: Plan) -> Self {
-        let gate = Gate::new();
-        gate.arm();
         Times {
             plan,
             readings: AtomicU64::new(0),
-            millis: AtomicU64::new(999),
-            gate,
+            is_over: AtomicBool::new(false),
+            is_reached: AtomicBool::new(false),
+            is_open: AtomicBool::new(false),
         }
     }
 
-    pub fn pass_the_second(&self) {
-        self.millis.store(1000, Ordering::SeqCst);
+    /// Whether a thread halts.
+    pub fn is_reached(&self) -> bool {
+        self.is_reached.load(Ordering::SeqCst)
     }
 
-    /// How often it was read.
-    pub fn readings(&self) -> u64 {
-        self.readings.load(Ordering::SeqCst)
+    /// Lets that thread go on, just before the second is over or as it is.
+    pub fn let_go(&self, is_over: bool) {
+        self.is_over.store(is_over, Ordering::SeqCst);
+        self.is_open.store(true, Ordering::SeqCst);
+    }
+
+    fn halt(&self) {
+        self.is_reached.store(true, Ordering::SeqCst);
+        for _ in 0..u64::MAX {
+            if self.is_open.load(Ordering::SeqCst) {
+                return;
+            }
+            thread::yield_now();
+        }
     }
 
     fn read(&self) -> io::Result<Duration> {
@@ -64,14 +71,12 @@ impl Times {
             Plan::FailsFrom(first) if reading >= first => {
                 return Err(io::Error::from(io::ErrorKind::Unsupported));
             }
-            Plan::OverAt(first) if reading >= first => return Ok(second()),
-            Plan::HaltsAt(at) if reading == at => self.gate.pass(),
+            Plan::HaltsAt(at) if reading == at => self.halt(),
             _ => {}
         }
-        if reading == 0 {
-            return Ok(Duration::ZERO);
-        }
-        Ok(Duration::from_millis(self.millis.load(Ordering::SeqCst)))
+        let is_over = self.is_over.load(Ordering::SeqCst) as u64;
+        let millis = if reading == 0 { 0 } else { 999 };
+        Ok(Duration::from_millis(is_over.saturating_add(millis)))
     }
 }
 

@@ -1,5 +1,5 @@
 //! The two sides of a channel, so that a test is written once for both.
-use crate::tests::driver::calls::{Call, Input, Pairs, Side, Way};
+use crate::tests::driver::calls::{Call, Input, Pairs, Side, Way, is_for_close};
 use crate::tests::driver::receive::receive;
 use crate::tests::driver::reply::{Outcome, Reply};
 use crate::tests::driver::send::send;
@@ -12,26 +12,8 @@ use std::time::Duration;
 /// A sender waits for room, and a receiver for a message.
 pub const SIDES: [Side; 2] = [Side::Sender, Side::Receiver];
 
-/// The call of that side which moves one message in this way.
-pub fn call_of(side: Side, way: Way) -> Call {
-    match side {
-        Side::Sender => Call::Send(way),
-        Side::Receiver => Call::Recv(way),
-    }
-}
-
 pub fn is_bulk(call: Call) -> bool {
     matches!(call, Call::Sendv(_))
-}
-
-/// A batch asks for memory of its own.
-pub fn is_batch(call: Call) -> bool {
-    matches!(call, Call::RecvMany(_))
-}
-
-/// Whether it waits for the close, and not for room or for a message.
-pub fn is_for_close(call: Call) -> bool {
-    matches!(call, Call::Closed(..))
 }
 
 pub fn waits(call: Call) -> bool {
@@ -53,26 +35,6 @@ pub const TIMED: [Call; 12] = [
     Call::Closed(Side::Receiver, Way::Timeout),
     Call::Closed(Side::Receiver, Way::Deadline),
 ];
-
-/// Whether it may send, or take out by a receiver.
-pub fn moves(call: Call) -> bool {
-    matches!(
-        call,
-        Call::Send(_)
-            | Call::Sendv(_)
-            | Call::SendEvicting
-            | Call::Recv(_)
-            | Call::RecvMany(_)
-            | Call::TryIter
-            | Call::Iter
-            | Call::IntoIter
-            | Call::Stream(_)
-            | Call::IntoStream(_)
-            | Call::TakeWhere(Side::Receiver)
-            | Call::Retain(Side::Receiver)
-            | Call::RecvIf
-    )
-}
 
 /// What came of a call, how many messages came or came back, and the first of them.
 pub type Answer = (Outcome, usize, u64);
@@ -105,11 +67,17 @@ pub fn closed(call: Call) -> Answer {
 }
 
 fn answer_of(reply: &Reply) -> Answer {
-    let first = match reply.pairs.first() {
-        Some((msg, _)) => *msg,
-        None => 0,
-    };
+    let first = reply.pairs.first().map_or(0, |(msg, _)| *msg);
     (reply.outcome, reply.pairs.len(), first)
+}
+
+/// How many are pending as a call is blocked, and as it has ended: where one was received, another
+/// one was sent.
+pub fn pending_after(call: Call) -> u64 {
+    match call.side() {
+        Side::Sender => 2,
+        Side::Receiver => 0,
+    }
 }
 
 /// A limit that no wait reaches which ends as it should.
@@ -121,11 +89,7 @@ pub fn long() -> Duration {
 // receives one.
 fn input(limit: Duration) -> Input {
     Input {
-        pairs: Pairs {
-            first: 7,
-            count: 2,
-            spread: u64::MAX,
-        },
+        pairs: Pairs::new(7, 2, u64::MAX),
         most: 1,
         limit,
         chosen: 7,
@@ -144,6 +108,13 @@ impl<R: Host, A: Allocator + Copy> Either<R, A> {
         match self {
             Either::Sender(tx) => Either::Sender(tx.clone().expect(rt, "a sender")),
             Either::Receiver(rx) => Either::Receiver(rx.clone().expect(rt, "a receiver")),
+        }
+    }
+
+    pub fn side(&self) -> Side {
+        match self {
+            Either::Sender(_) => Side::Sender,
+            Either::Receiver(_) => Side::Receiver,
         }
     }
 

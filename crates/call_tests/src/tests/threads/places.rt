@@ -1,9 +1,9 @@
 //! A call that waits as the first of its side, or behind another one.
-use super::either::{Answer, Either, call_of, done, is_bulk, is_for_close, long};
+use super::either::{Answer, Either, done, is_bulk, long};
 use super::watch::beside;
 use super::{Threaded, let_others_wait};
 use crate::tests::Host;
-use crate::tests::driver::calls::{Call, Way};
+use crate::tests::driver::calls::{Call, Way, is_for_close};
 use std::alloc::Allocator;
 use std::fmt::Debug;
 
@@ -30,14 +30,14 @@ impl Place {
 
 /// The call that waits before one at the second place.
 pub fn before(call: Call) -> Call {
-    call_of(call.side(), Way::Blocking)
+    call.side().call(Way::Blocking)
 }
 
 /// Does this once the call before that place waits, which is helped then if it still waits. Tells
 /// what the call before was told, if there was one.
 pub fn at<H, N, R, A, B, F>(
     host: &H,
-    told: (&str, N),
+    what: N,
     place: Place,
     made: (&R, A, Call),
     ends: (&Either<R, A>, &Either<R, A>),
@@ -51,11 +51,10 @@ where
     F: FnOnce() -> B,
     requires { F.pre then }
 {
-    let ((what, round), (rt, alloc, call), (blocked, other)) = (told, made, ends);
+    let ((rt, alloc, call), (blocked, other)) = (made, ends);
     beside(
         host,
         what,
-        round,
         move || match place {
             Place::First => done(before(call)),
             Place::Second => blocked.make(rt, alloc, before(call), long()),

@@ -1,18 +1,14 @@
 //! Memory that is refused to waits, and how much of it they ask for.
-use super::either::{
-    Either, SIDES, TIMED, block, call_of, done, is_batch, is_bulk, is_for_close, long, refused,
-    waits,
-};
+use super::either::{Either, SIDES, block, done, long, refused, waits};
 use super::places::{PLACES, Place, at, before};
 use super::watch::{beside, within};
 use super::{Threaded, let_others_wait, wait_until};
 use crate::tests::driver::all::ALL;
-use crate::tests::driver::calls::{Call, Side, Way};
+use crate::tests::driver::calls::{Call, Side, Way, is_for_close};
 use crate::tests::driver::reply::Outcome;
 use crate::tests::{expect_equal_at, expect_true};
-use async_priority_channel::{Sender, bounded, bounded_reserved};
+use async_priority_channel::{bounded, bounded_reserved};
 use refusing::Refusing;
-use std::alloc::Global;
 use std::thread;
 use std::time::Duration;
 
@@ -65,13 +61,12 @@ fn each_request_of_a_wait_may_be_refused(rt: HostRuntime) {
 fn the_next_that_cannot_be_listed_is_told(rt: HostRuntime) {
     for side in SIDES {
         let alloc = Refusing::new(rt.alloc());
-        let call = call_of(side, Way::Blocking);
+        let call = side.call(Way::Blocking);
         let (blocked, other) = block(&rt, &alloc, call);
         let before = alloc.count();
         let (first, (second, could)) = beside(
             &rt,
-            "the next of two waits",
-            side,
+            ("the next of two waits", side),
             || blocked.make(&rt, &alloc, call, long()),
             || {
                 wait_until(&rt, || alloc.count() >= before.wrapping_add(2));
@@ -91,81 +86,67 @@ fn the_next_that_cannot_be_listed_is_told(rt: HostRuntime) {
     }
 }
 
-// It looks again after a pause, since it has to end with the channel alone.
+// A loop makes its waiter once, and what each of its waits asks for is the channel's list, since a
+// wake takes the whole list out. Without memory it looks again after a pause, since it has to end
+// with the channel alone.
 #[test]
-fn a_loop_goes_on_without_memory(rt: HostRuntime) {
-    for call in [Call::Iter, Call::IntoIter] {
-        let alloc = Refusing::new(rt.alloc());
-        let (blocked, other) = block(&rt, &alloc, call);
-        alloc.refuse_all();
-        let (answer, (asked, could)) = beside(
-            &rt,
-            "a loop without memory",
-            call,
-            || blocked.make(&rt, &alloc, call, long()),
-            || {
-                let before = alloc.count();
-                thread::sleep(&rt, Duration::from_millis(200));
-                (alloc.count().saturating_sub(before), other.help())
-            },
-        );
-        expect_equal_at(&rt, call, (answer, could), (done(call), true));
-        // One request a millisecond, or fewer on a busy machine.
-        expect_equal_at(&rt, (call, asked), 5 < asked && asked < 500, true);
-    }
-}
-
-// Sends sixteen, each to a loop that waits. Tells how many requests came from the fifth on.
-fn send_slowly<R: Threaded>(
-    rt: &R,
-    alloc: &Refusing<Global>,
-    tx: &Sender<u64, u64, R, &Refusing<Global>>,
-) -> u64 {
-    let mut before = 0;
-    for round in 0..16u64 {
-        let_others_wait(rt);
-        if round == 4 {
-            before = alloc.count();
-        }
-        expect_true(rt, tx.try_send(round, round).is_ok(), "there is room");
-    }
-    alloc.count().saturating_sub(before)
-}
-
-// Its waiter is made once. What each wait asks for is the channel's list, since a wake takes the
-// whole list out.
-#[test]
-fn a_loop_keeps_its_waiter(rt: HostRuntime) {
+fn a_loop_asks_once_a_wait_and_goes_on_without_memory(rt: HostRuntime) {
     let alloc = Refusing::new(rt.alloc());
-    let (tx, rx) = bounded_reserved(&rt, &alloc, 16).expect(&rt, "a channel");
-    let (received, asked) = beside(
+    let (tx, rx) = bounded_reserved(&rt, &alloc, 1).expect(&rt, "a channel");
+    let send = |number: u64| {
+        let_others_wait(&rt);
+        expect_true(&rt, tx.try_send(number, 0).is_ok(), "there is room");
+        alloc.count()
+    };
+    let (received, (asked, in_vain)) = beside(
         &rt,
         "a loop that waits again and again",
-        16u64,
-        || rx.iter().take(16).count(),
-        || send_slowly(&rt, &alloc, &tx),
+        || rx.iter().take(17).count(),
+        || {
+            let before = send(0);
+            for number in 1..15u64 {
+                send(number);
+            }
+            let_others_wait(&rt);
+            alloc.refuse_all();
+            let begun = send(15);
+            thread::sleep(&rt, Duration::from_millis(200));
+            let ended = send(16);
+            (begun.saturating_sub(before), ended.saturating_sub(begun))
+        },
     );
-    // With a waiter of its own each of the last twelve waits would ask twice.
-    expect_equal_at(&rt, asked, (received, asked < 18), (16, true));
+    // With a waiter of its own each of the waits would ask twice.
+    expect_equal_at(&rt, asked, (received, asked < 22), (17, true));
+    // One request a millisecond, or fewer on a busy machine.
+    expect_equal_at(&rt, in_vain, 5 < in_vain && in_vain < 500, true);
 }
 
-// A wait that is over has left the list. So the next ones find the list's memory there, and ask for
-// their waiter alone, and a batch for its own memory.
+// A wait that is over, or a future that is dropped, has left the list. So the next ones find the
+// list's memory there, and ask for their waiter alone, and a batch for its own memory.
 #[test]
 fn a_wait_leaves_no_place_behind(rt: HostRuntime) {
-    for call in TIMED {
+    for call in ALL {
+        let outcome = match call.way() {
+            Way::Poll => Outcome::Waits,
+            Way::Timeout | Way::Deadline => Outcome::Timeout,
+            _ => continue,
+        };
         let alloc = Refusing::new(rt.alloc());
         let (blocked, other) = block(&rt, &alloc, call);
-        let too_many = if is_batch(call) { 3 } else { 2 };
-        for round in 0..50u64 {
+        let too_many = if matches!(call, Call::RecvMany(_)) {
+            3
+        } else {
+            2
+        };
+        for round in 0..30u64 {
             let (nth, millis) = if round == 0 { (0, 100) } else { (too_many, 2) };
             alloc.refuse_nth(nth);
             let limit = Duration::from_millis(millis);
-            let answer = within(&rt, "the end of a limit", (call, round), || {
+            let answer = within(&rt, ("the end of a limit", (call, round)), || {
                 blocked.make(&rt, &alloc, call, limit)
             });
             let got = (answer.0, alloc.refuse_none());
-            expect_equal_at(&rt, (call, round), got, (Outcome::Timeout, nth > 0));
+            expect_equal_at(&rt, (call, round), got, (outcome, nth > 0));
         }
         expect_true(&rt, other.help(), "the channel is open");
     }
@@ -178,36 +159,14 @@ fn memory_for_a_message_is_not_waited_for(rt: HostRuntime) {
         if !waits(call) || call.side() != Side::Sender || is_for_close(call) {
             continue;
         }
-        for limit in [Duration::ZERO, long(), Duration::MAX] {
-            let alloc = Refusing::new(rt.alloc());
-            let (tx, rx) = bounded(&rt, &alloc, 2).expect(&rt, "a channel");
-            let tx = Either::Sender(tx);
-            alloc.refuse_all();
-            let round = (call, limit);
-            let answer = within(&rt, "a send without memory", round, || {
-                tx.make(&rt, &alloc, call, limit)
-            });
-            let got = (answer.0, answer.2, rx.is_empty());
-            expect_equal_at(&rt, round, got, (Outcome::Memory, 7, true));
-        }
-    }
-}
-
-// What can be answered at once asks for nothing, but a batch for its own memory.
-#[test]
-fn what_need_not_wait_asks_for_nothing(rt: HostRuntime) {
-    for call in ALL {
-        if !waits(call) || is_batch(call) {
-            continue;
-        }
         let alloc = Refusing::new(rt.alloc());
-        let (blocked, other) = block(&rt, &alloc, call);
-        let could = other.bring(call) && (is_bulk(call) || is_for_close(call) || other.help());
-        alloc.refuse_nth(1);
-        let answer = within(&rt, "what need not wait", call, || {
-            blocked.make(&rt, &alloc, call, long())
+        let (tx, rx) = bounded(&rt, &alloc, 2).expect(&rt, "a channel");
+        let tx = Either::Sender(tx);
+        alloc.refuse_all();
+        let answer = within(&rt, ("a send without memory", call), || {
+            tx.make(&rt, &alloc, call, long())
         });
-        let got = (could, answer.0, alloc.refuse_none());
-        expect_equal_at(&rt, call, got, (true, Outcome::Done, true));
+        let got = (answer.0, answer.2, rx.is_empty());
+        expect_equal_at(&rt, call, got, (Outcome::Memory, 7, true));
     }
 }

@@ -4,8 +4,7 @@
 //!
 //! The test runs a few rounds, and `tools/soak` runs it for minutes, from another seed.
 use super::Threaded;
-use super::either::moves;
-use super::watch::{MUCH_PATIENCE, within_millis};
+use super::watch::within;
 use crate::tests::dice::Dice;
 use crate::tests::driver::all::ALL;
 use crate::tests::driver::calls::{Call, Input, Pair, Pairs, Side, Way};
@@ -33,7 +32,7 @@ const REQUESTS: u64 = 6;
 // How many messages there is room for at most.
 const ROOM: u64 = 12;
 
-const ROUNDS: u64 = 8;
+const ROUNDS: u64 = 24;
 
 /// What a round is told by.
 #[derive(Clone, Copy, Debug)]
@@ -47,17 +46,21 @@ struct Round {
     close_at: Option<u64>,
     /// Whether priorities are changed, so that no order can be told.
     changes: bool,
+    /// Whether all calls are such that wait without a limit, so that no other helps out where one
+    /// is not woken.
+    only_waits: bool,
 }
 
 impl Round {
     fn draw(dice: &mut Dice, seed: u64) -> Self {
         Round {
             seed,
-            each: dice.between(300, 1300),
+            each: dice.between(100, 500),
             senders: dice.between(1, 5),
             receivers: dice.between(1, 5),
-            close_at: (dice.below(2) == 0).then_some(dice.below(300)),
+            close_at: (dice.below(2) == 0).then_some(dice.below(100)),
             changes: dice.below(4) == 0,
+            only_waits: dice.below(2) == 0,
         }
     }
 
@@ -83,6 +86,8 @@ impl Round {
     // A call that is made by a handle of that side. A wait for the close has to end without it.
     fn draws(self, side: Side, call: Call) -> bool {
         let is_drawn = match call {
+            Call::Closed(..) if self.only_waits => false,
+            _ if self.only_waits => matches!(call.way(), Way::Blocking | Way::Future),
             Call::Closed(_, way) => matches!(way, Way::Poll | Way::Timeout | Way::Deadline),
             Call::ChangePriority(_) => self.changes,
             Call::Close(_) | Call::CloseOnDrop(_) => false,
@@ -110,11 +115,7 @@ fn draw_call(dice: &mut Dice, calls: &[Call]) -> Call {
 
 fn draw_input(dice: &mut Dice, first: u64, left: u64) -> Input {
     Input {
-        pairs: Pairs {
-            first,
-            count: dice.between(1, MANY).min(left),
-            spread: PRIORITIES,
-        },
+        pairs: Pairs::new(first, dice.between(1, MANY).min(left), PRIORITIES),
         most: dice.between(1, MANY) as usize,
         limit: Duration::from_micros(dice.below(500)),
         chosen: first.saturating_sub(dice.below(MANY)),
@@ -168,18 +169,16 @@ impl Log {
         let noted = match call {
             Call::Send(_) => self.note_sent(1, reply),
             Call::Sendv(_) => self.note_sent(input.pairs.count, reply),
-            Call::SendEvicting if reply.outcome == Outcome::Done => self.note_displaced(reply),
+            Call::SendEvicting if reply.outcome == Outcome::Done => {
+                self.fates.push(Fate::Sent).expect(rt, "memory for a log");
+                self.chosen.extend(reply.pairs.iter().copied())
+            }
             Call::SendEvicting => self.note_sent(1, reply),
             Call::TakeWhere(_) | Call::Retain(_) => self.chosen.extend(reply.pairs.iter().copied()),
-            _ if moves(call) => self.came.extend(reply.pairs.iter().copied()),
-            _ => Ok(()),
+            Call::PeekWith | Call::PeekPriority | Call::ChangePriority(_) => Ok(()),
+            _receive => self.came.extend(reply.pairs.iter().copied()),
         };
         noted.expect(rt, "memory for a log");
-    }
-
-    fn note_displaced(&mut self, reply: &Reply) -> Result<(), AllocError> {
-        self.fates.push(Fate::Sent)?;
-        self.chosen.extend(reply.pairs.iter().copied())
     }
 
     // Of so many messages. Those that came back are the last.
@@ -195,12 +194,6 @@ impl Log {
         }
         Ok(())
     }
-}
-
-fn expect_bound<S: Role, R: Host>(rt: &R, round: Round, end: &End<S, u64, u64, R>) {
-    let len = end.len();
-    let is_kept = end.capacity().is_none_or(|capacity| len <= capacity);
-    expect_equal_at(rt, (round, "the bound", len), is_kept, true);
 }
 
 // Until all its messages are settled, or the channel is closed.
@@ -222,7 +215,6 @@ fn send_all<R: Threaded>(
         if left == 0 || tx.is_closed() {
             break;
         }
-        expect_bound(rt, round, tx);
         let call = draw_call(&mut dice, &calls);
         let first = number.wrapping_mul(round.each).wrapping_add(settled);
         let input = draw_input(&mut dice, first, left);
@@ -247,7 +239,6 @@ fn receive_all<R: Threaded>(
         if rx.is_closed() && rx.is_empty() {
             break;
         }
-        expect_bound(rt, round, rx);
         let call = draw_call(&mut dice, &calls);
         let any = dice.below(round.count());
         let input = draw_input(&mut dice, any, MANY);
@@ -284,17 +275,15 @@ fn start<R: Threaded>(
         let tx = tx.clone().expect(rt, "a sender");
         let dice = dice.split();
         let thread = thread::spawn(rt, move || send_all(&host, &tx, round, number, dice));
-        threads
-            .push(thread.expect(rt, "a thread"))
-            .expect(rt, "memory");
+        let thread = thread.expect(rt, "a thread");
+        threads.push(thread).expect(rt, "memory");
     }
     for _ in 0..round.receivers {
         let rx = rx.clone().expect(rt, "a receiver");
         let dice = dice.split();
         let thread = thread::spawn(rt, move || receive_all(&host, &rx, round, dice));
-        threads
-            .push(thread.expect(rt, "a thread"))
-            .expect(rt, "memory");
+        let thread = thread.expect(rt, "a thread");
+        threads.push(thread).expect(rt, "memory");
     }
     threads
 }
@@ -312,7 +301,7 @@ fn run_round<R: Threaded>(rt: &R, seed: u64) {
     let round = Round::draw(&mut dice, seed);
     let (tx, rx) = open(rt, &mut dice);
     let threads = start(rt, (tx, &rx), round, &mut dice);
-    let logs = within_millis(rt, MUCH_PATIENCE, round, || join_all(rt, threads));
+    let logs = within(rt, round, || join_all(rt, threads));
     let left = (rx.len(), rx.sender_count(), rx.receiver_count());
     expect_equal_at(rt, (round, "what is left"), left, (0, 0, 1));
     settle(rt, round, &logs);
@@ -348,12 +337,8 @@ fn count_times<R: Host>(rt: &R, round: Round, logs: &[Log]) -> Vec<u64> {
         for pair in log.came.iter().chain(log.chosen.iter()) {
             let is_own = round.changes || pair.1 == round.priority(pair.0);
             let count = times.get_mut(pair.0 as usize);
-            expect_equal_at(
-                rt,
-                (round, *pair, "it was sent"),
-                is_own && count.is_some(),
-                true,
-            );
+            let was_sent = is_own && count.is_some();
+            expect_equal_at(rt, (round, *pair, "was sent"), was_sent, true);
             if let Some(count) = count {
                 *count = count.saturating_add(1);
             }
@@ -369,10 +354,8 @@ fn expect_order<R: Host>(rt: &R, round: Round, came: &[Pair]) {
         latest.push(0u64).expect(rt, "memory for the latest");
     }
     for (msg, priority) in came {
-        let kind = round
-            .sender(*msg)
-            .saturating_mul(PRIORITIES)
-            .saturating_add(*priority);
+        let sender = round.sender(*msg);
+        let kind = sender.saturating_mul(PRIORITIES).saturating_add(*priority);
         if let Some(latest) = latest.get_mut(kind as usize) {
             expect_equal_at(rt, (round, *msg, "behind", *latest), *latest <= *msg, true);
             *latest = *msg;

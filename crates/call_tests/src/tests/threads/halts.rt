@@ -1,0 +1,211 @@
+//! What comes as a thread halts in its wait: at a reading of the clock, or at a request for memory.
+//! The thread finds it, also where its time is over then, and wakes those that wait for what it
+//! leaves.
+use super::clocks::{Paced, Plan, Times, second};
+use super::either::{Either, TIMED, block, closed, done, long, refused};
+use super::places::{PLACES, Place, at, before};
+use super::{Threaded, wait_until};
+use crate::tests::driver::all::ALL;
+use crate::tests::driver::calls::{Call, Way, is_for_close};
+use crate::tests::driver::reply::Outcome;
+use crate::tests::{Host, expect_equal_at, new_task, ready};
+use refusing::Refusing;
+use std::alloc::{Allocator, Global};
+use std::sync::atomic::{AtomicBool, Ordering};
+use std::thread;
+use std::time::{Duration, Instant};
+
+/// Where a thread halts.
+#[derive(Clone, Copy)]
+enum Halt<'a> {
+    /// At a reading of the clock, which then tells that the time is over, or that it is not.
+    Reading(&'a Times, bool),
+    /// At a request for memory, before the thread is listed.
+    Request(&'a Refusing<Global>),
+}
+
+impl Halt<'_> {
+    fn is_reached(self) -> bool {
+        match self {
+            Halt::Reading(times, _) => times.is_reached(),
+            Halt::Request(alloc) => alloc.is_holding(),
+        }
+    }
+
+    fn let_go(self) {
+        match self {
+            Halt::Reading(times, is_late) => times.let_go(is_late),
+            Halt::Request(alloc) => alloc.let_go(),
+        }
+    }
+}
+
+/// What comes meanwhile.
+#[derive(Clone, Copy, Debug)]
+enum Coming {
+    /// What the call waits for, while there is time left.
+    Early,
+    /// The same, or a close or nothing, as the time is over.
+    Late,
+    Close,
+    Nothing,
+}
+
+const COMING: [Coming; 4] = [Coming::Early, Coming::Late, Coming::Close, Coming::Nothing];
+
+// The number is that of the reading or of the request.
+type Round = (Call, Place, Coming, u64);
+
+// Lets the thread go on, until it has answered.
+fn let_answer<R: Threaded>(rt: &R, halt: Halt<'_>, has_answered: &AtomicBool) {
+    halt.let_go();
+    wait_until(rt, || has_answered.load(Ordering::SeqCst));
+}
+
+// Brings what the thread waits for, and more of it than there is place for, so that a task waits
+// until the thread has gone on. Tells whether that task is woken then.
+fn is_task_woken<H: Threaded, R: Host, A: Allocator + Copy>(
+    host: &H,
+    other: &Either<R, A>,
+    halt: Halt<'_>,
+    has_answered: &AtomicBool,
+) -> bool {
+    let could = other.help() && other.help();
+    let task = new_task(host);
+    // A waker wakes its task also as it is dropped, so the future lives until that was looked at.
+    let is_woken = match other {
+        Either::Sender(tx) => {
+            let mut sending = tx.send(9, 9);
+            let waits = ready(task.poll(&mut sending)).is_none();
+            let_answer(host, halt, has_answered);
+            waits && task.is_woken()
+        }
+        Either::Receiver(rx) => {
+            let mut receiving = rx.recv();
+            let waits = ready(task.poll(&mut receiving)).is_none();
+            let_answer(host, halt, has_answered);
+            waits && task.is_woken()
+        }
+    };
+    could && is_woken
+}
+
+// Tells whether it could come. The call before one at the second place takes a part of it.
+fn come<H: Threaded, R: Host, A: Allocator + Copy>(
+    host: &H,
+    (call, place, coming, _): Round,
+    other: &Either<R, A>,
+    halt: Halt<'_>,
+    has_answered: &AtomicBool,
+) -> bool {
+    wait_until(host, || halt.is_reached());
+    let could = match (coming, place) {
+        (Coming::Nothing, _) => true,
+        (Coming::Close, _) => other.close(),
+        _ if is_for_close(call) => other.close(),
+        (_, Place::First) => return is_task_woken(host, other, halt, has_answered),
+        (_, Place::Second) => other.help() && other.help(),
+    };
+    let_answer(host, halt, has_answered);
+    could
+}
+
+fn wait_with_a_halt<H, R, A>(
+    host: &H,
+    round: Round,
+    (rt, alloc): (&R, A),
+    ends: &(Either<R, A>, Either<R, A>),
+    halt: Halt<'_>,
+)
+where
+    H: Threaded,
+    R: Host + Sync,
+    A: Allocator + Copy + Send + Sync,
+{
+    let (call, place, coming, _) = round;
+    let (blocked, other) = ends;
+    let limit = match halt {
+        Halt::Reading(..) => second(),
+        Halt::Request(_) => long(),
+    };
+    let has_answered = AtomicBool::new(false);
+    let (first, (answer, could)) = at(
+        host,
+        ("what comes as a thread halts", round),
+        place,
+        (rt, alloc, call),
+        (blocked, other),
+        || {
+            thread::join(
+                host,
+                || {
+                    let answer = blocked.make(rt, alloc, call, limit);
+                    has_answered.store(true, Ordering::SeqCst);
+                    answer
+                },
+                || come(host, round, other, halt, &has_answered),
+            )
+        },
+    );
+    let wanted = match coming {
+        Coming::Early | Coming::Late => done(call),
+        Coming::Close => closed(call),
+        Coming::Nothing => refused(call, Outcome::Timeout),
+    };
+    let wanted_first = match (place, coming) {
+        (Place::Second, Coming::Close) => closed(before(call)),
+        _ => done(before(call)),
+    };
+    let got = (answer, could, first);
+    expect_equal_at(host, round, got, (wanted, true, wanted_first));
+}
+
+// Tells how long it took.
+fn wait_by_a_clock<R: Threaded>(rt: &R, round: Round) -> Duration {
+    let (call, _, coming, number) = round;
+    let begun = Instant::now(rt).expect(rt, "a clock");
+    let times = Times::new(Plan::HaltsAt(number));
+    let paced = Paced::new(rt, &times);
+    let ends = block(&paced, rt.alloc(), call);
+    let halt = Halt::Reading(&times, !matches!(coming, Coming::Early));
+    wait_with_a_halt(rt, round, (&paced, rt.alloc()), &ends, halt);
+    begun.elapsed(rt).expect(rt, "a clock")
+}
+
+// At the reading before a wait is listed, and at the one after it has looked again. A wait for the
+// close reads before its first look too, and after it was woken. A wait that reads more often sleeps
+// between two readings.
+#[test]
+fn a_thread_finds_what_has_come_in_time(rt: HostRuntime) {
+    for call in TIMED {
+        let (first, last) = if is_for_close(call) { (1, 4) } else { (2, 3) };
+        for place in PLACES {
+            if place.is_for(call) {
+                for number in first..=last {
+                    for coming in COMING {
+                        wait_by_a_clock(&rt, (call, place, coming, number));
+                    }
+                }
+                let took = wait_by_a_clock(&rt, (call, place, Coming::Nothing, 50));
+                let is_long = took > Duration::from_millis(45);
+                expect_equal_at(&rt, (call, place, took), is_long, true);
+            }
+        }
+    }
+}
+
+// Each call that waits, a future that is polled once among them, finds at its next look what has
+// come since the first.
+#[test]
+fn a_call_that_looks_again_finds_what_has_come(rt: HostRuntime) {
+    for call in ALL {
+        if call.way() != Way::Try {
+            let alloc = Refusing::new(rt.alloc());
+            let ends = block(&rt, &alloc, call);
+            alloc.hold_nth(1);
+            let round = (call, Place::First, Coming::Early, 1);
+            let halt = Halt::Request(&alloc);
+            wait_with_a_halt(&rt, round, (&rt, &alloc), &ends, halt);
+        }
+    }
+}
