@@ -5,7 +5,9 @@ use super::watch::beside;
 use super::{Threaded, let_others_wait, wait_until};
 use crate::tests::driver::all::ALL;
 use crate::tests::driver::calls::{Call, Way, is_for_close};
-use crate::tests::{expect_equal_at, expect_true};
+use crate::tests::{expect_equal_at, expect_true, new_task, ready};
+use async_priority_channel::bounded;
+use futures::executor::block_on;
 use std::sync::atomic::{AtomicBool, Ordering};
 use std::time::Duration;
 
@@ -90,4 +92,23 @@ fn each_wait_ends_soon(rt: HostRuntime) {
             }
         }
     }
+}
+
+// It was polled in a task of this thread first.
+#[test]
+fn a_future_goes_on_in_another_thread(rt: HostRuntime) {
+    let (tx, rx) = bounded(&rt, rt.alloc(), 1).expect(&rt, "a channel");
+    let mut receiving = rx.recv();
+    let polled = new_task(&rt).poll(&mut receiving);
+    expect_true(&rt, ready(polled).is_none(), "nothing was sent");
+    let got = beside(
+        &rt,
+        "a receive that a send has to wake",
+        move || block_on(&rt, receiving).expect(&rt, "an executor"),
+        || {
+            let_others_wait(&rt);
+            tx.try_send(7u64, 1u64)
+        },
+    );
+    expect_equal_at(&rt, "one message", got, (Ok((7, 1)), Ok(())));
 }
