@@ -162,9 +162,9 @@ fn memory_for_a_message_is_not_waited_for(rt: HostRuntime) {
         let alloc = Refusing::new(rt.alloc());
         let (tx, rx) = bounded(&rt, &alloc, 2).expect(&rt, "a channel");
         let tx = Either::Sender(tx);
-        alloc.refuse_all();
+        alloc.refuse_nth(1);
         let answer = within(&rt, ("a send without memory", call), || {
-            tx.make(&rt, &alloc, call, long())
+            tx.make(&rt, &alloc, call, Duration::ZERO)
         });
         let got = (answer.0, answer.2, rx.is_empty());
         expect_equal_at(&rt, call, got, (Outcome::Memory, 7, true));
