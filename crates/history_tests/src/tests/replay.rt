@@ -1,11 +1,12 @@
 //! Calls on four threads, waits among them, which a plain channel explains in some order.
-use super::witnessed::{Alloc, Caller, Channel, Passes, Scene, play};
+use super::witnessed::{Caller, Channel, Passes, Scene, play};
 use super::{Host, expect_equal};
 use mix::{Mix, make};
 use model::CAPACITY;
 use notes::{Call, Noted, Pair, Refusal, Reply, Way};
 use order::is_explained;
 use priority_channel_witnessed::Recording;
+use std::alloc::Allocator;
 use std::sync::Mutex;
 use std::sync::atomic::{AtomicU64, Ordering};
 use std::{mem, thread};
@@ -18,14 +19,14 @@ mod order;
 const CALLS: u64 = 1000;
 
 // The calls of one pass. That of thread 0 closes the channel at last.
-fn thousand<'a, J: Recording, R: Host>(
+fn thousand<J: Recording, A: Allocator + Copy, R: Host>(
     rt: &R,
-    alloc: Alloc<'a>,
-    channel: &Channel<'a, J>,
+    alloc: A,
+    channel: &Channel<J, A>,
     stamps: &AtomicU64,
     threads: &Mutex<Vec<Vec<Noted>>>,
-    mut pass: Caller<'a, J>,
-) -> Caller<'a, J> {
+    mut pass: Caller<J, A>,
+) -> Caller<J, A> {
     let who = pass.number();
     let mut mix = Mix::new(who);
     let mut notes = Vec::new(rt.alloc());
@@ -50,11 +51,11 @@ fn thousand<'a, J: Recording, R: Host>(
 }
 
 /// Four threads make their calls, which some order explains.
-pub fn explain_four_threads<'a, J: Recording + Send + Sync, R: Host>(
+pub fn explain_four_threads<J: Recording + Send + Sync, A: Allocator + Copy + Send + Sync, R: Host>(
     rt: &R,
-    alloc: Alloc<'a>,
-    channel: &Channel<'a, J>,
-    passes: &mut Passes<'a, J>,
+    alloc: A,
+    channel: &Channel<J, A>,
+    passes: &mut Passes<J, A>,
 ) {
     let stamps = &AtomicU64::new(0);
     let threads = Mutex::new(Vec::new(rt.alloc()));

@@ -26,11 +26,11 @@ mod waits;
 
 pub type Alloc<'a> = &'a Refusing<Global>;
 
-pub type Channel<'a, J> = Witnessed<u64, u64, Waiter<Alloc<'a>>, J, Alloc<'a>>;
+pub type Channel<J, A> = Witnessed<u64, u64, Waiter<A>, J, A>;
 
-pub type Caller<'a, J> = Pass<u64, u64, Waiter<Alloc<'a>>, J>;
+pub type Caller<J, A> = Pass<u64, u64, Waiter<A>, J>;
 
-pub type Passes<'a, J> = Vec<Caller<'a, J>, Alloc<'a>>;
+pub type Passes<J, A> = Vec<Caller<J, A>, A>;
 
 type Core<'a> = PriorityQueueChannel<u64, u64, Waiter<Alloc<'a>>, Alloc<'a>>;
 
@@ -77,7 +77,7 @@ fn play_as<'a, J: Recording + Send + Sync, R: Host>(
     requires passes { passes ≤ fresh.passes }
 {
     let parts = fresh.passes();
-    let made = Channel::<'a, J>::new(alloc, fresh, core, passes);
+    let made = Channel::<J, Alloc<'a>>::new(alloc, fresh, core, passes);
     let (channel, mut passes) = made.expect(rt, "a channel");
     within(
         rt,
@@ -92,8 +92,8 @@ fn act<'a, J: Recording + Send + Sync, R: Host>(
     rt: &R,
     alloc: Alloc<'a>,
     scene: Scene,
-    channel: &Channel<'a, J>,
-    passes: &mut Passes<'a, J>,
+    channel: &Channel<J, Alloc<'a>>,
+    passes: &mut Passes<J, Alloc<'a>>,
 ) {
     match scene {
         Scene::Guests => come_and_go(rt, channel, passes),
@@ -109,8 +109,8 @@ fn act<'a, J: Recording + Send + Sync, R: Host>(
 // out it does not end.
 fn end<'a, J: Recording, R: Host>(
     rt: &R,
-    channel: Channel<'a, J>,
-    mut passes: Passes<'a, J>,
+    channel: Channel<J, Alloc<'a>>,
+    mut passes: Passes<J, Alloc<'a>>,
     parts: usize,
 ) -> u64
     requires { parts ≡ J.parts }

@@ -1,12 +1,13 @@
 //! A thread's calls, drawn and made.
 use super::notes::{Call, Pair, Refusal, Refused, Reply, Way};
 use crate::tests::Host;
-use crate::tests::witnessed::{Alloc, Caller, Channel};
+use crate::tests::witnessed::{Caller, Channel};
 use priority_channel_core::errors::{RecvFault, SendError, SendFault, TryRecvError, TrySendError};
 use priority_channel_waiting::timeouts::{RecvTimeoutError, SendTimeoutError};
 use priority_channel_witnessed::{Recording, wake_all};
 use rand_core::{Rng, SeedableRng};
 use rand_xoshiro::Xoshiro256PlusPlus;
+use std::alloc::Allocator;
 use std::time::Duration;
 
 /// What a thread will call, the same each time.
@@ -65,11 +66,11 @@ impl Mix {
 const LIMIT_MICROS: u64 = 200;
 
 /// Makes a call on a channel.
-pub fn make<'a, J: Recording, R: Host>(
+pub fn make<J: Recording, A: Allocator + Copy, R: Host>(
     rt: &R,
-    alloc: Alloc<'a>,
-    channel: &Channel<'a, J>,
-    pass: &mut Caller<'a, J>,
+    alloc: A,
+    channel: &Channel<J, A>,
+    pass: &mut Caller<J, A>,
     call: Call,
 ) -> Reply {
     match call {
@@ -89,10 +90,10 @@ pub fn make<'a, J: Recording, R: Host>(
     }
 }
 
-fn send<'a, J: Recording, R: Host>(
+fn send<J: Recording, A: Allocator + Copy, R: Host>(
     rt: &R,
-    channel: &Channel<'a, J>,
-    pass: &mut Caller<'a, J>,
+    channel: &Channel<J, A>,
+    pass: &mut Caller<J, A>,
     way: Way,
     pair: Pair,
 ) -> Result<(), Refused> {
@@ -119,10 +120,10 @@ fn send<'a, J: Recording, R: Host>(
     }
 }
 
-fn send_evicting<'a, J: Recording, R: Host>(
+fn send_evicting<J: Recording, A: Allocator + Copy, R: Host>(
     rt: &R,
-    channel: &Channel<'a, J>,
-    pass: &mut Caller<'a, J>,
+    channel: &Channel<J, A>,
+    pass: &mut Caller<J, A>,
     pair: Pair,
 ) -> Result<Option<Pair>, Refused> {
     let (sent, wakes) = channel.try_send_evicting(rt, pass, pair.0, pair.1);
@@ -139,11 +140,11 @@ pub fn refused(error: TrySendError<Pair>) -> Refused {
 }
 
 // Where there is no memory for the vector, no call is made, and a reply noted that is none.
-fn send_many<'a, J: Recording, R: Host>(
+fn send_many<J: Recording, A: Allocator + Copy, R: Host>(
     rt: &R,
-    alloc: Alloc<'a>,
-    channel: &Channel<'a, J>,
-    pass: &mut Caller<'a, J>,
+    alloc: A,
+    channel: &Channel<J, A>,
+    pass: &mut Caller<J, A>,
     pairs: [Pair; 3],
 ) -> [Option<Refused>; 3] {
     let Ok(vector) = Vec::from_array(alloc, pairs) else {
@@ -165,10 +166,10 @@ fn send_many<'a, J: Recording, R: Host>(
     [rest.next(), rest.next(), rest.next()]
 }
 
-fn receive<'a, J: Recording, R: Host>(
+fn receive<J: Recording, A: Allocator + Copy, R: Host>(
     rt: &R,
-    channel: &Channel<'a, J>,
-    pass: &mut Caller<'a, J>,
+    channel: &Channel<J, A>,
+    pass: &mut Caller<J, A>,
     way: Way,
 ) -> Result<Pair, Refusal> {
     match way {

@@ -1,7 +1,7 @@
 //! A message that comes after the first try of a receive that is refused memory to wait.
-use super::{Scene, play};
+use super::{Channel, Passes, Scene, play};
 use crate::tests::{Host, expect_equal, wait_for};
-use priority_channel_witnessed::{Pass, Recording, Waiter, Witnessed, wake_all};
+use priority_channel_witnessed::{Recording, wake_all};
 use refusing::Refusing;
 use std::alloc::{Allocator, Global};
 use std::thread;
@@ -10,8 +10,8 @@ use std::thread;
 pub(super) fn receive_late<J: Recording + Send + Sync, A: Allocator + Copy + Send + Sync, R: Host>(
     rt: &R,
     alloc: &Refusing<Global>,
-    channel: &Witnessed<u64, u64, Waiter<A>, J, A>,
-    passes: &mut Vec<Pass<u64, u64, Waiter<A>, J>, A>,
+    channel: &Channel<J, A>,
+    passes: &mut Passes<J, A>,
 ) {
     let receiver = passes.pop().expect(rt, "a pass");
     let mut sender = passes.pop().expect(rt, "a pass");

@@ -1,5 +1,5 @@
 //! Passes that come and go.
-use super::{Channel, Passes, Scene, count, play};
+use super::{Alloc, Channel, Passes, Scene, count, play};
 use crate::tests::{Host, expect_equal};
 use priority_channel_witnessed::Recording;
 
@@ -7,8 +7,8 @@ use priority_channel_witnessed::Recording;
 /// and goes before the last is asked for.
 pub(super) fn come_and_go<'a, J: Recording, R: Host>(
     rt: &R,
-    channel: &Channel<'a, J>,
-    passes: &mut Passes<'a, J>,
+    channel: &Channel<J, Alloc<'a>>,
+    passes: &mut Passes<J, Alloc<'a>>,
 ) {
     let own = passes.pop().expect(rt, "a pass");
     let mut one = channel.fork(rt, &own).expect(rt, "a pass to fork");

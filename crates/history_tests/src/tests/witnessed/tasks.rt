@@ -18,8 +18,8 @@ fn drop_pending<F: Future<Output: Drop>>(rt: &impl Host, future: F)
 pub(super) fn poll_futures<'a, J: Recording, R: Host>(
     rt: &R,
     alloc: Alloc<'a>,
-    channel: &Channel<'a, J>,
-    passes: &mut Passes<'a, J>,
+    channel: &Channel<J, Alloc<'a>>,
+    passes: &mut Passes<J, Alloc<'a>>,
 ) {
     let mut own = passes.pop().expect(rt, "a pass");
     let guest = channel.admit(rt).expect(rt, "a pass to admit");

@@ -1,7 +1,8 @@
 //! Threads and tasks that wait for each other, with passes that come and go.
-use super::{Alloc, Caller, Channel, Passes, Scene, play};
+use super::{Caller, Channel, Passes, Scene, play};
 use crate::tests::{Host, expect_equal, wait_for};
 use priority_channel_witnessed::{Pairs, Recording, wake_all};
+use std::alloc::Allocator;
 use std::sync::WaitMethods;
 use std::sync::atomic::{AtomicU64, Ordering};
 use std::{mem, thread};
@@ -13,20 +14,20 @@ struct Done {
     left: AtomicU64,
 }
 
-fn three<'a, R: Host>(rt: &R, alloc: Alloc<'a>, number: u64) -> Pairs<u64, u64, Alloc<'a>> {
+fn three<A: Allocator + Copy, R: Host>(rt: &R, alloc: A, number: u64) -> Pairs<u64, u64, A> {
     let pairs = Vec::from_array(alloc, [(number, 1u64), (number, 2), (number, 3)]);
     pairs.expect(rt, "memory").into_iter().peekable()
 }
 
 // Sends a pair and then three, by a pass that comes for that and blocks its thread, and as many by
 // futures.
-fn send_eight<'a, J: Recording, R: Host>(
+fn send_eight<J: Recording, A: Allocator + Copy, R: Host>(
     rt: &R,
-    alloc: Alloc<'a>,
-    channel: &Channel<'a, J>,
-    own: Caller<'a, J>,
+    alloc: A,
+    channel: &Channel<J, A>,
+    own: Caller<J, A>,
     number: u64,
-) -> Caller<'a, J> {
+) -> Caller<J, A> {
     let mut guest = channel.fork(rt, &own).expect(rt, "a pass to fork");
     let one = channel.send_blocking(rt, &mut guest, number, number % 7);
     let many = channel.sendv_blocking(rt, &mut guest, three(rt, alloc, number));
@@ -39,12 +40,12 @@ fn send_eight<'a, J: Recording, R: Host>(
 }
 
 // Receives by a future and then on its thread, until the channel is closed and empty.
-fn receive_all<'a, J: Recording, R: Host>(
-    rt: &R,
+fn receive_all<'x, J: Recording, A: Allocator + Copy, R: Host>(
+    rt: &'x R,
     received: &AtomicU64,
-    channel: &Channel<'a, J>,
-    own: Caller<'a, J>,
-) -> Caller<'a, J> {
+    channel: &'x Channel<J, A>,
+    own: Caller<J, A>,
+) -> Caller<J, A> {
     let mut pass = own;
     for _ in rt.forever() {
         let (answer, back) = wait_for(rt, channel.recv(rt, pass));
@@ -59,13 +60,13 @@ fn receive_all<'a, J: Recording, R: Host>(
 }
 
 // Passes 0 and 1 send, and the last that has sent closes the channel. The others receive.
-fn send_or_receive<'a, J: Recording, R: Host>(
+fn send_or_receive<J: Recording, A: Allocator + Copy, R: Host>(
     rt: &R,
-    alloc: Alloc<'a>,
+    alloc: A,
     done: &Done,
-    channel: &Channel<'a, J>,
-    mut pass: Caller<'a, J>,
-) -> Caller<'a, J> {
+    channel: &Channel<J, A>,
+    mut pass: Caller<J, A>,
+) -> Caller<J, A> {
     if pass.number() >= 2 {
         return receive_all(rt, &done.received, channel, pass);
     }
@@ -81,12 +82,11 @@ fn send_or_receive<'a, J: Recording, R: Host>(
 }
 
 /// Two threads send, and two receive.
-pub(super) fn call_on_four_threads<'a, J: Recording + Send + Sync, R: Host>(
-    rt: &R,
-    alloc: Alloc<'a>,
-    channel: &Channel<'a, J>,
-    passes: &mut Passes<'a, J>,
-) {
+pub(super) fn call_on_four_threads<
+    J: Recording + Send + Sync,
+    A: Allocator + Copy + Send + Sync,
+    R: Host,
+>(rt: &R, alloc: A, channel: &Channel<J, A>, passes: &mut Passes<J, A>) {
     let done = &Done {
         received: AtomicU64::new(0),
         left: AtomicU64::new(2),

@@ -38,8 +38,8 @@ impl<R: Clock> Clock for Counting<'_, R> {
 pub(super) fn end_in_time<'a, J: Recording, R: Host>(
     rt: &R,
     alloc: Alloc<'a>,
-    channel: &Channel<'a, J>,
-    passes: &mut Passes<'a, J>,
+    channel: &Channel<J, Alloc<'a>>,
+    passes: &mut Passes<J, Alloc<'a>>,
 ) {
     let mut pass = passes.pop().expect(rt, "a pass");
     let begun = Instant::now(rt).expect(rt, "a clock");
