@@ -1,4 +1,4 @@
-//! The worked examples of calls, each with its answer and the waiters that it hands out.
+//! The worked examples of calls, each with its answer and the waiters that it wakes.
 use super::script::play;
 
 #[test]
@@ -82,7 +82,7 @@ fn sends_and_receives_answer_as_worked_by_hand(rt: HostRuntime) {
         try_send g1; close = true; peek = Some(('g', 1))
         try_recv_many 0 = (Ok(0), []); try_recv_many 5 = (Ok(1), [('g', 1)])
         try_recv_many 0 = (Err(Closed), []); try_recv_many 5 = (Err(Closed), [])
-        bounded 2; try_sendv a1 b2   # it hands out who waits for room, once
+        bounded 2; try_sendv a1 b2   # it wakes the waiters for room, once
         poll_send - 7 c3 = Pending(('c', 3), 0); poll_send - 8 d3 = Pending(('d', 3), 1)
         try_recv_many 0 = (Ok(0), [])
         try_recv_many 2 = (Ok(2), [('b', 2), ('a', 1)]), room [(0, 7), (1, 8)]
@@ -99,7 +99,7 @@ fn pairs_are_chosen_as_worked_by_hand(rt: HostRuntime) {
         bounded 3; try_send_evicting a1 = Ok(None); try_sendv b1 c2
         try_send_evicting d1 = Err(Full(('d', 1)))
         poll_send - 7 w9 = Pending(('w', 9), 0)
-        try_send_evicting e2 = Ok(Some(('b', 1)))   # who waits for room waits on
+        try_send_evicting e2 = Ok(Some(('b', 1)))   # a waiter for room waits on
         try_send_evicting f3 = Ok(Some(('a', 1)))
         take_where z = None; take_where e = Some(('e', 2)), room [(0, 7)]
         try_send_evicting g2 = Ok(None); retain 3 = [('c', 2), ('g', 2)]
@@ -139,11 +139,11 @@ fn pairs_are_chosen_as_worked_by_hand(rt: HostRuntime) {
 }
 
 #[test]
-fn those_who_wait_are_handed_out_as_worked_by_hand(rt: HostRuntime) {
+fn waiters_are_woken_as_worked_by_hand(rt: HostRuntime) {
     play(
         &rt,
         "
-        # a party waits under its ticket with its newest waker
+        # a waiter has a ticket, and its newest waker
         bounded 1; poll_recv - 1 = Pending((), 0); poll_recv 0 2 = Pending((), 0)
         try_send a1 = Ok(()), message [(0, 2)]; poll_recv 0 2 = Ready(Ok(('a', 1)))
         bounded 1; poll_recv 9 1 = Pending((), 0); give_up 9   # nobody has this ticket

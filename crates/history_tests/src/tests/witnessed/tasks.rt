@@ -13,7 +13,7 @@ fn drop_pending<F: Future<Output: Drop>>(rt: &impl Host, future: F)
 }
 
 /// A receive and a send wait, each with a pass that comes where the one before has left, and are
-/// dropped: what they waited for hands out nobody, and their passes have left. Those that need not
+/// dropped: what they waited for wakes nobody, and their passes have left. Those that need not
 /// wait ask for no memory: the request that is to be refused never comes.
 pub(super) fn poll_futures<'a, J: Recording, R: Host>(
     rt: &R,
