@@ -1,5 +1,6 @@
 //! What a caller knows by the contracts: the prover shows each `prove!` before a test runs.
 use async_priority_channel::{bounded, unbounded};
+use futures::executor::block_on;
 
 // Both handles are of one channel.
 #[test]
@@ -44,5 +45,15 @@ fn a_caller_knows_that_the_test_was_passed(rt: HostRuntime) {
     tx.try_send(7u64, 1u64).expect(&rt, "room");
     if let Some((msg, _)) = rx.take_where(|msg, _| *msg > 6) {
         prove!(msg > 6);
+    }
+}
+
+// However often it was polled.
+#[test]
+fn a_caller_knows_what_a_future_gives_back(rt: HostRuntime) {
+    let (tx, rx) = bounded(&rt, rt.alloc(), 1).expect(&rt, "a channel");
+    drop(rx);
+    if let Ok(Err(fault)) = block_on(&rt, tx.send(7u64, 1u64)) {
+        prove!(fault.into_inner() == (7, 1));
     }
 }
