@@ -1,10 +1,10 @@
 -- A list sorted by its keys.
-use Rattle.std.proofs.Common.{◌≡◌, ℕ, zero, suc, ◌+◌, ◌<◌, ◌≤◌, ◌≢◌, Bool, true, false, cond, List, [], ◌∷◌, ◌++◌, length, get_or, set, eqb, nat_lt, ltb-false, ltb-true, refl, sym, ap, ◌∙◌, arith}
+use Rattle.std.proofs.Common.{◌≡◌, ℕ, zero, suc, ◌+◌, ◌<◌, ◌≤◌, ◌≢◌, Bool, false, List, [], ◌∷◌, ◌++◌, length, get_or, set, eqb, inl, inr, refl, sym, ap, ◌∙◌, arith}
 use Rattle.std.specs.Bool.{⊤}
 use Rattle.std.specs.List.{swap, IsDistinct, AllByRecursion}
 use Rattle.std.specs.List.Sorted.{IsPermutation}
 use Rattle.std.proofs.SliceLists.{swap_is}
-use Rattle.std.proofs.lemmas.Bool.{eqb-false}
+use Rattle.std.proofs.lemmas.Bool.{cases_lt, eqb-false}
 use Rattle.std.proofs.lemmas.Bool.Decides.{nat_tests}
 use Rattle.std.proofs.lemmas.List.Sorted.{IsPermutation-keeps, IsPermutation-swap}
 use Rattle.std.proofs.lemmas.List.Elements.{All-from_recursion}
@@ -38,11 +38,7 @@ module _ {X : Type 0} (key : X → ℕ) where
   every_put_in : (P : X → Type 0) (x : X) (s : List X) → P x → AllByRecursion P s → AllByRecursion P (put_in key x s)
   unfolding put_in
   every_put_in P x [] p h = (p, tt)
-  every_put_in P x (z ∷ s) p h = by_test (every_put_in P x s p h.1) (nat_lt (key x) (key z))
-    where
-      by_test : AllByRecursion P (put_in key x s) → (t : Bool) → AllByRecursion P (cond t (x ∷ z ∷ s) (z ∷ put_in key x s))
-      by_test later true = (p, h)
-      by_test later false = (h.0, later)
+  every_put_in P x (z ∷ s) p h = let e = every_put_in P x s p h.1 in grind (arith, nat_tests, e)
 
   pub every_by_key : (P : X → Type 0) (xs : List X) → AllByRecursion P xs → AllByRecursion P (by_key key xs)
   unfolding by_key
@@ -58,32 +54,6 @@ module _ {X : Type 0} (key : X → ℕ) where
   unfolding by_key put_in
   by_key-push [] x h = refl
   by_key-push (y ∷ xs) x h = ap (put_in key y) (by_key-push xs x h.1) ∙ put_in-push y x (by_key key xs) h.0
-
-  -- the place where an element is put in, and each other with the same key
-  pub record PutIn (x : X) (s : List X) : Type 0 where
-    pub front : List X
-    pub back : List X
-    pub whole : (y : X) → key y ≡ key x → put_in key y s ≡ front ++ y ∷ back
-    pub rest : s ≡ front ++ back
-    pub upto : AllByRecursion (λ y. key y ≤ key x) front
-
-  pub splits : (x : X) (s : List X) → PutIn x s
-  unfolding put_in
-  splits x [] = record { front = []; back = []; whole = λ y q. refl; rest = refl; upto = tt }
-  splits x (z ∷ s) = by_test (splits x s) (nat_lt (key x) (key z)) refl
-    where
-      same_test : (y : X) → key y ≡ key x → (t : Bool) → nat_lt (key x) (key z) ≡ t → put_in key y (z ∷ s) ≡ cond t (y ∷ z ∷ s) (z ∷ put_in key y s)
-      same_test y q t e = ap (λ u. cond u (y ∷ z ∷ s) (z ∷ put_in key y s)) (ap (λ m. nat_lt m (key z)) q ∙ e)
-
-      by_test : PutIn x s → (t : Bool) → nat_lt (key x) (key z) ≡ t → PutIn x (z ∷ s)
-      by_test i true e = record { front = []; back = z ∷ s; whole = λ y q. same_test y q true e; rest = refl; upto = tt }
-      by_test i false e = record {
-        front = z ∷ i.front;
-        back = i.back;
-        whole = λ y q. same_test y q false e ∙ ap (λ l. z ∷ l) (i.whole y q);
-        rest = ap (λ l. z ∷ l) i.rest;
-        upto = (ltb-false (key x) (key z) e, i.upto);
-      }
 
   replaced : (r : List X) (j : ℕ) (x d : X) → j < length r → IsDistinct same_key (x ∷ r) → put_in key (get_or r j d) (by_key key (set r j x)) ≡ put_in key x (by_key key r)
   unfolding IsDistinct by_key
@@ -115,52 +85,50 @@ module _ {X : Type 0} (key : X → ℕ) where
       (IsPermutation-keeps xs (λ l. IsDistinct same_key l × (by_key key l ≡ by_key key xs)) (h, refl)
       (λ l i j p q was. (still_apart l (swap l i j) (IsPermutation-swap l _ i j p q refl) was.0, swapped l i j p q was.0 ∙ was.1)) ys moves).1
 
-  Rises : List X → Type 0
+  pub Rises : List X → Type 0
   Rises [] = ⊤
   Rises (x ∷ s) = AllByRecursion (λ y. key x ≤ key y) s × Rises s
 
   rises_put_in : (x : X) (s : List X) → Rises s → Rises (put_in key x s)
   unfolding put_in Rises
   rises_put_in x [] h = (tt, tt)
-  rises_put_in x (z ∷ s) h = by_test (rises_put_in x s h.1) (nat_lt (key x) (key z)) refl
-    where
-      by_test : Rises (put_in key x s) → (t : Bool) → nat_lt (key x) (key z) ≡ t → Rises (cond t (x ∷ z ∷ s) (z ∷ put_in key x s))
-      by_test r true e = let lt = ltb-true (key x) (key z) e in ((omega arith, every_weaker (λ y. key z ≤ key y) (λ y. key x ≤ key y) (λ y p. omega arith) s h.0), h)
-      by_test r false e = (every_put_in (λ y. key z ≤ key y) x s (ltb-false (key x) (key z) e) h.0, r)
+  rises_put_in x (z ∷ s) h =
+      let r = rises_put_in x s h.1 in
+      let above = λ (le : key x ≤ key z). every_weaker (λ y. key z ≤ key y) (λ y. key x ≤ key y) (λ y p. omega arith) s h.0 in
+      grind (arith, nat_tests, r, above, every_put_in (λ y. key z ≤ key y) x s)
 
-  rises_by_key : (xs : List X) → Rises (by_key key xs)
+  pub rises_by_key : (xs : List X) → Rises (by_key key xs)
   unfolding by_key Rises
   rises_by_key [] = tt
   rises_by_key (x ∷ xs) = rises_put_in x (by_key key xs) (rises_by_key xs)
 
-  -- the place where an element is put in, and what comes after it
-  pub record PutBefore (x : X) (s : List X) : Type 0 where
+  -- the place where an element is put in, and each other with the same key
+  pub record PutIn (x : X) (s : List X) : Type 0 where
     pub front : List X
     pub back : List X
-    pub whole : put_in key x s ≡ front ++ x ∷ back
+    pub whole : (y : X) → key y ≡ key x → put_in key y s ≡ front ++ y ∷ back
     pub rest : s ≡ front ++ back
-    pub beyond : AllByRecursion (λ y. key x < key y) back
+    pub upto : AllByRecursion (λ y. key y ≤ key x) front
+    pub beyond : Rises s → AllByRecursion (λ y. key x < key y) back
 
-  splits_rising : (x : X) (s : List X) → Rises s → PutBefore x s
+  pub splits : (x : X) (s : List X) → PutIn x s
   unfolding put_in Rises
-  splits_rising x [] h = record { front = []; back = []; whole = refl; rest = refl; beyond = tt }
-  splits_rising x (z ∷ s) h = by_test (splits_rising x s h.1) (nat_lt (key x) (key z)) refl
-    where
-      by_test : PutBefore x s → (t : Bool) → nat_lt (key x) (key z) ≡ t → PutBefore x (z ∷ s)
-      by_test i true e = let lt = ltb-true (key x) (key z) e in record {
-        front = [];
-        back = z ∷ s;
-        whole = ap (λ t. cond t (x ∷ z ∷ s) (z ∷ put_in key x s)) e;
-        rest = refl;
-        beyond = (lt, every_weaker (λ y. key z ≤ key y) (λ y. key x < key y) (λ y p. omega arith) s h.0);
-      }
-      by_test i false e = record {
-        front = z ∷ i.front;
-        back = i.back;
-        whole = ap (λ t. cond t (x ∷ z ∷ s) (z ∷ put_in key x s)) e ∙ ap (λ l. z ∷ l) i.whole;
-        rest = ap (λ l. z ∷ l) i.rest;
-        beyond = i.beyond;
-      }
-
-  pub splits_by_key : (x : X) (xs : List X) → PutBefore x (by_key key xs)
-  splits_by_key x xs = splits_rising x (by_key key xs) (rises_by_key xs)
+  splits x [] = record { front = []; back = []; whole = λ y q. refl; rest = refl; upto = tt; beyond = λ h. tt }
+  splits x (z ∷ s) = let i = splits x s in elim (cases_lt (key x) (key z)) [
+    | inl lt ↦ record {
+      front = [];
+      back = z ∷ s;
+      whole = λ y q. grind (arith, nat_tests);
+      rest = refl;
+      upto = tt;
+      beyond = λ h. (lt, every_weaker (λ y. key z ≤ key y) (λ y. key x < key y) (λ y p. omega arith) s h.0);
+    }
+    | inr le ↦ record {
+      front = z ∷ i.front;
+      back = i.back;
+      whole = λ y q. let e = i.whole y q in grind (arith, nat_tests, e);
+      rest = ap (λ l. z ∷ l) i.rest;
+      upto = (le, i.upto);
+      beyond = λ h. i.beyond h.1;
+    }
+  ]

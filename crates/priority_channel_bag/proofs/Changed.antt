@@ -1,11 +1,11 @@
 -- One item gets another priority, and keeps its number.
-use Rattle.std.proofs.Common.{◌≡◌, ℕ, ◌<◌, ◌≤◌, Bool, false, List, [], ◌∷◌, ◌++◌, length, get_or, map, refl, sym, ap, ◌∙◌, arith}
+use Rattle.std.proofs.Common.{◌≡◌, ℕ, ◌<◌, ◌≤◌, Bool, false, List, [], ◌∷◌, ◌++◌, map, refl, sym, ap, ◌∙◌, arith}
 use Rattle.std.proofs.lemmas.Bool.{eqb-false}
 use Rattle.std.proofs.lemmas.List.{map-append}
-use Rattle.std.proofs.lemmas.List.Elements.{All-map, All-from_recursion, recursion_from_All}
-use Rattle.std.proofs.lemmas.List.Sorted.{All-permutation, IsPermutation-trans, IsPermutation-sym, IsPermutation-to_front}
+use Rattle.std.proofs.lemmas.List.Elements.{All-from_recursion, recursion_from_All}
+use Rattle.std.proofs.lemmas.List.Sorted.{IsPermutation-trans, IsPermutation-sym, IsPermutation-to_front}
 use Rattle.std.proofs.Permutation.{every_shuffled}
-use Rattle.std.specs.List.{AllByRecursion, IsDistinct}
+use Rattle.std.specs.List.{All, AllByRecursion, IsDistinct}
 use Rattle.std.specs.List.Sorted.{IsPermutation}
 use Rattle.std.specs.declared.cmp.Ordering.{Ordering}
 use Rattle.priority_channel_bag.specs.declared.item.Item.{Item}
@@ -13,7 +13,7 @@ use Rattle.priority_channel_bag.specs.Least.{Changes, PassesFirst}
 use Rattle.priority_channel_bag.specs.Heap.{in_order_of_numbers, pair_of, by_key, same_number, item_cmp, IsOrdered, IsKept}
 use Rattle.priority_channel_bag.proofs.ByKey as keys
 use Rattle.priority_channel_bag.proofs.ByKey.{every_weaker}
-use Rattle.priority_channel_bag.proofs.Kept.{every_part, every_both, each_of}
+use Rattle.priority_channel_bag.proofs.Kept.{every_part, every_both, of_each, kept}
 
 module _ {T P : Type 0} (xs zs others : List (Item T P)) (x : Item T P) (priority : P) (apart : IsDistinct same_number xs)
     (moved : IsPermutation xs (x ∷ others)) (moves : IsPermutation (others ++ record x { priority = priority } ∷ []) zs) where
@@ -35,12 +35,8 @@ module _ {T P : Type 0} (xs zs others : List (Item T P)) (x : Item T P) (priorit
 
   pub kept_changed : (cmp : P → P → Ordering) (two : Bool) (n : ℕ) → IsKept cmp two xs n → IsOrdered (item_cmp cmp) two zs → IsKept cmp two zs n
   kept_changed cmp two n was order =
-      let below = recursion_from_All (λ y. y.number < n) (x ∷ others) (All-permutation (λ y. y.number < n) xs (x ∷ others) moved was.numbered) in
-      record {
-        order = order;
-        apart = keys.still_apart number (changed ∷ others) zs in_front apart_after;
-        numbered = All-permutation (λ y. y.number < n) (changed ∷ others) zs in_front (All-from_recursion (λ y. y.number < n) (changed ∷ others) (below.0, below.1));
-      }
+      let below = every_shuffled (λ y. y.number < n) xs (x ∷ others) moved (recursion_from_All (λ y. y.number < n) xs was.numbered) in
+      kept two (changed ∷ others) zs n in_front apart_after (All-from_recursion (λ y. y.number < n) (changed ∷ others) (below.0, below.1)) order
 
   abbrev place : keys.PutIn number x (by_key number others)
   place = keys.splits number x (by_key number others)
@@ -50,7 +46,7 @@ module _ {T P : Type 0} (xs zs others : List (Item T P)) (x : Item T P) (priorit
 
   -- the items with lesser numbers are those before it
   pub changes_first : (passes fails : T × P → Type 0) → passes (pair_of x)
-      → ((k : ℕ) (d : Item T P) → k < length xs → (get_or xs k d).number < x.number → fails (pair_of (get_or xs k d)))
+      → All (λ y. y.number < x.number → fails (pair_of y)) xs
       → (change : Changes (in_order_of_numbers xs) x.priority priority (in_order_of_numbers zs)) × PassesFirst passes fails change
   unfolding by_key IsDistinct
   changes_first passes fails passed failed = (
@@ -63,15 +59,13 @@ module _ {T P : Type 0} (xs zs others : List (Item T P)) (x : Item T P) (priorit
     },
     record {
       passed = passed;
-      failed = All-map fails pair_of place.front (All-from_recursion (λ y. fails (pair_of y)) place.front
-          (every_weaker (λ y. Left fails y × (y.number ≤ x.number)) (λ y. fails (pair_of y))
-          (λ y h. let ne : x.number ≡ y.number → ⊥ = eqb-false x.number y.number h.0.1 in h.0.0 (omega arith)) place.front
-          (every_both (Left fails) (λ y. y.number ≤ x.number) place.front (every_part (Left fails) place.front place.back rest).0 place.upto)));
+      failed = of_each fails (λ y. Left fails y × (y.number ≤ x.number)) (λ y h. let ne : x.number ≡ y.number → ⊥ = eqb-false x.number y.number h.0.1 in h.0.0 (omega arith)) place.front
+          (every_both (Left fails) (λ y. y.number ≤ x.number) place.front (every_part (Left fails) place.front place.back rest).0 place.upto);
     },
   )
     where
       all : AllByRecursion (λ y. y.number < x.number → fails (pair_of y)) (x ∷ others)
-      all = every_shuffled (λ y. y.number < x.number → fails (pair_of y)) xs (x ∷ others) moved (each_of (λ y. y.number < x.number → fails (pair_of y)) xs failed)
+      all = every_shuffled (λ y. y.number < x.number → fails (pair_of y)) xs (x ∷ others) moved (recursion_from_All (λ y. y.number < x.number → fails (pair_of y)) xs failed)
 
       rest : AllByRecursion (Left fails) (place.front ++ place.back)
       rest = rw (← place.rest) (keys.every_by_key number (Left fails) others (every_both (λ y. y.number < x.number → fails (pair_of y)) (λ y. same_number x y ≡ false) others all.1 apart_before.0))

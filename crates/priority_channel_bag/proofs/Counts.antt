@@ -1,8 +1,7 @@
 -- How many items of a list pass, in whatever order they stand.
-use Rattle.std.proofs.Common.{◌≡◌, ℕ, ◌+◌, ◌⊎◌, inl, inr, Bool, true, false, cond, List, [], ◌∷◌, map}
+use Rattle.std.proofs.Common.{ℕ, inl, inr, List, [], ◌∷◌, map, arith}
 use Rattle.priority_channel_bag.specs.Least.{Counts}
 use Rattle.priority_channel_bag.specs.Heap.{put_in, by_key}
-use Rattle.std.specs.Prelude.{nat_lt}
 
 module _ {X : Type 0} (passes fails : X → Type 0) where
   swapped : (x y : X) (xs : List X) (n : ℕ) → Counts passes fails (x ∷ y ∷ xs) n → Counts passes fails (y ∷ x ∷ xs) n
@@ -20,11 +19,7 @@ module _ {X : Type 0} (passes fails : X → Type 0) where
     counts_put_in : (x : X) (xs : List X) (n : ℕ) → Counts passes fails (x ∷ xs) n → Counts passes fails (put_in key x xs) n
     unfolding put_in
     counts_put_in x [] n h = h
-    counts_put_in x (y ∷ xs) n h = by_test (then_more y (x ∷ xs) (put_in key x xs) n (counts_put_in x xs) (swapped x y xs n h)) (nat_lt (key x) (key y))
-      where
-        by_test : Counts passes fails (y ∷ put_in key x xs) n → (t : Bool) → Counts passes fails (cond t (x ∷ y ∷ xs) (y ∷ put_in key x xs)) n
-        by_test later true = h
-        by_test later false = later
+    counts_put_in x (y ∷ xs) n h = let later = then_more y (x ∷ xs) (put_in key x xs) n (counts_put_in x xs) (swapped x y xs n h) in grind (arith, later)
 
     pub counts_by_key : (xs : List X) (n : ℕ) → Counts passes fails xs n → Counts passes fails (by_key key xs) n
     unfolding by_key

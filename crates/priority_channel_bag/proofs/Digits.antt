@@ -40,8 +40,15 @@ digits_parent at positive = digits-half ((at - 1) / 2 + 1) (at + 1) (omega arith
 pub digits_child : (at child : ℕ) → at * 2 + 1 ≤ child → digits at + 1 ≤ digits child
 digits_child at child le = digits-half at child (omega arith) (omega arith)
 
+-- `upper` is in the pair above the pair of `lower`
+pub digits_step : (upper lower : ℕ) → 1 < lower → upper / 2 ≡ (lower - 2) / 4 → digits (upper / 2 + 1) + 1 ≤ digits (lower / 2 + 1)
+digits_step upper lower more is = digits-half (upper / 2 + 1) (lower / 2 + 1) (omega arith) (omega arith)
+
+pub digits_some : (n : ℕ) → 1 ≤ digits (n + 1)
+digits_some n = let h = digits-half 0 (n + 1) (omega arith) (omega arith) in omega (arith, h)
+
+pub one_more_costs : (settled front all : ℕ) → front ≤ all → settled * digits all + digits front ≤ (settled + 1) * digits all
+one_more_costs settled front all le = omega (arith, digits-mono front all le)
+
 pub push_costs : (n before after : ℕ) → before ≤ after → n * digits before + digits after ≤ (n + 1) * digits after
-push_costs n before after le =
-    let h = mul-le n (digits before) n (digits after) (omega arith) (digits-mono before after le) in
-    let e : (n + 1) * digits after ≡ n * digits after + digits after = grind arith in
-    omega (arith, h, e)
+push_costs n before after le = omega (arith, mul-le n (digits before) n (digits after) (omega arith) (digits-mono before after le))

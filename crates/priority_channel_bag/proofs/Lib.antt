@@ -3,13 +3,10 @@ pub mod Digits
 pub mod Exchange
 pub mod Extremes
 pub mod ItemOrder
-pub mod Moves
-pub mod Places
 pub mod IntervalHeaps
 pub mod BinaryHeaps
 pub mod Ordered
 pub mod Kept
-pub mod Costs
 pub mod Counts
 pub mod Firsts
 pub mod Changed

@@ -33,7 +33,8 @@ module _ {X : Type 0} (R : X → X → Ordering) where
 
   -- once the items at h and c have changed places, only the item at c may be out of order
   abbrev pub FallsTo : List X → ℕ → ℕ → Type 0
-  FallsTo xs h c = (ys : List X) → length ys ≡ length xs → SwappedAt xs ys h c → InOrderBut xs h → InOrderBut ys c
+  FallsTo xs h c = (ys : List X) → length ys ≡ length xs → SwappedAt xs ys h c
+      → InOrderBut xs h → InOrderBut ys c
 
   -- the item at h may be greater than the items over it
   pub record AtMostTooGreat (xs : List X) (h : ℕ) : Type 0 where

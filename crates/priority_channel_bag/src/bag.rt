@@ -94,6 +94,7 @@ impl<T, P: Ord, A: Allocator> Bag<T, P, A> {
     /// Makes a slot for one more pair, if none is free. It fails only if memory is refused, or at
     /// 2^63 - 1 pairs. Then nothing has changed.
     #[inline(always)]
+    #[tactic(auto, using(crate::proofs::Kept::length_in_order))]
     pub fn make_slot(&mut self) -> Result<(), AllocError>
         ensures same { self.new ≡ record self.old { slots = self.new.slots } }
         ensures slots { OnOk result (length self.new.pending < self.new.slots) }
@@ -107,6 +108,7 @@ impl<T, P: Ord, A: Allocator> Bag<T, P, A> {
 
     /// The number of pending pairs.
     #[inline(always)]
+    #[tactic(auto, using(crate::proofs::Kept::length_in_order))]
     pub fn len(&self) -> u64
         ensures { result ≡ length self.now.pending }
     {
@@ -123,6 +125,7 @@ impl<T, P: Ord, A: Allocator> Bag<T, P, A> {
 
     /// Adds a pair.
     #[inline(always)]
+    #[tactic(auto, using(crate::proofs::Kept::length_in_order))]
     pub fn push(&mut self, msg: T, priority: P)
         requires slots { length self.old.pending < self.old.slots }
         requires number { self.old.accepted + 1 < 2 ^ 64 }
@@ -149,6 +152,7 @@ impl<T, P: Ord, A: Allocator> Bag<T, P, A> {
 
     /// The pair of greatest priority, and among equals the one pushed first. It stays in the bag.
     /// No priorities are compared.
+    #[tactic(auto, using(crate::proofs::Kept::length_in_order, crate::proofs::Kept::in_order_none))]
     pub fn peek(&self) -> Option<(&T, &P)>
         ensures { MatchOption result (self.now.pending ≡ []) (λ pair. (rest : List (T × P))
             × TakesGreatest P.cmp self.now.pending (pair.0.now, pair.1.now) rest) }
@@ -162,6 +166,7 @@ impl<T, P: Ord, A: Allocator> Bag<T, P, A> {
 
     /// Takes out the pair of greatest priority, and among equals the one pushed first.
     #[inline(always)]
+    #[tactic(auto, using(crate::proofs::Kept::length_in_order, crate::proofs::Kept::in_order_none))]
     pub fn pop(&mut self) -> Option<(T, P)>
         ensures taken { MatchOption result (self.old.pending ≡ []) (λ pair.
             TakesGreatest P.cmp self.old.pending pair self.new.pending) }
@@ -196,6 +201,7 @@ impl<T, P: Ord, A: Allocator> Bag<T, P, A> {
     ///
     /// The first call makes the least pair known, at the cost of a search through all pairs. From
     /// then on each push keeps it known.
+    #[tactic(auto, using(crate::proofs::Kept::length_in_order))]
     pub fn displace(&mut self, msg: T, priority: P) -> Result<(T, P), (T, P)>
         requires number { self.old.accepted + 1 < 2 ^ 64 }
         ensures displaced { IfOk result (λ out.
@@ -239,6 +245,7 @@ impl<T, P: Ord, A: Allocator> Bag<T, P, A> {
     }
 
     // Makes the least pair known.
+    #[tactic(auto, using(crate::proofs::Kept::length_in_order))]
     fn find_least(&mut self)
         ensures same { self.new ≡ record self.old {
           comparisons = self.new.comparisons;
@@ -269,6 +276,7 @@ impl<T, P: Ord, A: Allocator> Bag<T, P, A> {
     /// Takes out a pair for which the test returns true. If there are several, it is not specified
     /// which one. The test is called on pairs in no specified order, and on none after it has
     /// returned true. It takes no memory.
+    #[tactic(auto, using(crate::proofs::Kept::length_in_order))]
     pub fn take_where<F: Fn(&T, &P) -> bool>(&mut self, test: &F) -> Option<(T, P)>
         requires { F.IsAlwaysCallable test.now }
         ensures taken { MatchOption result (self.new.pending ≡ self.old.pending) (λ pair.
@@ -300,6 +308,7 @@ impl<T, P: Ord, A: Allocator> Bag<T, P, A> {
     /// the test returns true, and returns the priority that it had. The pair keeps its place in
     /// that order. If there is none, the given priority comes back. The test is called at most once
     /// on each pair, in no specified order. It takes no memory.
+    #[tactic(auto, using(crate::proofs::Kept::length_in_order))]
     pub fn change_priority<F: Fn(&T, &P) -> bool>(&mut self, test: &F, priority: P) -> Result<P, P>
         requires { F.IsAlwaysCallable test.now }
         ensures changed { IfOk result (λ was.
@@ -330,6 +339,7 @@ impl<T, P: Ord, A: Allocator> Bag<T, P, A> {
 
     /// Keeps the pairs for which the test returns true. All others go to the end of `out`, in no
     /// specified order. The test is called once on each pair, in no specified order.
+    #[tactic(auto, using(crate::proofs::Kept::length_in_order))]
     pub fn retain<F: Fn(&T, &P) -> bool, B: Allocator>(
         &mut self,
         test: &F,

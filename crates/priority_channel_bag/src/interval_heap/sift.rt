@@ -11,6 +11,7 @@ use crate::comparisons::Comparisons;
 use crate::item::Item;
 
 /// Settles the item at `at`. No pair is below the pair of that item.
+#[tactic(auto, using(crate::proofs::IntervalHeaps::over, crate::proofs::IntervalHeaps::is_single))]
 pub(crate) fn settle_at<T, P: Ord>(
     items: &mut [Item<T, P>],
     comparisons: &mut Comparisons,

@@ -1,4 +1,4 @@
-use Rattle.std.proofs.Common.{◌≡◌, ◌+◌, ℕ, true, false, ◌∷◌, drop, sym, ap, subst, ◌∙◌, arith, refl, inl, inr}
+use Rattle.std.proofs.Common.{◌≡◌, ◌+◌, true, false, ◌∷◌, drop, sym, ap, subst, ◌∙◌, arith, refl, inl, inr}
 use Rattle.std.proofs.lemmas.List.{drop_all, drop_more}
 use Rattle.priority_channel_bag.specs.Heap.{pair_of}
 use Rattle.priority_channel_bag.specs.Least.{Counts, Tells}
@@ -20,17 +20,15 @@ loop-at-preserved g c =
         omega (arith, c.loop-at.invariant.0, w.count-is),
         λ n h.
             let passed = subst (Tells g.F.Fn c.args.test.now (pair_of item)) w.if-test.true told in
-            let counted = subst (λ ys. Counts passes fails ys (n + 1)) (sym more) (inr (passed, n, refl, h)) in
-            let same : c.loop-at.count + (n + 1) ≡ c.if-test.count + n = omega (arith, w.count-is) in
-            subst (Counts passes fails xs) same (c.loop-at.invariant.1 (n + 1) counted),
+            let counted : Counts passes fails (item ∷ drop (at + 1) xs) (n + 1) = inr (passed, n, refl, h) in
+            grind (arith, more, counted, c.loop-at.invariant.1 (n + 1), w.count-is),
       )
       | else-test w ↦ (
         omega (arith, c.loop-at.invariant.0, w.count-is),
         λ n h.
             let failed = subst (Tells g.F.Fn c.args.test.now (pair_of item)) w.if-test.false told in
-            let counted = subst (λ ys. Counts passes fails ys n) (sym more) (inl (failed, h)) in
-            let same : c.loop-at.count + n ≡ c.if-test.count + n = omega (arith, w.count-is) in
-            subst (Counts passes fails xs) same (c.loop-at.invariant.1 n counted),
+            let counted : Counts passes fails (item ∷ drop (at + 1) xs) n = inl (failed, h) in
+            grind (arith, more, counted, c.loop-at.invariant.1 n, w.count-is),
       )
     ]
 
@@ -40,7 +38,5 @@ returns g c =
     let fails : Item g.row.T.Denot g.row.P.Denot → Type 0 = (λ item. Tells g.F.Fn c.args.test.now (pair_of item) false) in
     let xs = c.args.items.now in
     let at = c.loop-at.at in
-    let none = drop_all at xs (omega arith) in
-    let all = c.loop-at.invariant.1 0 (subst (λ ys. Counts passes fails ys 0) (sym none) refl) in
-    let same : c.loop-at.count + 0 ≡ c.loop-at.count = omega arith in
-    subst (Counts passes fails xs) same all
+    let none : Counts passes fails (drop at xs) 0 = rw (drop_all at xs (omega arith)) refl in
+    grind (arith, c.loop-at.invariant.1 0 none)

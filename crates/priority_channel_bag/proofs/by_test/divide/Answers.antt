@@ -45,8 +45,7 @@ loop-at-preserved-then-not-test g c =
     let counted = l.items.ok in
     let others = l.invariant.others in
     let item = c.index-item.result.now in
-    let told : Tells g.F.Fn c.args.test.now (pair_of item) c.test.result = record { msg = _; priority = _; shows = (refl, refl); says = record { met = c.test.ensures } } in
-    let is_false = subst (Tells g.F.Fn c.args.test.now (pair_of item)) c.if-not-test.true told in
+    let is_false = subst (Tells g.F.Fn c.args.test.now (pair_of item)) c.if-not-test.true (record { msg = _; priority = _; shows = (refl, refl); says = record { met = c.test.ensures } }) in
     let r = c.swap_remove-msg in
     let x = r.result in
     let left = r.new.self.items in
@@ -78,8 +77,7 @@ loop-at-preserved g c =
     let xs = l.items.items in
     let counted = l.items.ok in
     let item = c.index-item.result.now in
-    let told : Tells g.F.Fn c.args.test.now (pair_of item) c.test.result = record { msg = _; priority = _; shows = (refl, refl); says = record { met = c.test.ensures } } in
-    let is_true = subst (Tells g.F.Fn c.args.test.now (pair_of item)) c.if-not-test.false told in
+    let is_true = subst (Tells g.F.Fn c.args.test.now (pair_of item)) c.if-not-test.false (record { msg = _; priority = _; shows = (refl, refl); says = record { met = c.test.ensures } }) in
     record {
       within = omega (arith, l.invariant.within);
       others = l.invariant.others;

@@ -3,12 +3,9 @@ use Rattle.std.proofs.lemmas.List.{get_or_default}
 use Rattle.priority_channel_bag.specs.Heap.{pair_of}
 use Rattle.priority_channel_bag.specs.Least.{Tells}
 use Rattle.priority_channel_bag.specs.declared.item.Item.{Item}
-use Rattle.priority_channel_bag.proofs.Firsts.{FoundWithin, nothing_yet, found_now, failed_now, passed_by, least_of_all, none_of_all}
+use Rattle.priority_channel_bag.proofs.Firsts.{FoundWithin, found_now, failed_now, passed_by, of_all}
 use Rattle.priority_channel_bag.proofs.by_test.find_first.Goals as goal
 use Rattle.priority_channel_bag.proofs.by_test.find_first.Goals.{then-is_before+then-test, else-is_before, else-is_before-via-then-is_before+else-test, else-is_before-via-else-is_before}
-
-pub loop-at-init : goal.loop-at-init
-loop-at-init g c = nothing_yet _ _ _ _
 
 pub loop-at-preserved : goal.loop-at-preserved
 loop-at-preserved g c =
@@ -21,8 +18,7 @@ loop-at-preserved g c =
     let was = c.loop-at.invariant in
     elim c.if-is_before.branch [
       | then-is_before+then-test w ↦
-          let told : Tells g.F.Fn c.args.test.now (pair_of item) w.test.result = record { msg = _; priority = _; shows = (refl, refl); says = record { met = w.test.ensures } } in
-          let passed = subst (Tells g.F.Fn c.args.test.now (pair_of item)) w.if-test.true told in
+          let passed = subst (Tells g.F.Fn c.args.test.now (pair_of item)) w.if-test.true (record { msg = _; priority = _; shows = (refl, refl); says = record { met = w.test.ensures } }) in
           subst (FoundWithin passes fails (λ x. x.number) xs (at + 1)) (sym w.first-is)
           (found_now passes fails (λ x. x.number) xs at first was (omega arith)
           (λ d. subst passes (c.index-items-at.is ∙ get_or_default xs at item d (omega arith)) passed) (c.is_before.ensures.earlier w.if-is_before.true))
@@ -30,8 +26,7 @@ loop-at-preserved g c =
           subst (FoundWithin passes fails (λ x. x.number) xs (at + 1)) (sym w.first-is)
           (elim w.else-is_before.branch [
             | else-is_before-via-then-is_before+else-test v ↦
-                let told : Tells g.F.Fn c.args.test.now (pair_of item) v.test.result = record { msg = _; priority = _; shows = (refl, refl); says = record { met = v.test.ensures } } in
-                let failed = subst (Tells g.F.Fn c.args.test.now (pair_of item)) v.if-test.false told in
+                let failed = subst (Tells g.F.Fn c.args.test.now (pair_of item)) v.if-test.false (record { msg = _; priority = _; shows = (refl, refl); says = record { met = v.test.ensures } }) in
                 failed_now passes fails (λ x. x.number) xs at first was (λ d. subst fails (c.index-items-at.is ∙ get_or_default xs at item d (omega arith)) failed)
             | else-is_before-via-else-is_before v ↦
                 passed_by passes fails (λ x. x.number) xs at first was c.is_before.result v.if-is_before.false c.is_before.ensures.none c.is_before.ensures.later
@@ -39,7 +34,7 @@ loop-at-preserved g c =
     ]
 
 pub returns-clause-first : goal.returns-clause-first
-returns-clause-first g c = least_of_all _ _ _ c.args.items.now c.loop-at.at (omega arith) c.loop-at.first c.loop-at.invariant
+returns-clause-first g c = (of_all _ _ _ c.args.items.now c.loop-at.at _ c.loop-at.invariant (omega arith)).least
 
 pub returns-clause-none : goal.returns-clause-none
-returns-clause-none g c = none_of_all _ _ _ c.args.items.now c.loop-at.at (omega arith) c.loop-at.first c.loop-at.invariant
+returns-clause-none g c = (of_all _ _ _ c.args.items.now c.loop-at.at _ c.loop-at.invariant (omega arith)).none

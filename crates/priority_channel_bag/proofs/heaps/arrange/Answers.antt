@@ -4,7 +4,7 @@ use Rattle.std.proofs.lemmas.List.Sorted.{IsPermutation-refl, length_permutation
 use Rattle.priority_channel_bag.specs.Digits.{digits}
 use Rattle.priority_channel_bag.specs.Heap.{item_cmp}
 use Rattle.priority_channel_bag.proofs.ItemOrder.{item_total}
-use Rattle.priority_channel_bag.proofs.Costs.{one_more_costs}
+use Rattle.priority_channel_bag.proofs.Digits.{one_more_costs}
 use Rattle.priority_channel_bag.proofs.Ordered.{none_yet, one_more, one_more_moves, all_settled}
 use Rattle.priority_channel_bag.proofs.heaps.arrange.Goals as goal
 
@@ -30,9 +30,6 @@ loop-last-preserved g c =
           let less : length (take (l.last + 1) l.items) ≤ n = omega arith in
           omega (arith, one_more_costs l.last (length (take (l.last + 1) l.items)) n less);
     }
-
-pub returns-clause-moves : goal.returns-clause-moves
-returns-clause-moves g c = c.loop-last.invariant.moves
 
 pub returns-clause-order : goal.returns-clause-order
 returns-clause-order g c = let l = c.loop-last in all_settled (item_cmp g.P.Ord.cmp) (item_total g.met.P.Ord.total) c.args.has_two_ends l.items l.last (omega arith) l.invariant.order

@@ -1,10 +1,10 @@
 use Rattle.std.proofs.Common.{◌∷◌, ◌≤◌, length, arith, sym, subst, ◌∙◌}
-use Rattle.std.proofs.lemmas.List.Sorted.{length_permutation, IsPermutation-trans, IsPermutation-cons, IsPermutation-swap_remove}
+use Rattle.std.proofs.lemmas.List.Sorted.{IsPermutation-trans, IsPermutation-cons, IsPermutation-swap_remove}
 use Rattle.std.specs.List.Sorted.{IsPermutation}
 use Rattle.priority_channel_bag.specs.Heap.{item_cmp}
 use Rattle.priority_channel_bag.proofs.Digits.{digits-mono}
 use Rattle.priority_channel_bag.proofs.ItemOrder.{item_total}
-use Rattle.priority_channel_bag.proofs.Kept.{written_back}
+use Rattle.priority_channel_bag.proofs.Kept.{arranged_back}
 use Rattle.priority_channel_bag.proofs.Ordered.{removed}
 use Rattle.priority_channel_bag.proofs.heaps.remove.Goals as goal
 
@@ -14,9 +14,8 @@ returns-clause-moves g c =
     let after = c.swap_remove-item.new.self in
     let zs = c.mend.new.items in
     let x = c.swap_remove-item.result in
-    let same = sym (length_permutation _ zs c.mend.ensures.moves ∙ c.as_mut_slice.ensures.len) in
     let left = c.as_mut_slice.ensures.value ∙ c.swap_remove-item.ensures.items in
-    rw (written_back zs after.items after.len same)
+    rw (arranged_back _ zs after.items after.len c.mend.ensures.moves c.as_mut_slice.ensures.len)
     (IsPermutation-trans xs (x ∷ c.as_mut_slice.result.now) (x ∷ zs)
     (subst (λ l. IsPermutation xs (x ∷ l)) (sym left) (IsPermutation-swap_remove xs c.args.at x c.requires c.swap_remove-item.ensures.value))
     (IsPermutation-cons x c.as_mut_slice.result.now zs c.mend.ensures.moves))
@@ -27,9 +26,8 @@ returns-clause-order g c = λ w.
     let after = c.swap_remove-item.new.self in
     let zs = c.mend.new.items in
     let x = c.swap_remove-item.result in
-    let same = sym (length_permutation _ zs c.mend.ensures.moves ∙ c.as_mut_slice.ensures.len) in
     let left = c.as_mut_slice.ensures.value ∙ c.swap_remove-item.ensures.items in
-    rw (written_back zs after.items after.len same)
+    rw (arranged_back _ zs after.items after.len c.mend.ensures.moves c.as_mut_slice.ensures.len)
     (removed (item_cmp g.P.Ord.cmp) (item_total g.met.P.Ord.total) c.args.has_two_ends xs _ zs c.args.at x c.requires c.swap_remove-item.ensures.value left c.mend.ensures.order w)
 
 pub returns-clause-cost : goal.returns-clause-cost

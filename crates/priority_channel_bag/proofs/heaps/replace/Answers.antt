@@ -1,10 +1,11 @@
 use Rattle.std.proofs.Common.{◌≡◌, ◌++◌, ◌∷◌, [], get_or, refl, subst, ◌∙◌}
 use Rattle.priority_channel_bag.specs.Heap.{item_cmp}
 use Rattle.std.proofs.lemmas.List.{get_or_default}
+use Rattle.std.proofs.lemmas.List.Sorted.{IsPermutation-remove}
 use Rattle.std.specs.List.{remove}
 use Rattle.std.specs.List.Sorted.{IsPermutation}
 use Rattle.priority_channel_bag.proofs.ItemOrder.{item_total}
-use Rattle.priority_channel_bag.proofs.Ordered.{goes_out, comes_in, replaced}
+use Rattle.priority_channel_bag.proofs.Ordered.{comes_in, replaced}
 use Rattle.priority_channel_bag.proofs.heaps.replace.Goals as goal
 
 pub returns-clause-moves : goal.returns-clause-moves
@@ -14,7 +15,7 @@ returns-clause-moves g c =
     let out = c.replace-out in
     let first : out.result ≡ get_or xs at out.result = out.ensures.value ∙ get_or_default xs at _ out.result c.requires in (
       remove xs at,
-      goes_out xs at out.result c.requires first,
+      IsPermutation-remove xs at out.result c.requires first,
       subst (λ x. IsPermutation (remove xs at ++ x ∷ []) c.mend.new.items) out.ensures.after (comes_in xs c.mend.new.items at out.new.dest c.requires c.mend.ensures.moves),
     )
 

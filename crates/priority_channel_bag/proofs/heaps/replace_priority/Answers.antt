@@ -1,10 +1,11 @@
 use Rattle.std.proofs.Common.{◌++◌, ◌∷◌, [], get_or, refl, subst}
 use Rattle.priority_channel_bag.specs.Heap.{item_cmp}
 use Rattle.std.proofs.lemmas.List.{get_or_default}
+use Rattle.std.proofs.lemmas.List.Sorted.{IsPermutation-remove}
 use Rattle.std.specs.List.{remove}
 use Rattle.std.specs.List.Sorted.{IsPermutation}
 use Rattle.priority_channel_bag.proofs.ItemOrder.{item_total}
-use Rattle.priority_channel_bag.proofs.Ordered.{goes_out, comes_in, replaced}
+use Rattle.priority_channel_bag.proofs.Ordered.{comes_in, replaced}
 use Rattle.priority_channel_bag.proofs.heaps.replace_priority.Goals as goal
 
 pub returns-clause-moves : goal.returns-clause-moves
@@ -18,7 +19,7 @@ returns-clause-moves g c =
       remove xs at,
       first,
       was.ensures.value,
-      goes_out xs at x c.requires first,
+      IsPermutation-remove xs at x c.requires first,
       subst (λ p. IsPermutation (remove xs at ++ record x { priority = p } ∷ []) c.mend.new.items) was.ensures.after
           (comes_in xs c.mend.new.items at (record x { priority = was.new.dest }) c.requires c.mend.ensures.moves),
     )

@@ -7,10 +7,7 @@ use Rattle.priority_channel_bag.proofs.IntervalHeaps.{is_single, opens_last}
 use Rattle.priority_channel_bag.proofs.interval_heap.settle.Goals as goal
 
 pub returns-then-is_empty-clause-order : goal.returns-then-is_empty-clause-order
-returns-then-is_empty-clause-order g c = λ _. let none = eqb-true _ 0 (sym c.if-is_empty.ensures) in is_single (item_cmp g.P.Ord.cmp) (item_total g.met.P.Ord.total) c.args.items.now (omega arith)
-
-pub returns-clause-moves : goal.returns-clause-moves
-returns-clause-moves g c = c.settle_at.ensures.moves
+returns-then-is_empty-clause-order g c = λ _. let none = eqb-true _ 0 (sym c.if-is_empty.ensures) in is_single (item_cmp g.P.Ord.cmp) c.args.items.now (omega arith)
 
 pub returns-clause-order : goal.returns-clause-order
 returns-clause-order g c = λ w.

@@ -1,9 +1,6 @@
-use Rattle.std.proofs.Common.{◌+◌, length, arith, refl, sym, ap, subst}
+use Rattle.std.proofs.Common.{◌+◌, length, arith, refl, ap}
 use Rattle.std.proofs.lemmas.List.Sorted.{IsPermutation-refl, IsPermutation-trans, length_permutation}
-use Rattle.std.specs.BinaryHeap.{lt_by_cmp}
-use Rattle.std.specs.BinaryHeap.Sift.{IsHeapWithHole}
 use Rattle.priority_channel_bag.specs.Digits.{digits}
-use Rattle.priority_channel_bag.specs.Heap.{item_cmp}
 use Rattle.priority_channel_bag.proofs.BinaryHeaps.{opens, falls, closes}
 use Rattle.priority_channel_bag.proofs.Digits.{digits_child, digits-mono}
 use Rattle.priority_channel_bag.proofs.ItemOrder.{item_total}
@@ -14,14 +11,13 @@ loop-at-init g c = record {
   long = refl;
   within = c.requires;
   moves = IsPermutation-refl _;
-  hole = λ x w. opens (item_cmp g.P.Ord.cmp) (item_total g.met.P.Ord.total) _ _ x w;
+  hole = λ x w. opens _ (item_total g.met.P.Ord.total) _ _ x w;
   cost = omega arith;
 }
 
 pub loop-at-preserved : goal.loop-at-preserved
 loop-at-preserved g c =
     let l = c.loop-at in
-    let R = item_cmp {T = g.row.T.Denot} g.P.Ord.cmp in
     let to = c.greater_child-child.result in
     let child = c.greater_child-child.ensures.child in
     let long = l.invariant.long in
@@ -30,8 +26,8 @@ loop-at-preserved g c =
       long = omega arith;
       within = omega arith;
       moves = IsPermutation-trans _ _ _ l.invariant.moves c.exchange.ensures.permutation;
-      hole = λ x w. subst (IsHeapWithHole (lt_by_cmp R) c.exchange.new.items to) (sym same)
-          (falls R (item_total g.met.P.Ord.total) l.items c.exchange.new.items l.at to (length l.items) child.0 child.1 (omega arith) (omega arith) c.exchange.ensures.after
+      hole = λ x w. rw same
+          (falls _ (item_total g.met.P.Ord.total) _ _ l.at _ _ child.0 child.1 (omega arith) (omega arith) c.exchange.ensures.after
           c.greater_child-child.ensures.best (l.invariant.hole x w));
       cost = omega (arith, digits_child l.at to child.0);
     }
@@ -42,7 +38,7 @@ returns-clause-moves g c = IsPermutation-trans _ _ _ c.loop-at.invariant.moves c
 pub returns-clause-order : goal.returns-clause-order
 returns-clause-order g c = λ x w.
     let l = c.loop-at in
-    closes (item_cmp g.P.Ord.cmp) (item_total g.met.P.Ord.total) l.items _ l.at (omega arith) l.invariant.within (length_permutation _ _ c.rise.ensures.moves)
+    closes _ (item_total g.met.P.Ord.total) _ _ l.at (omega arith) l.invariant.within (length_permutation _ _ c.rise.ensures.moves)
     (l.invariant.hole x w) c.rise.ensures.order
 
 pub returns-clause-cost : goal.returns-clause-cost

@@ -4,12 +4,10 @@ use Rattle.std.proofs.lemmas.List.Sorted.{length_permutation}
 use Rattle.std.specs.List.{All}
 use Rattle.std.specs.List.Sorted.{IsPermutation}
 use Rattle.priority_channel_bag.specs.declared.item.Item.{Item}
-use Rattle.priority_channel_bag.specs.Bag.{Contents}
-use Rattle.priority_channel_bag.specs.Digits.{digits}
 use Rattle.priority_channel_bag.specs.Heap.{IsKept, IsOrdered, in_order_of_numbers, item_cmp, pair_of}
 use Rattle.priority_channel_bag.specs.Least.{Tells}
 use Rattle.priority_channel_bag.proofs.Changed.{kept_changed, changes_first}
-use Rattle.priority_channel_bag.proofs.Kept.{length-in_order, of_pairs, written_back}
+use Rattle.priority_channel_bag.proofs.Kept.{of_pairs, written_back}
 use Rattle.priority_channel_bag.proofs.bag.Bag.change_priority.Goals as goal
 
 pub returns-in_default-clause-none : goal.returns-in_default-clause-none
@@ -54,12 +52,3 @@ returns-clause-changed g c =
     (changes_first xs zs others x c.args.priority was.apart moved moves (λ pair. Tells g.F.Fn c.args.test.now pair true) (λ pair. Tells g.F.Fn c.args.test.now pair false)
     (subst (λ i. Tells g.F.Fn c.args.test.now (pair_of i) true) (sym first) passed)
     (λ k d p lt. let same_item = ap (λ i. i.number) (first ∙ get_or_default xs found x d within) in failed k d p (omega arith)))
-
-pub returns-clause-cost : goal.returns-clause-cost
-returns-clause-cost g c =
-    let before = c.self.inside.items in
-    let counted = before.ok in
-    let comparisons = ap (λ (b : Contents g.row.T.Denot g.row.P.Denot). b.comparisons) c.self.view_is in
-    let pending = ap (λ (b : Contents g.row.T.Denot g.row.P.Denot). length b.pending) c.self.view_is in
-    let n : length c.as_mut_slice.result.now ≡ length c.args.self.now.pending = omega (arith, length-in_order before.items, pending, c.as_mut_slice.ensures.len) in
-    omega (arith, comparisons, c.replace_priority.ensures.cost, ap digits n)

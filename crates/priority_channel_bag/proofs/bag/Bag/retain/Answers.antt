@@ -1,4 +1,4 @@
-use Rattle.std.proofs.Common.{◌≡◌, ◌*◌, ◌++◌, length, map, true, false, arith, sym, ap, subst, ◌∙◌}
+use Rattle.std.proofs.Common.{◌≡◌, ◌*◌, ◌++◌, length, map, true, false, arith, sym, ap, subst}
 use Rattle.std.proofs.lemmas.List.Elements.{All-map}
 use Rattle.std.proofs.lemmas.List.Sorted.{All-permutation, IsPermutation-trans, IsPermutation-append_right, length_permutation}
 use Rattle.std.specs.List.Sorted.{IsPermutation}
@@ -7,22 +7,16 @@ use Rattle.priority_channel_bag.specs.Bag.{Contents}
 use Rattle.priority_channel_bag.specs.Digits.{digits}
 use Rattle.priority_channel_bag.specs.Heap.{IsKept, in_order_of_numbers, pair_of}
 use Rattle.priority_channel_bag.specs.Least.{Tells}
-use Rattle.priority_channel_bag.proofs.Kept.{length-in_order, kept_rest, takes_all, of_pairs, written_back}
+use Rattle.priority_channel_bag.proofs.Kept.{length_in_order, kept_rest, takes_all, of_pairs, arranged_back}
 use Rattle.priority_channel_bag.proofs.bag.Bag.retain.Goals as goal
-
-pub divide-requires-clause-fits : goal.divide-requires-clause-fits
-divide-requires-clause-fits g c =
-    let pending = ap (λ (b : Contents g.row.T.Denot g.row.P.Denot). length b.pending) c.self.view_is in
-    omega (arith, c.requires.fits, pending, length-in_order c.self.inside.items.items)
 
 pub invariant_of-self : goal.invariant_of-self
 invariant_of-self g c =
     let left = c.divide.new.items in
     let zs = c.arrange.new.items in
     let moves = subst (λ l. IsPermutation l zs) c.as_mut_slice.ensures.value c.arrange.ensures.moves in
-    let same = sym (length_permutation _ zs c.arrange.ensures.moves ∙ c.as_mut_slice.ensures.len) in
     let ends = c.self.inside.has_two_ends in
-    subst (λ l. IsKept g.P.Ord.cmp ends l c.self.inside.accepted) (sym (written_back zs left.items left.len same))
+    subst (λ l. IsKept g.P.Ord.cmp ends l c.self.inside.accepted) (sym (arranged_back _ zs left.items left.len c.arrange.ensures.moves c.as_mut_slice.ensures.len))
     (kept_rest g.met.P.Ord.total ends c.self.inside.items.items c.divide.ensures.taken.0 left.items _ c.self.invariant c.divide.ensures.taken.2 zs moves c.arrange.ensures.order)
 
 pub returns-clause-taken : goal.returns-clause-taken
@@ -33,9 +27,8 @@ returns-clause-taken g c =
     let others = taken.0 in
     let xs = c.self.inside.items.items in
     let moves = subst (λ l. IsPermutation l zs) c.as_mut_slice.ensures.value c.arrange.ensures.moves in
-    let same = sym (length_permutation _ zs c.arrange.ensures.moves ∙ c.as_mut_slice.ensures.len) in
     let moved = IsPermutation-trans xs (others ++ left.items) (others ++ zs) taken.2 (IsPermutation-append_right others left.items zs moves) in
-    rw (written_back zs left.items left.len same, ← c.self.view_is) (
+    rw (arranged_back _ zs left.items left.len c.arrange.ensures.moves c.as_mut_slice.ensures.len, ← c.self.view_is) (
       map pair_of others,
       taken.1,
       takes_all g.met.P.Ord.total xs others zs c.self.invariant.apart moved,
@@ -47,8 +40,7 @@ returns-clause-kept g c =
     let left = c.divide.new.items in
     let zs = c.arrange.new.items in
     let moves = subst (λ l. IsPermutation l zs) c.as_mut_slice.ensures.value c.arrange.ensures.moves in
-    let same = sym (length_permutation _ zs c.arrange.ensures.moves ∙ c.as_mut_slice.ensures.len) in
-    rw (written_back zs left.items left.len same)
+    rw (arranged_back _ zs left.items left.len c.arrange.ensures.moves c.as_mut_slice.ensures.len)
     (of_pairs (λ pair. Tells g.F.Fn c.args.test.now pair true) zs
     (All-permutation (λ (x : Item g.row.T.Denot g.row.P.Denot). Tells g.F.Fn c.args.test.now (pair_of x) true) left.items zs moves c.divide.ensures.kept))
 
@@ -56,7 +48,6 @@ pub returns-clause-cost : goal.returns-clause-cost
 returns-clause-cost g c =
     let left = c.divide.new.items in
     let zs = c.arrange.new.items in
-    let same = sym (length_permutation _ zs c.arrange.ensures.moves ∙ c.as_mut_slice.ensures.len) in
     let comparisons = ap (λ (b : Contents g.row.T.Denot g.row.P.Denot). b.comparisons) c.self.view_is in
-    let n : length c.as_mut_slice.result.now ≡ length (in_order_of_numbers zs) = omega (arith, length-in_order zs, same, c.as_mut_slice.ensures.len) in
-    rw (written_back zs left.items left.len same) (omega (arith, comparisons, c.arrange.ensures.cost, ap (λ m. m * digits m) n))
+    let n : length c.as_mut_slice.result.now ≡ length (in_order_of_numbers zs) = omega (arith, length_in_order zs, length_permutation _ zs c.arrange.ensures.moves) in
+    rw (arranged_back _ zs left.items left.len c.arrange.ensures.moves c.as_mut_slice.ensures.len) (omega (arith, comparisons, c.arrange.ensures.cost, ap (λ m. m * digits m) n))

@@ -1,10 +1,9 @@
-use Rattle.std.proofs.Common.{◌<◌, List, length, false, true, get_or, slice_index_or, arith, sym, ap, subst, ◌∙◌}
+use Rattle.std.proofs.Common.{◌<◌, List, length, false, true, get_or, slice_index_or, sym, ap, subst, ◌∙◌}
 use Rattle.std.specs.List.{All}
 use Rattle.priority_channel_bag.specs.declared.item.Item.{Item}
-use Rattle.priority_channel_bag.specs.Digits.{digits}
 use Rattle.priority_channel_bag.specs.Heap.{pair_of}
 use Rattle.priority_channel_bag.specs.Least.{Tells}
-use Rattle.priority_channel_bag.proofs.Kept.{length-in_order, kept_without, takes_one, of_pairs}
+use Rattle.priority_channel_bag.proofs.Kept.{kept_without, takes_one, of_pairs}
 use Rattle.priority_channel_bag.proofs.bag.Bag.take_where.Goals as goal
 
 pub returns-in_err-at-clause-none : goal.returns-in_err-at-clause-none
@@ -20,7 +19,7 @@ pub invariant_of-self : goal.invariant_of-self
 invariant_of-self g c =
     let was = c.self.invariant in
     let r = c.remove-msg in
-    kept_without g.met.P.Ord.total c.self.inside.has_two_ends c.self.inside.items.items r.new.items.items r.result _ was r.ensures.moves (r.ensures.order was.order)
+    kept_without g.met.P.Ord.total c.self.inside.items.items r.new.items.items r.result was.apart r.ensures.moves _ was.numbered c.self.inside.has_two_ends (r.ensures.order was.order)
 
 pub returns-clause-taken : goal.returns-clause-taken
 returns-clause-taken g c =
@@ -35,7 +34,3 @@ returns-clause-meets g c =
     subst (λ x. Tells g.F.Fn c.args.test.now (pair_of x) true)
     (ap (λ (l : List (Item g.row.T.Denot g.row.P.Denot)). slice_index_or l c.in_ok-at.at r.result) c.as_slice.ensures.value ∙ sym r.ensures.item)
     (c.in_ok-at.ensures.found r.result)
-
-pub returns-clause-cost : goal.returns-clause-cost
-returns-clause-cost g c =
-    rw (← c.self.view_is) (omega (arith, c.remove-msg.ensures.cost, ap digits (length-in_order c.self.inside.items.items)))

@@ -1,6 +1,6 @@
 use Rattle.std.proofs.Common.{◌/◌, arith, refl}
 use Rattle.std.proofs.lemmas.List.Sorted.{IsPermutation-refl, IsPermutation-trans}
-use Rattle.priority_channel_bag.proofs.Costs.{digits_step, digits_some}
+use Rattle.priority_channel_bag.proofs.Digits.{digits_step, digits_some}
 use Rattle.priority_channel_bag.proofs.interval_heap.sift.fall.Goals as goal
 
 pub loop-at-init : goal.loop-at-init

@@ -11,26 +11,15 @@ returns-then-is_lt-clause-moves g c = IsPermutation-trans _ _ _ c.swap.ensures.p
 
 pub returns-then-is_lt-clause-order : goal.returns-then-is_lt-clause-order
 returns-then-is_lt-clause-order g c = λ w.
-    let R = item_cmp {T = g.row.T.Denot} g.P.Ord.cmp in
-    let xs = c.args.items.now in
-    let low = c.args.low in
-    let high = c.args.high in
     c.rise.ensures.low c.requires.sides.1
-    (goes_low R (item_total g.met.P.Ord.total) xs c.swap.new.self high low c.requires.within.1 c.swap.ensures.len c.swap.ensures.by_index c.requires.over.1 c.requires.facing
-    (compared R xs high low _ _ _ true c.requires.within.0 c.requires.within.1 c.index-items-high.is c.index-items-low.is c.compare.ensures.order c.if-is_lt.ensures) w)
+    (goes_low _ (item_total g.met.P.Ord.total) _ _ _ _ c.requires.within.1 c.swap.ensures.len c.swap.ensures.by_index c.requires.over.1 c.requires.facing
+    (compared (item_cmp g.P.Ord.cmp) c.args.items.now c.args.high c.args.low _ _ _ true c.requires.within.0 c.requires.within.1 c.index-items-high.is c.index-items-low.is c.compare.ensures.order c.if-is_lt.ensures) w)
 
 pub returns-then-is_lt-clause-cost : goal.returns-then-is_lt-clause-cost
-returns-then-is_lt-clause-cost g c =
-    let low = c.args.low in
-    let high = c.args.high in
-    omega (arith, digits-mono (low / 2 + 1) (high / 2 + 1) (omega arith))
+returns-then-is_lt-clause-cost g c = omega (arith, digits-mono (c.args.low / 2 + 1) (c.args.high / 2 + 1) (omega arith))
 
 pub returns-else-is_lt-clause-order : goal.returns-else-is_lt-clause-order
 returns-else-is_lt-clause-order g c = λ w.
-    let R = item_cmp {T = g.row.T.Denot} g.P.Ord.cmp in
-    let xs = c.args.items.now in
-    let low = c.args.low in
-    let high = c.args.high in
     c.rise-else-is_lt.ensures.high c.requires.sides.0
-    (stays_high R (item_total g.met.P.Ord.total) xs high low c.requires.within.1 c.requires.over.1 c.requires.facing
-    (compared R xs high low _ _ _ false c.requires.within.0 c.requires.within.1 c.index-items-high.is c.index-items-low.is c.compare.ensures.order c.if-is_lt.ensures) w)
+    (stays_high _ (item_total g.met.P.Ord.total) _ _ _ c.requires.within.1 c.requires.over.1 c.requires.facing
+    (compared (item_cmp g.P.Ord.cmp) c.args.items.now c.args.high c.args.low _ _ _ false c.requires.within.0 c.requires.within.1 c.index-items-high.is c.index-items-low.is c.compare.ensures.order c.if-is_lt.ensures) w)
