@@ -1,5 +1,6 @@
 -- A bulk send of the code as a step, for every list that its iterator has.
-use Rattle.std.proofs.Common.{◌≡◌, ℕ, ◌+◌, ◌-◌, ◌<◌, ◌≤◌, ◌^◌, ◌⊎◌, true, false, List, refl, arith}
+use Rattle.std.proofs.lemmas.List.{append-nil}
+use Rattle.std.proofs.Common.{◌≡◌, ℕ, ◌+◌, ◌-◌, ◌<◌, ◌≤◌, ◌^◌, ◌⊎◌, true, false, List, refl, arith, inr, ◌∙◌}
 use Rattle.std.specs.Prelude.{Result, Ok, Err, Option}
 use Rattle.std.specs.declared.cmp.Ordering.{Ordering}
 use Rattle.std.specs.declared.iter.Ahead.{Ahead}
@@ -13,7 +14,7 @@ use Rattle.priority_channel_core.specs.machine.Sends.{Sends}
 use Rattle.priority_channel_core.specs.code.Lists.{HasList}
 use Rattle.priority_channel_core.specs.code.Front.{HasMore, HasEnded, SendsFront}
 use Rattle.priority_channel_core.specs.code.Calls.{SameReply, Performs}
-use Rattle.priority_channel_core.proofs.Sends.{sent_full, sent_all, sent_cut, refuses_full}
+use Rattle.priority_channel_core.proofs.Sends.{refuses_full}
 
 -- a reply is right for every list that m holds
 pub record Replies {T P W M : Type 0} (holds : M → List (T × P) → Type 0) (old : State T P W) (m : M)
@@ -44,14 +45,15 @@ module _ {S T P W : Type 0} (steps : S → Option (T × P) → S → Type 0) (ol
   replies_ended ended within = record {
     at = λ pairs has.
         let k = sent.takes.at pairs has in
-        (Ok tt, refl, sent_all old new handed pairs sent.front k.0 opened sent.adds k.1 (ended.at k.0 k.2) some (omega (arith, sent.long, within)));
+        let all : pairs ≡ sent.front = k.1 ∙ rw (ended.at k.0 k.2) (append-nil sent.front) in
+        (Ok tt, refl, rw all (some, omega (arith, sent.long, within), (opened, sent.adds)));
   }
 
   pub replies_filled : HasMore steps left → n ≡ room old → Replies (HasList steps) old msgs (Err (Full left)) handed new
   replies_filled more filled = record {
     at = λ pairs has.
         let k = sent.takes.at pairs has in
-        (Err (Full k.0), (k.0, refl, k.2), sent_full old new handed pairs sent.front k.0 opened sent.adds k.1 (omega (arith, sent.long, filled)) (more.at k.0 k.2));
+        (Err (Full k.0), (k.0, refl, k.2), (sent.front, k.1, omega (arith, sent.long, filled), inr (more.at k.0 k.2), (opened, sent.adds)));
   }
 
   pub replies_cut : HasMore steps left → n < room old → (old.is_reserved ≡ false) ⊎ (old.accepted + n ≡ 2 ^ 64 - 1)
@@ -59,5 +61,5 @@ module _ {S T P W : Type 0} (steps : S → Option (T × P) → S → Type 0) (ol
   replies_cut more within why = record {
     at = λ pairs has.
         let k = sent.takes.at pairs has in
-        (Err (Memory k.0), (k.0, refl, k.2), sent_cut old new handed pairs sent.front k.0 opened sent.adds k.1 (omega (arith, sent.long, within)) (more.at k.0 k.2) (rw sent.long why));
+        (Err (Memory k.0), (k.0, refl, k.2), (sent.front, k.1, omega (arith, sent.long, within), more.at k.0 k.2, (opened, sent.adds), rw sent.long why));
   }

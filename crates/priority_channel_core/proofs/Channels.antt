@@ -1,6 +1,7 @@
 -- The parts of a channel, after the loop of a bulk send has added a prefix to the bag and the word
 -- has risen.
-use Rattle.std.proofs.Common.{◌≡◌, ℕ, ◌+◌, ◌-◌, ◌<◌, ◌≤◌, ◌^◌, ◌⊎◌, Bool, true, false, List, [], ◌++◌, length, refl, ap, arith, inl, inr, length-append}
+use Rattle.std.proofs.lemmas.Bool.Decides.{nat_tests}
+use Rattle.std.proofs.Common.{◌≡◌, ℕ, ◌+◌, ◌-◌, ◌<◌, ◌≤◌, ◌^◌, ◌⊎◌, Bool, false, List, [], ◌++◌, length, refl, arith, length-append}
 use Rattle.std.specs.Prelude.{◌==◌, if◌then◌else◌}
 use Rattle.priority_channel_core.specs.machine.State.{State, Handed, nobody}
 use Rattle.priority_channel_core.specs.machine.Sends.{AddsFront}
@@ -8,10 +9,6 @@ use Rattle.priority_channel_bag.specs.Bag.{Contents}
 use Rattle.priority_channel_core.specs.Word.{Word}
 use Rattle.priority_channel_core.specs.Waiters.{HasOwnTickets}
 use Rattle.priority_channel_core.specs.code.Channel.{state_of, IsSound}
-use Rattle.std.proofs.lemmas.Bool.{cases_lt}
-use Rattle.priority_channel_bag.specs.Digits.{digits}
-use Rattle.priority_channel_bag.proofs.Digits.{digits-mono}
-use Rattle.priority_channel_core.proofs.Sends.{good_adds}
 
 module _ {T P W : Type 0} (bag bag' : Contents T P) (word word' : Word W) (handed : Handed W) (capacity : ℕ) (is_reserved : Bool)
     (senders receivers n : ℕ) (front : List (T × P)) (long : length front ≡ n)
@@ -30,27 +27,8 @@ module _ {T P W : Type 0} (bag bag' : Contents T P) (word word' : Word W) (hande
   pub sound_adds : IsSound bag word Old → word.is_closed ≡ false → n ≤ capacity - length bag.pending → bag.slots ≤ bag'.slots
       → length bag'.pending < 2 ^ 63 → bag'.accepted < 2 ^ 64 → HasOwnTickets word'.waiters → IsSound bag' word' New
   sound_adds sound opened within grown limit fits orderly =
-      let l = length-append bag.pending front in
-      let longer : length bag'.pending ≡ length bag.pending + n = rw pending (omega (arith, l, long)) in
-      let m = sound.good.within_capacity in
-      record {
-        counted = let c = ap (λ (w : Word W). w.count) risen in omega (arith, longer, sound.counted, c);
-        slots_kept = λ reserved. let p = sound.slots_kept reserved in omega arith;
-        good = good_adds Old New front handed adds sound.good opened (omega (arith, m)) limit fits orderly;
-      }
+      let a = adds in grind (arith, length-append, nat_tests)
 
   pub refused_in_channel : IsSound bag word Old → n < capacity - length bag.pending → bag.slots ≤ bag'.slots → bag'.accepted < 2 ^ 64
       → (bag'.accepted + 1 < 2 ^ 64 → bag'.slots ≤ length bag'.pending) → (is_reserved ≡ false) ⊎ (bag.accepted + n ≡ 2 ^ 64 - 1)
-  refused_in_channel sound within grown fits full =
-      elim (cases_lt (bag'.accepted + 1) (2 ^ 64)) [ inl some ↦ either is_reserved refl (full some) | inr none ↦ inr (omega (arith, accepted)) ]
-    where
-      either : (b : Bool) → is_reserved ≡ b → bag'.slots ≤ length bag'.pending → (is_reserved ≡ false) ⊎ (bag.accepted + n ≡ 2 ^ 64 - 1)
-      either false e filled = inl e
-      either true e filled =
-          let p = sound.slots_kept e in let l = length-append bag.pending front in
-          let longer : length bag'.pending ≡ length bag.pending + n = rw pending (omega (arith, l, long)) in
-          absurd (omega arith)
-
-pub digits_shorter : {X : Type 0} (xs ys us vs : List X) → length us ≤ length xs → length vs ≤ length ys
-    → digits (length us) + digits (length vs) ≤ digits (length xs) + digits (length ys)
-digits_shorter xs ys us vs p q = omega (arith, digits-mono (length us) (length xs) p, digits-mono (length vs) (length ys) q)
+  refused_in_channel sound within grown fits full = grind (arith, length-append)

@@ -1,5 +1,6 @@
 -- The loop of a bulk send, one more pair at a time.
-use Rattle.std.proofs.Common.{◌≡◌, ℕ, ◌+◌, ◌<◌, ◌≤◌, List, [], ◌∷◌, ◌++◌, length, refl, sym, ap, ◌∙◌, arith, append_assoc, length-append, Option, Some, Bool, true, false, IsTrue, ◌↔◌}
+use Rattle.std.proofs.lemmas.List.{nil_from_length}
+use Rattle.std.proofs.Common.{◌≡◌, ℕ, ◌+◌, ◌<◌, ◌≤◌, List, [], ◌∷◌, ◌++◌, length, sym, ap, ◌∙◌, arith, append_assoc, length-append, Option, Some, Bool, true, false, IsTrue, ◌↔◌}
 use Rattle.std.specs.Iterator.Adapters.{peekable_steps}
 use Rattle.std.specs.declared.iter.Ahead.{Ahead}
 use Rattle.priority_channel_bag.specs.Bag.{Contents}
@@ -7,12 +8,7 @@ use Rattle.priority_channel_core.specs.code.Lists.{HasList}
 use Rattle.priority_channel_core.specs.machine.State.{State, Handed}
 use Rattle.priority_channel_core.specs.code.Front.{Takes, HasMore, HasEnded, MovesFront, SendsFront, StopsFor, sent_before}
 use Rattle.priority_channel_core.specs.declared.channel.bulk.Stop.{Stop}
-use Rattle.priority_channel_core.specs.declared.channel.bulk.Stop.TheVariants.{Ended, Filled, Memory}
 use Rattle.priority_channel_core.proofs.Lists.{list_at_some}
-
-no_items : {X : Type 0} (list : List X) → (0 < length list → ⊥) → list ≡ []
-no_items [] none = refl
-no_items (x ∷ list) none = absurd (none (omega arith))
 
 module _ {S X : Type 0} {steps : S → Option X → S → Type 0} where
   pub takes_peeked : {msgs left : Ahead S X} {front : List X} (peeked : Ahead S X) → Takes steps msgs front left
@@ -28,7 +24,7 @@ module _ {S X : Type 0} {steps : S → Option X → S → Type 0} where
   pub none_left : (msgs : Ahead S X) (answer : Bool)
       → ((list : List X) → HasList steps msgs list → (IsTrue answer ↔ (0 < length list))) → answer ≡ false → HasEnded steps msgs
   none_left msgs answer tells e =
-      record { at = λ list has. no_items list (λ some. let is : answer ≡ true = (tells list has).1 some in absurd (cc)) }
+      record { at = λ list has. let t = tells list has in nil_from_length list (grind arith) }
 
 module _ {S T P : Type 0} {steps : S → Option (T × P) → S → Type 0} where
   pub moved_more : {old mid : Contents T P} {msgs left : Ahead S (T × P)} {n : ℕ} (new : Contents T P) (peeked more : Ahead S (T × P))
@@ -49,17 +45,13 @@ module _ {S T P : Type 0} {steps : S → Option (T × P) → S → Type 0} where
 
 module _ {S X : Type 0} (steps : S → Option X → S → Type 0) where
   pub sent_within : (is_refused : ℕ → Type 0) (room : ℕ) (stop : Stop) (left : Ahead S X) → StopsFor steps is_refused room stop left → sent_before stop ≤ room
-  sent_within is_refused room (Ended n) left stops = omega (arith, stops.0)
-  sent_within is_refused room (Filled n) left stops = omega (arith, stops)
-  sent_within is_refused room (Memory n) left stops = omega (arith, stops.0)
+  sent_within is_refused room stop left stops = grind arith
 
   -- the same stop, if one refusal implies another
   pub stops_for : (was is_refused : ℕ → Type 0) (room : ℕ) (stop : Stop) (left : Ahead S X)
       → (sent_before stop < room → was (sent_before stop) → is_refused (sent_before stop))
       → StopsFor steps was room stop left → StopsFor steps is_refused room stop left
-  stops_for was is_refused room (Ended n) left means stops = stops
-  stops_for was is_refused room (Filled n) left means stops = stops
-  stops_for was is_refused room (Memory n) left means stops = (stops.0, stops.1, means stops.0 stops.2)
+  stops_for was is_refused room stop left means stops = grind arith
 
 pub sent_peeked : {S T P W : Type 0} {steps : S → Option (T × P) → S → Type 0} {old new : State T P W} {handed : Handed W} {msgs left : Ahead S (T × P)} {n : ℕ}
     (peeked : Ahead S (T × P)) → SendsFront steps old msgs n handed new left

@@ -1,29 +1,21 @@
 -- What is known of the list of a `Peekable` at a call of `next`, and at a `peek`.
-use Rattle.std.proofs.Common.{◌≡◌, ◌<◌, ◌↔◌, IsTrue, is_some, List, [], ◌∷◌, ◌++◌, length, refl, sym, ap, subst, arith, Option, Some, None, MatchOption, Bor}
+use Rattle.std.proofs.Common.{◌≡◌, ◌<◌, ◌↔◌, IsTrue, is_some, List, [], ◌∷◌, ◌++◌, length, refl, sym, ap, arith, Option, Some, None, Bor}
 use Rattle.std.specs.Option.{option_copied}
-use Rattle.std.specs.Iterator.Adapters.{peekable_source, peekable_peeked, peekable_steps, PeeksNext, PeekedOrNext}
+use Rattle.std.specs.Iterator.Adapters.{peekable_source, peekable_peeked, peekable_steps, PeeksNext}
 use Rattle.std.specs.Iterator.{AlwaysYields}
 use Rattle.std.specs.declared.iter.Ahead.{Ahead}
 use Rattle.priority_channel_core.specs.code.Lists.{HasList}
 
 module _ {S A : Type 0} (steps : S → Option A → S → Type 0) where
-  peeked-gives : (t j : Ahead S A) (o r : Option A) → peekable_peeked t ≡ Some o → PeekedOrNext steps t r j → (r ≡ o) × (peekable_source j ≡ peekable_source t)
-  peeked-gives t j o r e q = let P : Option (Option A) → Type 0 = (λ z. MatchOption z (steps (peekable_source t) r (peekable_source j)) (λ k. (r ≡ k) × (peekable_source j ≡ peekable_source t))) in subst P e q
-
-  step-along : (s : Ahead S A) (o r : Option A) (u v : S) → r ≡ o → v ≡ u
-      → MatchOption (peekable_peeked s) (steps (peekable_source s) o u) (λ k. (o ≡ k) × (u ≡ peekable_source s))
-      → MatchOption (peekable_peeked s) (steps (peekable_source s) r v) (λ k. (r ≡ k) × (v ≡ peekable_source s))
-  step-along s o r u v e f p = rw (e, f) p
-
   step-after_peek : (s t : Ahead S A) → PeeksNext steps s t → (r : Option A) (j : Ahead S A) → peekable_steps steps t r j → peekable_steps steps s r j
-  step-after_peek s t p r j q = let k = peeked-gives t j p.0 r p.2 q.1 in (q.0, step-along s p.0 r (peekable_source t) (peekable_source j) k.0 k.1 p.1)
+  step-after_peek s t p r j q = grind arith
 
   taken : Ahead S A → Ahead S A
   taken t = record { iter = t.iter; peeked = None }
 
   peeked-step : (t : Ahead S A) (o : Option A) → peekable_peeked t ≡ Some o → peekable_steps steps t o (taken t)
   unfolding taken
-  peeked-step t o e = (refl, let P : Option (Option A) → Type 0 = (λ z. MatchOption z (steps (peekable_source t) o (peekable_source t)) (λ k. (o ≡ k) × (peekable_source t ≡ peekable_source t))) in subst P (sym e) (refl, refl))
+  peeked-step t o e = grind arith
 
   list_from_steps : (s t : Ahead S A) (list : List A) → ((r : Option A) (j : Ahead S A) → peekable_steps steps t r j → peekable_steps steps s r j) → HasList steps s list → HasList steps t list
   list_from_steps s t [] k h = record { runs = λ x j q. h.runs x j (k (Some x) j q) }
@@ -48,7 +40,7 @@ module _ {S A : Type 0} {steps : S → Option A → S → Type 0} where
 
 module _ {S A : Type 0} (steps : S → Option A → S → Type 0) where
   at_source : (s j : Ahead S A) (r : Option A) → peekable_peeked s ≡ None → peekable_steps steps s r j → steps (peekable_source s) r (peekable_source j)
-  at_source s j r e q = let P : Option (Option A) → Type 0 = (λ z. MatchOption z (steps (peekable_source s) r (peekable_source j)) (λ k. (r ≡ k) × (peekable_source j ≡ peekable_source s))) in subst P e q.1
+  at_source s j r e q = grind arith
 
   -- the list of an iterator that was not peeked
   pub list_from_source : (s : Ahead S A) (list : List A) → peekable_peeked s ≡ None → AlwaysYields steps (λ x. x) (peekable_source s) list → HasList steps s list

@@ -1,31 +1,18 @@
 -- Many receives, one after another.
-use Rattle.std.proofs.Common.{◌≡◌, ℕ, ◌+◌, ◌*◌, ◌≤◌, List, [], ◌∷◌, ◌++◌, length, length-append, refl, sym, ap, subst, ◌∙◌, append_assoc, inl, inr, arith}
+use Rattle.std.proofs.Common.{◌≡◌, ℕ, ◌+◌, ◌*◌, ◌≤◌, List, [], ◌∷◌, ◌++◌, length, length-append, refl, sym, ap, subst, ◌∙◌, append_assoc, arith}
 use Rattle.std.specs.Prelude.{Ok, Err, min}
-use Rattle.std.proofs.Math.Nat.{min-eq_left, min-eq_right}
-use Rattle.std.proofs.lemmas.Bool.{cases_lt}
 use Rattle.std.proofs.lemmas.Nat.{mul-le}
 use Rattle.std.specs.declared.cmp.Ordering.{Ordering}
 use Rattle.priority_channel_core.specs.declared.calls.Call.TheVariants as call
 use Rattle.priority_channel_core.specs.declared.calls.Answer.TheVariants as answer
 use Rattle.priority_channel_core.specs.declared.errors.TryRecvError.{TryRecvError}
-use Rattle.priority_channel_core.specs.declared.errors.TryRecvError.TheVariants.{Empty, Closed}
 use Rattle.priority_channel_core.specs.machine.State.{State, Handed, nobody}
 use Rattle.priority_channel_bag.specs.Digits.{digits}
-use Rattle.priority_channel_bag.specs.Greatest.{TakesGreatest}
 use Rattle.priority_channel_core.specs.machine.Step.{Step}
 use Rattle.priority_channel_core.specs.machine.Run.{Operation, Run}
 use Rattle.priority_channel_core.specs.code.Many.{in_turn, receives, ReceivesInTurn}
 use Rattle.priority_channel_bag.proofs.Digits.{digits-mono}
 use Rattle.priority_channel_core.proofs.Runs.{Run-more}
-
-taken_length : {T P : Type 0} (cmp : P → P → Ordering) (pending rest : List (T × P)) (pair : T × P) → TakesGreatest cmp pending pair rest
-    → length pending ≡ length rest + 1
-taken_length cmp pending rest pair h =
-    omega (arith, ap length h.split, ap length h.closed_up, length-append h.before (pair ∷ h.after), length-append h.before h.after)
-
-none_costs : digits 0 ≡ 0
-unfolding digits
-none_costs = refl
 
 module _ {T P W : Type 0} where
   receives-push : (pairs : List (T × P)) (pair : T × P) → in_turn {W = W} receives (pairs ++ pair ∷ []) nobody ≡ in_turn receives pairs nobody ++ in_turn receives (pair ∷ []) nobody
@@ -43,12 +30,16 @@ module _ {T P W : Type 0} (cmp : P → P → Ordering) (is_clone : W → W → T
     pub run : Run cmp is_clone old (in_turn receives pairs nobody) new
     pub nobody_waits : new.waiters.room ≡ []
 
+  pub first_length : (old mid : State T P W) (pair : T × P) (handed : Handed W)
+      → Step cmp is_clone old call.TryRecv (answer.TryRecv (Ok pair)) handed mid → length old.pending ≡ length mid.pending + 1
+  first_length old mid pair handed s = let taken = s.moves.0 in grind (arith, length-append)
+
   pub received_more : (old mid new : State T P W) (before now after : List (T × P)) (count : ℕ) (pair : T × P) (handed : Handed W)
       → Received old before count mid now → Step cmp is_clone mid call.TryRecv (answer.TryRecv (Ok pair)) handed new → after ≡ now ++ pair ∷ []
       → Received old before (count + 1) new after
   received_more old mid new before now after count pair handed r s is =
       let handed_is : handed ≡ nobody = s.moves.1.0 ∙ ap (λ (l : List (ℕ × W)). record { room = l; message = [] }) r.nobody_waits in
-      let taken = taken_length cmp mid.pending new.pending pair s.moves.0 in
+      let taken = first_length mid new pair handed s in
       record {
         pairs = r.pairs ++ pair ∷ [];
         items = is ∙ ap (λ (l : List (T × P)). l ++ pair ∷ []) r.items ∙ append_assoc before r.pairs (pair ∷ []);
@@ -69,34 +60,16 @@ module _ {T P W : Type 0} (cmp : P → P → Ordering) (is_clone : W → W → T
     record { run = (mid, s, more.run); nobody_for_none = λ none. let n = ap length none in absurd (omega arith) },
   )
 
-  none_pending : (old new : State T P W) (error : TryRecvError) (handed : Handed W)
-      → Step cmp is_clone old call.TryRecv (answer.TryRecv (Err error)) handed new → old.pending ≡ []
-  none_pending old new Empty handed s = s.moves.0
-  none_pending old new Closed handed s = s.moves.0
-
   pub refusal_costs : (old new : State T P W) (error : TryRecvError) (handed : Handed W)
       → Step cmp is_clone old call.TryRecv (answer.TryRecv (Err error)) handed new → digits (length old.pending) ≡ 0
-  refusal_costs old new error handed s = ap (λ (l : List (T × P)). digits (length l)) (none_pending old new error handed s) ∙ none_costs
-
-  pub first_length : (old mid : State T P W) (pair : T × P) (handed : Handed W)
-      → Step cmp is_clone old call.TryRecv (answer.TryRecv (Ok pair)) handed mid → length old.pending ≡ length mid.pending + 1
-  first_length old mid pair handed s = taken_length cmp old.pending mid.pending pair s.moves.0
+  unfolding digits
+  refusal_costs old new error handed s = grind arith
 
 pub min_next : (n x y a b : ℕ) → n ≡ min x y → x + 1 ≡ a → y + 1 ≡ b → n + 1 ≡ min a b
-min_next n x y a b e p q =
-    elim (cases_lt x y) [
-      | inl lt ↦ let m : min x y ≡ x = min-eq_left (omega arith) in let k : min a b ≡ a = min-eq_left (omega arith) in omega arith
-      | inr ge ↦ let m : min x y ≡ y = min-eq_right (omega arith) in let k : min a b ≡ b = min-eq_right (omega arith) in omega arith
-    ]
+min_next n x y a b e p q = omega arith
 
 pub receive_costs : (n left all : ℕ) → left ≤ all → n * (2 * digits all) + 2 * digits left ≤ (n + 1) * (2 * digits all)
-receive_costs n left all le =
-    let h = digits-mono left all le in
-    let e : (n + 1) * (2 * digits all) ≡ n * (2 * digits all) + 2 * digits all = grind arith in
-    omega (arith, h, e)
+receive_costs n left all le = grind (arith, digits-mono)
 
 pub receives_cost : (n left all : ℕ) → left ≤ all → 2 * digits all + n * (2 * digits left) ≤ (n + 1) * (2 * digits all)
-receives_cost n left all le =
-    let h = mul-le n (2 * digits left) n (2 * digits all) (omega arith) (omega (arith, digits-mono left all le)) in
-    let e : (n + 1) * (2 * digits all) ≡ n * (2 * digits all) + 2 * digits all = grind arith in
-    omega (arith, h, e)
+receives_cost n left all le = let h = digits-mono left all le in let m = mul-le n (2 * digits left) n (2 * digits all) in grind arith

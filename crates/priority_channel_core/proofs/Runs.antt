@@ -1,6 +1,7 @@
 -- Runs of the code's calls, one more call at a time.
-use Rattle.std.proofs.Common.{◌≡◌, ℕ, ◌+◌, List, [], ◌∷◌, ◌++◌, length, map, drop, refl, ap, ◌∙◌, append_assoc, drop-drop}
-use Rattle.std.specs.Prelude.{Bool, true, Option, None, Some, IfSome, IfOk, is_ok, OnOk, Ok, Err}
+use Rattle.std.proofs.lemmas.Slice.Zip.{all_zipped_more}
+use Rattle.std.proofs.Common.{◌≡◌, ℕ, ◌+◌, List, [], ◌∷◌, ◌++◌, length, map, drop, refl, ap, ◌∙◌, append_assoc, drop-drop, arith}
+use Rattle.std.specs.Prelude.{Bool, true, Option, IfSome, IfOk, is_ok, OnOk}
 use Rattle.std.specs.declared.result.Result.{Result}
 use Rattle.std.specs.List.{AllZip}
 use Rattle.std.proofs.lemmas.List.{map-append}
@@ -18,10 +19,7 @@ use Rattle.priority_channel_core.specs.code.Tests.{MeetsTest, AllMeetTests}
 use Rattle.priority_channel_core.specs.code.Answers.{SameAnswer}
 
 pub zip_push : {A B : Type 0} (R : A → B → Type 0) (xs : List A) (ys : List B) (x : A) (y : B) → AllZip R xs ys → R x y → AllZip R (xs ++ x ∷ []) (ys ++ y ∷ [])
-zip_push R [] [] x y a r = (r, tt)
-zip_push R [] (v ∷ ys) x y a r = absurd a
-zip_push R (u ∷ xs) [] x y a r = absurd a
-zip_push R (u ∷ xs) (v ∷ ys) x y a r = (a.0, zip_push R xs ys x y a.1 r)
+zip_push R xs ys x y a r = all_zipped_more R xs ys x y a r
 
 module _ {T P W : Type 0} (cmp : P → P → Ordering) (is_clone : W → W → Type 0) where
   pub Run-more : (old mid new : State T P W) (run : List (Operation T P W)) (made : Operation T P W)
@@ -90,16 +88,6 @@ module _ {T P W M F : Type 0} (holds : M → List (T × P) → Type 0) (cmp : P 
       performed (ChangePriority none priority) meant told at = absurd none
       performed call meant told at = at
 
-  pub makes_taking : (test : F) (taken : Option (T × P)) → made ≡ TakeWhere test → reply ≡ answer.TakeWhere taken
-      → (place : ℕ) × Step cmp is_clone old (TakeWhere place) (answer.TakeWhere taken) handed new
-      → Makes holds cmp is_clone old made reply handed new
-  makes_taking test taken is answers found = rw (is, answers) (record { at = λ meant same. (answer.TakeWhere taken, refl, found) })
-
-  pub makes_change : (test : F) (priority : P) (changed : Result P P) → made ≡ ChangePriority test priority → reply ≡ answer.ChangePriority changed
-      → (place : ℕ) × Step cmp is_clone old (ChangePriority place priority) (answer.ChangePriority changed) handed new
-      → Makes holds cmp is_clone old made reply handed new
-  makes_change test priority changed is answers found = rw (is, answers) (record { at = λ meant same. (answer.ChangePriority changed, refl, found) })
-
 module _ {T P W M F : Type 0} (holds : M → List (T × P) → Type 0) (cmp : P → P → Ordering) (is_clone : W → W → Type 0) where
   pub RunsFront-none : (old : State T P W) (calls : List (Call T P W M F)) → RunsFront holds cmp is_clone old calls [] calls old
   RunsFront-none old calls = record { at = λ meant same. ([], meant, places_same meant, tt, same, refl) }
@@ -134,27 +122,12 @@ module _ {T P W M F : Type 0} (holds : M → List (T × P) → Type 0) (cmp : P 
 
 module _ {T P W M F : Type 0} (meets : F → T × P → Type 0) (made : Call T P W M F) (reply : Answer T P M) (test : F) where
   pub taking_meets : (taken : Option (T × P)) → made ≡ TakeWhere test → reply ≡ answer.TakeWhere taken → IfSome taken (meets test) → MeetsTest meets made reply
-  taking_meets None is told met = record { taken = λ other pair again back. absurd (cc); changed = λ other priority was again back. absurd (cc) }
-  taking_meets (Some taken) is told met = record {
-    taken = λ other pair again back.
-        let same : test ≡ other = cc in
-        let given : taken ≡ pair = cc in
-        rw (same, given) at met;
-    changed = λ other priority was again back. absurd (cc);
-  }
+  taking_meets taken is told met = grind arith
 
   pub change_meets : (priority : P) (changed : Result P P) (pending new : List (T × P)) (fails : T × P → Type 0)
       → made ≡ ChangePriority test priority → reply ≡ answer.ChangePriority changed
       → IfOk changed (λ was. (change : Changes pending was priority new) × PassesFirst (meets test) fails change) → MeetsTest meets made reply
-  change_meets priority (Err back) pending new fails is told met = record { taken = λ other pair again back. absurd (cc); changed = λ other next was again back. absurd (cc) }
-  change_meets priority (Ok was) pending new fails is told met = record {
-    taken = λ other pair again back. absurd (cc);
-    changed = λ other next had again back.
-        let same : test ≡ other = cc in
-        let given : was ≡ had = cc in
-        let told : (msg : T) × meets test (msg, was) = (met.0.msg, met.1.passed) in
-        rw (same, given) at told;
-  }
+  change_meets priority changed pending new fails is told met = grind arith
 
 pub meets_more : {T P W M F : Type 0} (meets : F → T × P → Type 0) (calls left : List (Call T P W M F)) (done : List (Response T P W M)) (next : Call T P W M F) (response : Response T P W M)
     → next ∷ left ≡ drop (length done) calls → AllMeetTests meets calls done → MeetsTest meets next response.answer → AllMeetTests meets calls (done ++ response ∷ [])
@@ -164,8 +137,7 @@ meets_more meets (c ∷ calls) left [] next response is all one = let same : nex
 meets_more meets (c ∷ calls) left (d ∷ done) next response is all one = (all.0, meets_more meets calls left done next response is all.1 one)
 
 pub at_ok : {X E : Type 0} {P : Type 0} (r : Result X E) (b : Bool) → b ≡ is_ok r → b ≡ true → OnOk r P → P
-at_ok (Ok x) b e h p = p
-at_ok (Err x) b e h p = cc
+at_ok r b e h p = grind arith
 
 pub drop-past : {A : Type 0} (n : ℕ) (items : List A) (first : A) (rest : List A) → first ∷ rest ≡ drop n items → rest ≡ drop (n + 1) items
 drop-past n items first rest is = ap (drop 1) is ∙ drop-drop 1 n items

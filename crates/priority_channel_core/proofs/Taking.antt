@@ -1,5 +1,5 @@
 -- What takings in a row do in the channel.
-use Rattle.std.proofs.Common.{◌≡◌, ℕ, ◌+◌, ◌<◌, ◌==◌, if◌then◌else◌, false, List, [], ◌∷◌, length, length-append, map, refl, sym, ap, subst, ◌∙◌, arith, Some}
+use Rattle.std.proofs.Common.{◌≡◌, ℕ, ◌+◌, ◌==◌, if◌then◌else◌, List, [], ◌∷◌, length, length-append, map, refl, sym, ap, subst, arith, Some}
 use Rattle.std.proofs.lemmas.Bool.Decides.{nat_tests}
 use Rattle.std.specs.declared.cmp.Ordering.{Ordering}
 use Rattle.priority_channel_bag.specs.Least.{TakesOne, TakesAll}
@@ -15,16 +15,9 @@ use Rattle.priority_channel_core.specs.code.Many.{Placed, in_turn, takes, TakesI
 use Rattle.priority_channel_core.proofs.Evicting.{good_frees}
 
 module _ {T P : Type 0} where
-  one_length : (pending rest : List (T × P)) (pair : T × P) → TakesOne pending pair rest → length pending ≡ length rest + 1
-  one_length pending rest pair one =
-      omega (arith, ap length one.split, ap length one.closed_up, length-append one.before (pair ∷ one.after), length-append one.before one.after)
-
   pub all_length : (pending pairs rest : List (T × P)) → TakesAll pending pairs rest → length pending ≡ length pairs + length rest
   all_length pending [] rest h = omega (arith, ap length h)
-  all_length pending (pair ∷ more) rest h = omega (arith, one_length pending h.0 pair h.1, all_length h.0 more rest h.2)
-
-none_absurd : {X R : Type 0} (x : X) (xs : List X) → x ∷ xs ≡ [] → R
-none_absurd x xs none = let l = ap length none in absurd (omega arith)
+  all_length pending (pair ∷ more) rest h = let others = all_length h.0 more rest h.2 in grind (arith, length-append)
 
 module _ {T P W : Type 0} (cmp : P → P → Ordering) (is_clone : W → W → Type 0) where
   taking : (old mid : State T P W) (pair : T × P) (handed : Handed W) (one : TakesOne old.pending pair mid.pending) → Frees old handed mid → IsGood old
@@ -34,18 +27,13 @@ module _ {T P W : Type 0} (cmp : P → P → Ordering) (is_clone : W → W → T
   takings : (old : State T P W) (pairs rest : List (T × P)) → TakesAll old.pending pairs rest → old.waiters.room ≡ [] → IsGood old
       → (taken : List (Placed T P)) × (map (λ one. one.pair) taken ≡ pairs) × Run cmp is_clone old (in_turn takes taken nobody) (record old { pending = rest })
       × IsGood (record old { pending = rest })
-  takings old [] rest h nobody_waits good =
-      let same : record old { pending = rest } ≡ old = ap (λ (l : List (T × P)). record old { pending = l }) h in
-      ([], refl, same, subst (λ (s : State T P W). IsGood s) (sym same) good)
+  takings old [] rest h nobody_waits good = ([], refl, grind arith, grind arith)
   takings old (pair ∷ more) rest h nobody_waits good =
       let mid : State T P W = record old { pending = h.0 } in
-      let frees : Frees old nobody mid = (
-        ap (λ (l : List (ℕ × W)). record { room = l; message = [] }) (sym nobody_waits),
-        ap (λ (l : List (ℕ × W)). record mid { waiters = record old.waiters { room = l } }) nobody_waits,
-      ) in
+      let frees : Frees old nobody mid = grind arith in
       let step = taking old mid pair nobody h.1 frees good good.tickets in
       let rest_of = takings mid more rest h.2 nobody_waits step.good in
-      (record { place = length h.1.before; pair = pair } ∷ rest_of.0, ap (λ (l : List (T × P)). pair ∷ l) {x = map (λ one. one.pair) rest_of.0} rest_of.1, (mid, step, rest_of.2), rest_of.3)
+      (record { place = length h.1.before; pair = pair } ∷ rest_of.0, cc (rest_of.1), (mid, step, rest_of.2), rest_of.3)
 
   -- all waiting senders are woken by the first taking
   pub takes_in_turn : (old new : State T P W) (pairs : List (T × P)) (n : ℕ) (handed : Handed W) → n ≡ length pairs → TakesAll old.pending pairs new.pending
@@ -53,21 +41,18 @@ module _ {T P W : Type 0} (cmp : P → P → Ordering) (is_clone : W → W → T
       → new ≡ record old { pending = new.pending; waiters = record old.waiters { room = if n == 0 then old.waiters.room else [] } }
       → IsGood old → HasOwnTickets new.waiters → TakesInTurn cmp is_clone old pairs handed new × IsGood new
   takes_in_turn old new [] n handed count h handed_is new_is good tickets =
-      let same : new ≡ old = rw count at new_is ∙ ap (λ (l : List (T × P)). record old { pending = l }) h in
-      (([], refl, record { run = same; nobody_for_none = λ _. rw count at handed_is }), subst (λ (s : State T P W). IsGood s) (sym same) good)
+      (([], refl, record { run = grind arith; nobody_for_none = λ _. grind arith }), grind arith)
   takes_in_turn old new (pair ∷ more) n handed count h handed_is new_is good tickets =
       let mid : State T P W = record old { pending = h.0; waiters = record old.waiters { room = [] } } in
-      let positive : 0 < n = omega (arith, count) in
-      let some : (n == 0) ≡ false = grind (arith, nat_tests) in
-      let end : new ≡ record mid { pending = new.pending } = rw some at new_is in
-      let own : HasOwnTickets mid.waiters = subst (λ (s : State T P W). HasOwnTickets s.waiters) end tickets in
-      let step = taking old mid pair handed h.1 (rw some at handed_is, refl) good own in
+      let end : new ≡ record mid { pending = new.pending } = grind (arith, nat_tests) in
+      let frees : Frees old handed mid = grind (arith, nat_tests) in
+      let step = taking old mid pair handed h.1 frees good (grind arith) in
       let rest_of = takings mid more new.pending h.2 refl step.good in
       let run = subst (λ (s : State T P W). Run cmp is_clone mid (in_turn takes rest_of.0 nobody) s) (sym end) rest_of.2 in (
         (
           record { place = length h.1.before; pair = pair } ∷ rest_of.0,
-          ap (λ (l : List (T × P)). pair ∷ l) {x = map (λ one. one.pair) rest_of.0} rest_of.1,
-          record { run = (mid, step, run); nobody_for_none = none_absurd _ rest_of.0 },
+          cc (rest_of.1),
+          record { run = (mid, step, run); nobody_for_none = λ none. cc },
         ),
-        subst (λ (s : State T P W). IsGood s) (sym end) rest_of.3,
+        rw end rest_of.3,
       )

@@ -1,14 +1,15 @@
 -- If a waiter is listed or a ticket is taken off, each ticket remains one of the word's own, and in
 -- one list only.
-use Rattle.std.proofs.Common.{◌≡◌, ℕ, ◌+◌, ◌<◌, ◌≤◌, ◌≢◌, true, false, not, List, [], ◌∷◌, ◌++◌, get_or, map, refl, sym, subst, arith, inl, inr}
+use Rattle.std.proofs.lemmas.Bool.Decides.{nat_tests}
+use Rattle.std.proofs.Common.{◌≡◌, ℕ, ◌+◌, ◌<◌, ◌≤◌, ◌≢◌, false, not, List, [], ◌∷◌, ◌++◌, map, sym, subst, arith}
 use Rattle.std.specs.Prelude.{◌==◌, if◌then◌else◌, Option, Some, None, IfSome, IfNone}
 use Rattle.std.specs.List.{All}
-use Rattle.std.proofs.lemmas.Bool.{cases_lt, ne_eqb}
+use Rattle.std.proofs.lemmas.Bool.{ne_eqb}
 use Rattle.std.proofs.lemmas.List.Elements.{All-filter, All-map, All-push, All-weaker}
 use Rattle.std.proofs.lemmas.List.Folds.{list_any_none}
 use Rattle.priority_channel_core.specs.Waiting.{IsRising, is_listed, without, with_waker, without_given, listing, fresh, Listing, IsListing}
 use Rattle.priority_channel_core.specs.Waiters.{HasOwnTickets}
-use Rattle.priority_channel_core.proofs.Waiting.{all_from_unlisted, rising-with_waker, rising-without, same_ticket}
+use Rattle.priority_channel_core.proofs.Waiting.{all_from_unlisted, rising-with_waker, rising-without}
 use Rattle.std.proofs.lemmas.List.Quantifiers.{all_pairs_push}
 
 module _ {W : Type 0} where
@@ -43,41 +44,25 @@ module _ {W : Type 0} where
   follows-renewed : (xs : List (ℕ × W)) (u n : ℕ) (w : W) → IsRising xs → All (λ a. a.0 < n) xs → Follows xs (with_waker u w xs) n n
   follows-renewed xs u n w rises below =
       let f : ℕ × W → ℕ × W = λ a. if a.0 == u then (u, w) else a in
-      let same : (a : ℕ × W) → (f a).0 ≡ a.0 = same_ticket u w in
       record {
         rises = rising-with_waker xs u w rises;
-        below = All-map (λ a. a.0 < n) f xs (λ k d l. let b = below k d l in let e = same (get_or xs k d) in omega arith);
+        below = All-map (λ a. a.0 < n) f xs (grind (arith, nat_tests));
         grows = omega arith;
-        no_others = λ t ne h. list_any_none (λ a. a.0 == t) (map f xs) (All-map (λ a. (a.0 == t) ≡ false) f xs (λ k d l. let e = same (get_or xs k d) in rw e (all_from_unlisted xs t h k d l)));
+        no_others = λ t ne h. let all = all_from_unlisted xs t h in list_any_none (λ a. a.0 == t) (map f xs) (All-map (λ a. (a.0 == t) ≡ false) f xs (grind (arith, nat_tests)));
       }
 
   pub follows-listing : (xs : List (ℕ × W)) (given : Option ℕ) (w : W) (n : ℕ) → IsRising xs → All (λ a. a.0 < n) xs
       → Follows xs (listing given w xs n).waiters n (listing given w xs n).next_ticket
   follows-listing xs None w n rises below = follows-fresh xs w n rises below
   follows-listing xs (Some u) w n rises below =
-      let P : Listing W → Type 0 = λ l. Follows xs l.waiters n l.next_ticket in
-      elim (is_listed u xs) as (λ b. P (if b then record { ticket = u; waiters = with_waker u w xs; next_ticket = n } else fresh w xs n)) [
-        | true ↦ follows-renewed xs u n w rises below
-        | false ↦ follows-fresh xs w n rises below
-      ]
+      let renewed = follows-renewed xs u n w rises below in let other = follows-fresh xs w n rises below in grind arith
 
   -- how two lists and the next ticket may change, if each ticket remains one of their own
   abbrev pub Own : List (ℕ × W) → List (ℕ × W) → ℕ → Type 0
   Own rs ms n = HasOwnTickets (record { room = rs; message = ms; next_ticket = n })
 
   pub own-swapped : (rs ms : List (ℕ × W)) (n : ℕ) → Own rs ms n → Own ms rs n
-  own-swapped rs ms n own =
-      record {
-        room_rises = own.message_rises;
-        message_rises = own.room_rises;
-        room_given = own.message_given;
-        message_given = own.room_given;
-        apart = λ t here.
-            elim (is_listed t rs) as (λ b. b ≡ is_listed t rs → is_listed t rs ≡ false) [
-              | true ↦ λ e. let apart = own.apart t (sym e) in absurd (cc)
-              | false ↦ λ e. sym e
-            ] refl;
-      }
+  own-swapped rs ms n own = grind arith
 
   pub own-room : (rs ss ms : List (ℕ × W)) (n m : ℕ) → Own rs ms n → Follows rs ss n m → Own ss ms m
   own-room rs ss ms n m own f =
@@ -86,14 +71,7 @@ module _ {W : Type 0} where
         message_rises = own.message_rises;
         room_given = f.below;
         message_given = let g = f.grows in All-weaker (λ a. a.0 < n) (λ a. a.0 < m) (λ a l. omega arith) ms own.message_given;
-        apart = λ t here.
-            elim (cases_lt t n) [
-              | inl l ↦ elim (is_listed t rs) as (λ b. b ≡ is_listed t rs → is_listed t ms ≡ false) [
-                | true ↦ λ e. own.apart t (sym e)
-                | false ↦ λ e. let h = f.no_others t (λ q. absurd (omega arith)) (sym e) in absurd (cc)
-              ] refl
-              | inr l ↦ unlisted_above ms n t own.message_given l
-            ];
+        apart = λ t here. let above = unlisted_above ms n t own.message_given in let none = f.no_others t in grind arith;
       }
 
   pub own-message : (rs ms ns : List (ℕ × W)) (n m : ℕ) → Own rs ms n → Follows ms ns n m → Own rs ns m

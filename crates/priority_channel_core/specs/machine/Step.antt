@@ -1,4 +1,4 @@
--- One step: a call, its answer, whom it wakes, and the state after it.
+-- One step: a call, its answer, the waiters that it wakes, and the state after it.
 use Rattle.std.specs.Prelude.{ℕ, ◌+◌, ◌-◌, ◌==◌, List, [], ◌∷◌, length, Some}
 use Rattle.std.specs.declared.cmp.Ordering.{Ordering}
 use Rattle.priority_channel_core.specs.declared.calls.Call.{Call}

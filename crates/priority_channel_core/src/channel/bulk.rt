@@ -130,7 +130,7 @@ impl<T: Drop, P: Ord + Drop, W: Clone, A: Allocator + Copy> PriorityQueueChannel
     /// `Closed`, and with `Full` if there was no room from the start, that is the whole list, and
     /// the iterator was not called. With a later `Full` it is the part for which there was no room.
     /// With `Memory` it is the rest from the pair for which memory was refused. An empty list is
-    /// refused by a closed channel and by a full one, and asks for no memory.
+    /// refused by a closed channel and by a full one, and takes no memory.
     ///
     /// For each pair it peeks, makes a slot, and only then takes the pair.
     pub fn try_sendv<I: Iterator<Item = (T, P)>>(

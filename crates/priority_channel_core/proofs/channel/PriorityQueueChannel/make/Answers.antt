@@ -1,12 +1,14 @@
+use Rattle.std.proofs.Common.{refl}
 use Rattle.std.specs.Prelude.{true}
 use Rattle.priority_channel_bag.specs.Least.{Tells}
-use Rattle.priority_channel_core.proofs.Runs.{makes_taking, taking_meets, makes_change, change_meets}
+use Rattle.priority_channel_core.specs.declared.calls.Answer.TheVariants as answer
+use Rattle.priority_channel_core.proofs.Runs.{taking_meets, change_meets}
 use Rattle.priority_channel_core.proofs.channel.PriorityQueueChannel.make.Goals as goal
 
 pub returns-in-TakeWhere-clause-step : goal.returns-in-TakeWhere-clause-step
 returns-in-TakeWhere-clause-step g c =
-    makes_taking _ _ _ _ _ _ _ _ c.in-TakeWhere.test c.take_where-taken.result.0 c.in-TakeWhere.is c.new-in-TakeWhere.ensures.answer
-    (rw c.new-in-TakeWhere.ensures.handed c.take_where-taken.ensures.step)
+    rw (c.in-TakeWhere.is, c.new-in-TakeWhere.ensures.answer, c.new-in-TakeWhere.ensures.handed)
+    (record { at = λ meant same. (answer.TakeWhere c.take_where-taken.result.0, refl, c.take_where-taken.ensures.step) })
 
 pub returns-in-TakeWhere-clause-meets : goal.returns-in-TakeWhere-clause-meets
 returns-in-TakeWhere-clause-meets g c =
@@ -15,8 +17,8 @@ returns-in-TakeWhere-clause-meets g c =
 
 pub returns-in-ChangePriority-clause-step : goal.returns-in-ChangePriority-clause-step
 returns-in-ChangePriority-clause-step g c =
-    makes_change _ _ _ _ _ _ _ _ c.in-ChangePriority.test c.in-ChangePriority.priority c.change_priority-changed.result c.in-ChangePriority.is c.without_wakes.ensures.answer
-    (rw c.without_wakes.ensures.handed c.change_priority-changed.ensures.step)
+    rw (c.in-ChangePriority.is, c.without_wakes.ensures.answer, c.without_wakes.ensures.handed)
+    (record { at = λ meant same. (answer.ChangePriority c.change_priority-changed.result, refl, c.change_priority-changed.ensures.step) })
 
 pub returns-in-ChangePriority-clause-meets : goal.returns-in-ChangePriority-clause-meets
 returns-in-ChangePriority-clause-meets g c =
