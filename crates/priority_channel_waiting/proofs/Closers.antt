@@ -1,10 +1,10 @@
 -- Each ticket in the list of those who wait for the close is below the next one.
-use Rattle.std.proofs.Common.{◌≡◌, ℕ, ◌+◌, ◌<◌, true, false, not, List, get_or, subst, arith}
+use Rattle.std.proofs.lemmas.Bool.Decides.{nat_tests}
+use Rattle.std.proofs.Common.{◌≡◌, ℕ, ◌+◌, ◌<◌, not, List, subst, arith}
 use Rattle.std.specs.Prelude.{◌==◌, if◌then◌else◌, Option, Some, None}
 use Rattle.std.specs.List.{All}
 use Rattle.std.proofs.lemmas.List.Elements.{All-filter, All-map, All-push, All-weaker}
-use Rattle.priority_channel_core.specs.Waiting.{is_listed, with_waker, without_given, listing, fresh, Listing}
-use Rattle.priority_channel_core.proofs.Waiting.{same_ticket}
+use Rattle.priority_channel_core.specs.Waiting.{with_waker, without_given, listing, fresh, Listing}
 
 module _ {W : Type 0} where
   pub below-without : (xs : List (ℕ × W)) (given : Option ℕ) (n : ℕ) → All (λ a. a.0 < n) xs → All (λ a. a.0 < n) (without_given given xs)
@@ -16,9 +16,7 @@ module _ {W : Type 0} where
 
   below-renewed : (xs : List (ℕ × W)) (u n : ℕ) (w : W) → All (λ a. a.0 < n) xs → All (λ a. a.0 < n) (with_waker u w xs)
   below-renewed xs u n w below =
-      let f : ℕ × W → ℕ × W = λ a. if a.0 == u then (u, w) else a in
-      let same : (a : ℕ × W) → (f a).0 ≡ a.0 = same_ticket u w in
-      All-map (λ a. a.0 < n) f xs (λ k d l. let b = below k d l in let e = same (get_or xs k d) in omega arith)
+      All-map (λ a. a.0 < n) (λ a. if a.0 == u then (u, w) else a) xs (grind (arith, nat_tests))
 
   abbrev IsBelow : Listing W → Type 0
   IsBelow l = All (λ a. a.0 < l.next_ticket) l.waiters
@@ -26,10 +24,7 @@ module _ {W : Type 0} where
   below-listing : (xs : List (ℕ × W)) (given : Option ℕ) (w : W) (n : ℕ) → All (λ a. a.0 < n) xs → IsBelow (listing given w xs n)
   below-listing xs None w n below = below-fresh xs w n below
   below-listing xs (Some u) w n below =
-      elim (is_listed u xs) as (λ b. IsBelow (if b then record { ticket = u; waiters = with_waker u w xs; next_ticket = n } else fresh w xs n)) [
-        | true ↦ below-renewed xs u n w below
-        | false ↦ below-fresh xs w n below
-      ]
+      let renewed = below-renewed xs u n w below in let other = below-fresh xs w n below in grind arith
 
   pub below-listed : (xs ys : List (ℕ × W)) (given : Option ℕ) (w : W) (n m ticket : ℕ) → All (λ a. a.0 < n) xs
       → listing given w xs n ≡ record { ticket = ticket; waiters = ys; next_ticket = m } → All (λ a. a.0 < m) ys

@@ -1,7 +1,7 @@
 -- The state of a future after a poll.
-use Rattle.std.proofs.Common.{◌≡◌, ℕ, List, length, drop, refl, sym, subst}
+use Rattle.std.proofs.Common.{◌≡◌, ℕ, List, length, drop, refl, sym, arith}
 use Rattle.std.proofs.Math.Seq.{drop-append_seam}
-use Rattle.std.specs.Prelude.{Option, None, Some, IfSome, IfErr, Result, Ok, Err}
+use Rattle.std.specs.Prelude.{Option, Some, IfSome, IfErr, Result, Ok, Err}
 use Rattle.futures.specs.declared.task.Poll.{Poll}
 use Rattle.std.specs.declared.cmp.Ordering.{Ordering}
 use Rattle.priority_channel_core.specs.declared.calls.Call.{Call}
@@ -39,9 +39,7 @@ sendv_left msgs waker (Pending kept ticket) = record { task = refl; ticket = ref
 -- what is given back with an error was kept by the core's poll
 pub unsent_kept : {M : Type 0} (Q : M → Type 0) (reply : CorePoll (Result (Unit {0}) (SendFault M)) M)
     → IfSome (kept_by reply) Q → IfSome (handed_back (told_by reply)) Q
-unsent_kept Q (Ready (Ok sent)) h = h
-unsent_kept Q (Ready (Err fault)) h = h
-unsent_kept Q (Pending held ticket) h = tt
+unsent_kept Q reply h = grind arith
 
 module _ {T P W M F K R : Type 0} (Performs : State T P W → Call T P W M F → Answer T P M → Handed W → State T P W → Type 0)
     (task_of : K → Task T P M) (as_answer : CorePoll R K → Answer T P M) where
@@ -54,25 +52,19 @@ module _ {T P W M F K R : Type 0} (Performs : State T P W → Call T P W M F →
       rw is (record { reply = reply; tells = tells; step = step; leaves = rw leaves k })
 
 pub if_some : {M : Type 0} (Q : M → Type 0) (held : Option M) → ((m : M) → held ≡ Some m → Q m) → IfSome held Q
-if_some Q None h = tt
-if_some Q (Some m) h = h m refl
+if_some Q held h = grind arith
 
 -- what is left of a pending poll was kept by the core's poll
 pub left_kept : {M : Type 0} (Q : M → Type 0) (reply : CorePoll (Result (Unit {0}) (SendFault M)) M)
     → IfSome (kept_by reply) Q → IfSome (left_by reply).kept Q
-left_kept Q (Ready outcome) h = tt
-left_kept Q (Pending held ticket) h = h
-
-rest_at : {T P W : Type 0} (old new : State T P W) (handed : Handed W) (back : TrySendError (List (T × P))) (list : List (T × P))
-    → Sends old list (Err back) handed new → (n : ℕ) × (rest_of back ≡ drop n list)
-rest_at old new handed (send_error.Closed rest) list h = (0, h.1)
-rest_at old new handed (send_error.Full rest) list h = (length h.0, rw h.1 (sym (drop-append_seam h.0 rest)))
-rest_at old new handed (send_error.Memory rest) list h = (length h.0, rw h.1 (sym (drop-append_seam h.0 rest)))
+left_kept Q reply h = grind arith
 
 tails : {T P W : Type 0} (old new : State T P W) (handed : Handed W) (reply : Result (Unit {0}) (TrySendError (List (T × P)))) (list : List (T × P))
     → Sends old list reply handed new → IfErr reply (λ back. (n : ℕ) × (rest_of back ≡ drop n list))
 tails old new handed (Ok sent) list h = tt
-tails old new handed (Err back) list h = rest_at old new handed back list h
+tails old new handed (Err (send_error.Closed rest)) list h = (0, h.1)
+tails old new handed (Err (send_error.Full rest)) list h = (length h.0, rw h.1 (sym (drop-append_seam h.0 rest)))
+tails old new handed (Err (send_error.Memory rest)) list h = (length h.0, rw h.1 (sym (drop-append_seam h.0 rest)))
 
 module _ {T P W M : Type 0} (holds : M → List (T × P) → Type 0) (cmp : P → P → Ordering) (is_clone : W → W → Type 0)
     (old new : State T P W) (handed : Handed W) (msgs : M) where
@@ -82,34 +74,26 @@ module _ {T P W M : Type 0} (holds : M → List (T × P) → Type 0) (cmp : P �
   same_refused (send_error.Full m) told h = (send_error.Full h.0, h.1, h.2)
   same_refused (send_error.Memory m) told h = (send_error.Memory h.0, h.1, h.2)
 
-  refused_is_tail : (error : TrySendError M)
-      → Performs holds cmp is_clone old (call.TrySendv msgs) (answer.TrySendv (Err error)) handed new
-      → HoldsTail holds msgs (rest_of error)
-  refused_is_tail error h = record {
-    at = λ list has.
-        let k = h.at (call.TrySendv list) (list, refl, has) in
-        let same = same_refused error k.1.0 k.1.2 in
-        let tail = rest_at old new handed same.0 list (rw same.1 at (rw k.1.1 at k.2.moves)) in
-        (tail.0, rw (← tail.1) same.2);
-  }
-
   pub refused_tail : (reply : Result (Unit {0}) (TrySendError M))
       → Performs holds cmp is_clone old (call.TrySendv msgs) (answer.TrySendv reply) handed new
       → IfErr reply (λ error. HoldsTail holds msgs (rest_of error))
   refused_tail (Ok sent) h = tt
-  refused_tail (Err error) h = refused_is_tail error h
+  refused_tail (Err error) h = record {
+    at = λ list has.
+        let k = h.at (call.TrySendv list) (list, refl, has) in
+        let same = same_refused error k.1.0 k.1.2 in
+        let tail = tails old new handed (Err same.0) list (rw same.1 at (rw k.1.1 at k.2.moves)) in
+        (tail.0, rw (← tail.1) same.2);
+  }
 
   module _ (given : Option ℕ) (waker : W) where
-    kept_is : (m held : M) → Some m ≡ Some held → (list : List (T × P)) → holds m list → holds held list
-    kept_is m held is list h = let same : m ≡ held = cc in subst (λ x. holds x list) same h
-
     same_kept : (poll : CorePoll (Result (Unit {0}) (SendFault M)) M) (told : CorePoll (Result (Unit {0}) (SendFault (List (T × P)))) (List (T × P)))
         → SamePoll holds poll told → (held : M) → kept_by poll ≡ Some held
         → (rest : List (T × P)) × (kept_by told ≡ Some rest) × holds held rest
     same_kept (Ready (Ok sent)) told h held is = absurd (cc)
-    same_kept (Ready (Err (send_fault.Closed e))) told h held is = (h.0, cc, kept_is _ held is h.0 h.2)
-    same_kept (Ready (Err (send_fault.Memory m))) told h held is = (h.0, cc, kept_is _ held is h.0 h.2)
-    same_kept (Pending m ticket) told h held is = (h.0, cc, kept_is _ held is h.0 h.2)
+    same_kept (Ready (Err (send_fault.Closed e))) told h held is = (h.0, cc, grind arith)
+    same_kept (Ready (Err (send_fault.Memory m))) told h held is = (h.0, cc, grind arith)
+    same_kept (Pending m ticket) told h held is = (h.0, cc, grind arith)
 
     tail_at : (told : CorePoll (Result (Unit {0}) (SendFault (List (T × P)))) (List (T × P))) (list rest : List (T × P))
         → kept_by told ≡ Some rest → Polls is_clone (Sends old list) send_answer Room given waker told handed new → (n : ℕ) × (rest ≡ drop n list)

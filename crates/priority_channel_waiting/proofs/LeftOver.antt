@@ -1,19 +1,15 @@
 -- What comes back from an attempt is what the core gives back, and the error of the call holds it.
-use Rattle.std.specs.Prelude.{◌≡◌, IfErr, IfSome, IsErrAnd, Result, Ok, Err}
+use Rattle.std.proofs.Common.{arith}
+use Rattle.std.specs.Prelude.{◌≡◌, IfErr, IfSome, IsErrAnd, Result}
 use Rattle.priority_channel_core.specs.declared.errors.TrySendError.{TrySendError}
-use Rattle.priority_channel_core.specs.declared.errors.TrySendError.TheVariants.{Full, Closed, Memory}
 use Rattle.priority_channel_core.specs.Errors.{rest_of}
 use Rattle.priority_channel_waiting.specs.Waits.{left_over, outcome_of_try}
 
 module _ {C : Type 0} (Q : C → Type 0) where
   pub left_of_try : (reply : Result (Unit {0}) (TrySendError C)) → IfErr reply (λ error. Q (rest_of error)) → IfSome (left_over (outcome_of_try reply)) Q
-  left_of_try (Ok sent) h = tt
-  left_of_try (Err (Full rest)) h = h
-  left_of_try (Err (Closed rest)) h = h
-  left_of_try (Err (Memory rest)) h = h
+  left_of_try reply h = grind arith
 
 -- the error holds what came back of the call that it was made from
 pub held_by_error : {C F X : Type 0} (Q : C → Type 0) (Tells : F → Type 0) (held : F → C) (back : C) (result : Result X F)
     → IsErrAnd result (λ error. Tells error × (held error ≡ back)) → Q back → IfErr result (λ error. Q (held error))
-held_by_error Q Tells held back (Ok done) h k = tt
-held_by_error Q Tells held back (Err error) h k = rw h.1 k
+held_by_error Q Tells held back result h k = grind arith

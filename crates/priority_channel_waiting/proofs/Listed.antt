@@ -3,7 +3,7 @@ use Rattle.std.proofs.Common.{◌≡◌, ◌≢◌, ℕ, ◌<◌, ◌≤◌, ◌
 use Rattle.std.specs.Prelude.{◌==◌, if◌then◌else◌, Option, Some, None, Contains}
 use Rattle.std.specs.List.{All, filter}
 use Rattle.std.proofs.lemmas.Bool.{ne_eqb}
-use Rattle.std.proofs.lemmas.Bool.Decides.{eqb_tells}
+use Rattle.std.proofs.lemmas.Bool.Decides.{nat_tests}
 use Rattle.std.proofs.lemmas.List.{get_or-map, length-map}
 use Rattle.std.proofs.lemmas.List.Elements.{All-contains, All-contains_itself, All-filter, All-map, All-weaker, filter_passes, Contains-append_left, Contains-push, Contains-push_cases, at_from_Contains}
 use Rattle.std.proofs.lemmas.List.Folds.{Any-from_list_any}
@@ -27,8 +27,8 @@ module _ {X : Type 0} where
       elim (contains-cases x y xs c) [
         | inl e ↦ let passes : p x ≡ true = ap p e ∙ h in rw passes (0, omega arith, e)
         | inr r ↦
-            let rest = contains-filter p xs y h r in
-            elim (p x) as (λ b. Contains (if b then x ∷ filter p xs else filter p xs) y) [ true ↦ contains-there x y (filter p xs) rest | false ↦ rest ]
+            let rest = contains-filter p xs y h r in let there = contains-there x y (filter p xs) rest in
+            elim (p x) as (λ b. Contains (if b then x ∷ filter p xs else filter p xs) y) [ true ↦ there | false ↦ rest ]
       ]
 
   contains-map : (f : X → X) (xs : List X) (y : X) → Contains xs y → Contains (map f xs) (f y)
@@ -96,27 +96,18 @@ module _ (xs : List (ℕ × ℕ)) where
       let any = Any-from_list_any (λ (a : ℕ × ℕ). a.0 == u) xs here in
       let renewed : f any.1 ≡ (u, waiter) = let e = any.4 in rw e refl in
       let listed : Contains (map f xs) (u, waiter) = subst (Contains (map f xs)) renewed (contains-map f xs any.1 (any.0, any.2, any.3)) in
-      let kept : All Q (map f xs) = All-map Q f xs (All-weaker (Contains xs) (λ a. Q (f a)) (λ a was.
-      elim (eqb_tells a.0 u) [
-        | inl h ↦ let e = h.0 in rw e (inr refl)
-        | inr h ↦ let e = h.0 in rw e (inl (was, λ is. h.1 (cc)))
-      ]) xs (All-contains_itself xs)) in
+      let kept : All Q (map f xs) = All-map Q f xs (All-weaker (Contains xs) (λ a. Q (f a)) (grind (arith, nat_tests)) xs (All-contains_itself xs)) in
       record {
         grows = omega arith;
         own = λ t w e. let a : u ≡ t = cc in let b : waiter ≡ w = cc in rw (← a, ← b) listed;
         others = λ t w ne c.
-            let other : (t == u) ≡ false = ne_eqb t u (λ e. ne (ap Some (sym e))) in
-            let same : f (t, w) ≡ (t, w) = rw other refl in
+            let same : f (t, w) ≡ (t, w) = grind (arith, nat_tests) in
             subst (Contains (map f xs)) same (contains-map f xs (t, w) c);
         only = λ t w c. All-contains Q (map f xs) (t, w) kept c;
         ticket = λ t e. let a : u ≡ t = cc in (omega arith, inl e);
       }
 
   pub waits : (given : Option ℕ) (next waiter : ℕ) → ((t : ℕ) → given ≡ Some t → t < next) → Waits given next waiter (listing given waiter xs next)
-  waits None next waiter below = waits-fresh None next waiter (λ t e. absurd (cc))
+  waits None next waiter below = waits-fresh None next waiter (grind arith)
   waits (Some u) next waiter below =
-      elim (is_listed u xs) as (λ b. b ≡ is_listed u xs
-      → Waits (Some u) next waiter (if b then record { ticket = u; waiters = with_waker u waiter xs; next_ticket = next } else fresh waiter xs next)) [
-        | true ↦ λ e. waits-renewed u next waiter (below u refl) (sym e)
-        | false ↦ λ e. waits-fresh (Some u) next waiter (λ t is. let same : u ≡ t = cc in rw (← same) (sym e))
-      ] refl
+      let renewed = waits-renewed u next waiter (below u refl) in let other = waits-fresh (Some u) next waiter in grind arith

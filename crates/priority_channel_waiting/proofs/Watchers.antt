@@ -1,13 +1,13 @@
 -- What each event preserves of the watchers and the list of those that wait.
 use Rattle.std.proofs.Common.{◌≡◌, ◌≢◌, ℕ, ◌<◌, ◌≤◌, ◌⊎◌, true, false, List, [], ◌∷◌, refl, ap, sym, ◌∙◌, subst, arith, inl, inr, eq-eqb}
-use Rattle.std.specs.Prelude.{◌==◌, if◌then◌else◌, Option, Some, None, Contains}
+use Rattle.std.specs.Prelude.{◌==◌, Option, Some, None, Contains}
 use Rattle.std.specs.List.{list_any}
-use Rattle.std.proofs.lemmas.Bool.Decides.{eqb_tells}
+use Rattle.std.proofs.lemmas.Bool.Decides.{nat_tests}
 use Rattle.std.proofs.lemmas.List.Elements.{at_from_Contains}
 use Rattle.std.proofs.lemmas.List.Folds.{list_any_at}
 use Rattle.priority_channel_core.specs.Waiting.{without_given, listing}
 use Rattle.priority_channel_core.specs.Future.{Standing, ticket_of}
-use Rattle.priority_channel_core.specs.Future.Standing.{New, Waiting, Called, Done}
+use Rattle.priority_channel_core.specs.Future.Standing.{Waiting, Called, Done}
 use Rattle.priority_channel_waiting.specs.Closers.{Closers}
 use Rattle.priority_channel_waiting.specs.declared.closing.Watch.TheVariants.{Listed, Closed, Refused}
 use Rattle.priority_channel_waiting.specs.CloseLaw.{CloseWorld, CloseEvent, opening, turned, called_by, Happens, Leads, NobodyIsForgotten}
@@ -27,10 +27,10 @@ module _ (old : CloseWorld) (k : NobodyIsForgotten old) where
     now = turned i s old.watchers
 
     at : (j : ℕ) → ((j ≡ i) × (now j ≡ s)) ⊎ ((j ≢ i) × (now j ≡ old.watchers j))
-    at j = elim (eqb_tells j i) [ inl h ↦ let e = h.0 in inl (h.1, rw e refl) | inr h ↦ let e = h.0 in inr (h.1, rw e refl) ]
+    at j = grind (arith, nat_tests)
 
     ticket_at : (j t : ℕ) → ticket_of (now j) ≡ Some t → ((j ≡ i) × (ticket_of s ≡ Some t)) ⊎ ((j ≢ i) × (ticket_of (old.watchers j) ≡ Some t))
-    ticket_at j t has = elim (at j) [ inl e ↦ inl (e.0, ap ticket_of (sym e.1) ∙ has) | inr e ↦ inr (e.0, ap ticket_of (sym e.1) ∙ has) ]
+    ticket_at j t has = let a = at j in grind arith
 
     turns : (new : Closers) → Turns old.closers.waiters (ticket_of (old.watchers i)) old.closers.next_ticket s new
         → ((t w : ℕ) → s ≡ Waiting t w → old.is_closed ≡ false) → Goes old (record old { closers = new; watchers = now })
@@ -53,28 +53,17 @@ module _ (old : CloseWorld) (k : NobodyIsForgotten old) where
                 turn.others t w (λ mine. e.0 (k.tickets_differ found.0 i t (ap ticket_of was) mine)) ((k.listed t w).1 (found.0, was))
           ],
         );
-        open_if_waiting = λ j t w is. elim (at j) [ inl e ↦ opens t w (sym e.1 ∙ is) | inr e ↦ k.open_if_waiting j t w (sym e.1 ∙ is) ];
-        tickets_were_given = λ j t has. elim (ticket_at j t has) [ inl e ↦ (turn.ticket t e.1).0 | inr e ↦ let b = k.tickets_were_given j t e.1 in omega arith ];
+        open_if_waiting = λ j t w is. let a = at j in let o = k.open_if_waiting j t w in let p = opens t w in grind arith;
+        tickets_were_given = λ j t has. let a = ticket_at j t has in let p = turn.ticket t in let g = k.tickets_were_given j t in grind arith;
         tickets_differ = λ j l t has has'.
-            elim (ticket_at j t has) [
-              | inl e ↦ elim (ticket_at l t has') [ inl e' ↦ e.0 ∙ sym e'.0 | inr e' ↦ absurd (not_both l t e'.0 e'.1 e.1) ]
-              | inr e ↦ elim (ticket_at l t has') [ inl e' ↦ absurd (not_both j t e.0 e.1 e'.1) | inr e' ↦ k.tickets_differ j l t e.1 e'.1 ]
-            ];
+            let a = ticket_at j t has in let b = ticket_at l t has' in let p = not_both j t in let q = not_both l t in let same = k.tickets_differ j l t in grind arith;
       };
       grows = turn.grows;
-      once = λ j t has.
-          elim (ticket_at j t has) [
-            | inl e ↦ let same = e.0 in rw same (turn.ticket t e.1).1
-            | inr e ↦ inl e.1
-          ];
+      once = λ j t has. let a = ticket_at j t has in let p = turn.ticket t in grind arith;
     }
       where
         not_both : (j t : ℕ) → j ≢ i → ticket_of (old.watchers j) ≡ Some t → ticket_of s ≡ Some t → ⊥
-        not_both j t ne has is =
-            elim (turn.ticket t is).1 [
-              | inl mine ↦ ne (k.tickets_differ j i t has mine)
-              | inr new ↦ let b = k.tickets_were_given j t has in absurd (omega arith)
-            ]
+        not_both j t ne has is = let p = turn.ticket t is in let g = k.tickets_were_given j t has in let d = k.tickets_differ j i t has in grind arith
 
   ended : (i : ℕ) → Goes old (record old {
     closers = record old.closers { waiters = without_given (ticket_of (old.watchers i)) old.closers.waiters };
@@ -97,17 +86,10 @@ module _ (old : CloseWorld) (k : NobodyIsForgotten old) where
       rw is (rw yes refl)
 
   called-ticket : (s : Standing ℕ) → ticket_of (called_by old.closers.waiters s) ≡ ticket_of s
-  called-ticket (Waiting t w) =
-      elim (list_any (λ (a : ℕ × ℕ). a.1 == w) old.closers.waiters) as (λ b. ticket_of (if b then Called t w else Waiting t w) ≡ Some t) [ true ↦ refl | false ↦ refl ]
-  called-ticket (Called t w) = refl
-  called-ticket New = refl
-  called-ticket Done = refl
+  called-ticket s = grind arith
 
   not_waiting : (s : Standing ℕ) → ((t w : ℕ) → s ≡ Waiting t w → Contains old.closers.waiters (t, w)) → (t w : ℕ) → called_by old.closers.waiters s ≡ Waiting t w → ⊥
-  not_waiting (Waiting u v) listed t w is = let now = woken (Waiting u v) u v refl (listed u v refl) in absurd (cc)
-  not_waiting (Called u v) listed t w is = absurd (cc)
-  not_waiting New listed t w is = absurd (cc)
-  not_waiting Done listed t w is = absurd (cc)
+  not_waiting s listed t w is = let now = woken s t w in let l = listed t w in grind arith
 
   nobody_waits : (i t w : ℕ) → called_by old.closers.waiters (old.watchers i) ≡ Waiting t w → ⊥
   nobody_waits i = not_waiting (old.watchers i) (λ t w is. (k.listed t w).1 (i, is))
@@ -139,22 +121,20 @@ goes old new (Looks i w) k (Listed ticket, watches, same) = subst (Goes old) (sy
 goes old new (Looks i w) k (Closed seen, watches, same) =
     let none = none_off old.closers.waiters (ticket_of (old.watchers i)) (λ t v c.
     let found = (k.listed t v).0 c in let opens = k.open_if_waiting found.0 t v found.1 in let closed = watches.0 in absurd (cc)) in
-    let closers = watches.1 in let off = ended old k i in
-    subst (Goes old) (sym same) (rw closers (rw none at off))
-goes old new (Looks i w) k (Refused, watches, same) = let closers = watches.1 in subst (Goes old) (sym same) (rw closers (ended old k i))
-goes old new (GivesUp i) k same = subst (Goes old) (sym same) (ended old k i)
-goes old new Closes k same = subst (Goes old) (sym same) (shuts old k)
+    let off = ended old k i in rw (same, watches.1) (rw none at off)
+goes old new (Looks i w) k (Refused, watches, same) = rw (same, watches.1) (ended old k i)
+goes old new (GivesUp i) k same = rw same (ended old k i)
+goes old new Closes k same = rw same (shuts old k)
 
 go : (old new : CloseWorld) (events : List CloseEvent) → NobodyIsForgotten old → Leads old events new → Goes old new
 go old new [] k same = subst (Goes old) (sym same) (record { keeps = k; grows = omega arith; once = λ i t has. inl has })
 go old new (event ∷ more) k leads =
     let first = goes old leads.0 event k leads.1 in
     let rest = go leads.0 new more first.keeps leads.2 in
-    let grows = first.grows in
     record {
       keeps = rest.keeps;
-      grows = let more' = rest.grows in omega arith;
-      once = λ i t has. elim (rest.once i t has) [ inl was ↦ first.once i t was | inr since ↦ inr (omega arith) ];
+      grows = let a = first.grows in let b = rest.grows in omega arith;
+      once = λ i t has. let a = rest.once i t has in let b = first.once i t in let c = first.grows in grind arith;
     }
 
 forgotten_at_opening : NobodyIsForgotten opening
@@ -175,9 +155,7 @@ close_wakes old new events leads closes i t w waits =
     ap (λ (world : CloseWorld). world.watchers i) closes ∙ woken old k (old.watchers i) t w waits ((k.listed t w).1 (i, waits))
 
 closed_after : (old new : CloseWorld) (event : CloseEvent) → Happens old event new → old.is_closed ≡ true → new.is_closed ≡ true
-closed_after old new (Looks i w) h closed = ap (λ (world : CloseWorld). world.is_closed) h.2 ∙ closed
-closed_after old new (GivesUp i) h closed = ap (λ (world : CloseWorld). world.is_closed) h ∙ closed
-closed_after old new Closes h closed = ap (λ (world : CloseWorld). world.is_closed) h
+closed_after old new event h closed = grind arith
 
 pub stays_closed : (old new : CloseWorld) (events : List CloseEvent) → Leads old events new → old.is_closed ≡ true → new.is_closed ≡ true
 stays_closed old new [] h closed = ap (λ (world : CloseWorld). world.is_closed) h ∙ closed
@@ -186,7 +164,7 @@ stays_closed old new (event ∷ more) h closed = stays_closed h.0 new more h.2 (
 pub given_once : (earlier later : CloseWorld) (before after : List CloseEvent) → Leads opening before earlier → Leads earlier after later
     → (i t : ℕ) → ticket_of (later.watchers i) ≡ Some t → t < earlier.closers.next_ticket → ticket_of (earlier.watchers i) ≡ Some t
 given_once earlier later before after leads more i t has lt =
-    elim ((go earlier later after (nobody_is_forgotten earlier before leads) more).once i t has) [ inl was ↦ was | inr since ↦ absurd (omega arith) ]
+    let once = (go earlier later after (nobody_is_forgotten earlier before leads) more).once i t has in grind arith
 
 pub occurs : (waits woken : CloseWorld) × Happens opening (Looks 0 7) waits × (waits.watchers 0 ≡ Waiting 0 7)
     × Happens waits Closes woken × (woken.watchers 0 ≡ Called 0 7)

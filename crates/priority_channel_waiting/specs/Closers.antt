@@ -9,8 +9,8 @@ pub record Closers : Type 0 where
   pub waiters : List (ℕ × ℕ)
   pub next_ticket : ℕ
 
--- What comes of listing a waiter, which may have a ticket. At a closed channel nobody is listed. At an
--- open one the waiter is, or its listing is refused and its ticket is not in the list.
+-- What comes of listing a waiter, which may have a ticket. At a closed channel nobody is listed. At
+-- an open one the waiter is, or its listing is refused and its ticket is not in the list.
 abbrev pub Watches : Bool → Option ℕ → ℕ → Watch → Closers → Closers → Type 0
 Watches is_closed given waiter (Listed ticket) old new = (is_closed ≡ false)
     × (listing given waiter old.waiters old.next_ticket

@@ -44,7 +44,7 @@ module _ {C O : Type 0} where
   given_back (ended.Closed call) = call
   given_back (ended.Memory call) = call
 
-  -- the error tells why a wait ended without success
+  -- the error is the reason why a wait ended without success
   abbrev pub TellsSendFault : Ended C O → SendFault C → Type 0
   TellsSendFault (ended.Over call over) fault = ⊥
   TellsSendFault (ended.Closed call) fault = fault ≡ send_fault.Closed (record { 0 = call })

@@ -2,11 +2,11 @@
 //! came. Only the head of the queue is in the channel's own waiting list. So a message or free room
 //! wakes one thread, however many wait. While a thread of that side spins, it wakes none.
 //!
-//! The values by which a thread takes part are not `Drop`, so code cannot forget them. A thread that
-//! joins the queue (`Queued`) must leave it or become its head (`Lead`). A head must promote the
-//! next thread. A thread that spins (`Spinner`) must report when it stops. Either then has to see to
-//! it that something wakes the head (`Duty`, `Unlisted`). Whoever takes the head's ticket must take
-//! it off the channel's list (`Ticket`).
+//! The values by which a thread takes part are not `Drop`, so code cannot forget them. A thread
+//! that joins the queue (`Queued`) must leave it or become its head (`Lead`). A head must promote
+//! the next thread. A thread that spins (`Spinner`) must report when it stops. Either then has to
+//! see to it that something wakes the head (`Duty`, `Unlisted`). Whoever takes the head's ticket
+//! must take it off the channel's list (`Ticket`).
 ghost use Rattle.std.specs.Prelude.{◌≡◌, ◌≢◌, ◌↔◌, ℕ, ◌+◌, ◌-◌, ◌<◌, ◌≤◌, ◌∷◌, ◌++◌, [], option_to_list, IfOk, IfErr, IfNone, IfSome, IsSome, IsTrue, OnOk, OnErr, Some, None};
 ghost use Rattle.priority_channel_core.specs.Waiting.{without};
 ghost use Rattle.priority_channel_core.specs.Waiters.{unlist};
