@@ -1,7 +1,5 @@
 -- That no queue of waiting threads is left asleep.
 pub mod Acts
 pub mod Kept
-pub mod Order
 pub mod Runs
-pub mod Spinners
 pub mod Witness

@@ -75,7 +75,7 @@ module _ {T P : Type 0} where
         state = new.state;
       })
 
-  -- a head to which nobody would see is listed, or woken
+  -- a head that is neither listed nor watched by a spinner is listed, or woken
   abbrev pub Rouses : ThreadWorld T P → ThreadWorld T P → Type 0
   Rouses old new =
       ((IsUnattended old.line → ⊥) × (new ≡ old))
@@ -147,7 +147,7 @@ module _ {T P : Type 0} where
       }) new
 
   module _ (cmp : P → P → Ordering) where
-    -- A call of the core wakes those that it hands out. It is never given the ticket of the head:
+    -- A call of the core wakes those that it lets go on. It is never given the ticket of the head:
     -- tasks and the other side have tickets of their own.
     abbrev pub Occurs : ThreadWorld T P → ThreadEvent T P → ThreadWorld T P → Type 0
     Occurs old (Makes made) new =

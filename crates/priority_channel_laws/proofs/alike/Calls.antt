@@ -1,5 +1,6 @@
 -- Two calls from states that are the same, where neither call waits, with as many pairs accepted.
-use Rattle.std.proofs.Common.{◌≡◌, ℕ, Bool, true, false, List, [], ◌∷◌, ◌++◌, ◌+◌, ◌<◌, length, refl, sym, ap, ◌∙◌, inl, inr, zero, suc, arith, length-append}
+use Rattle.std.proofs.Common.{◌≡◌, ℕ, Bool, true, false, List, [], ◌∷◌, ◌++◌, ◌+◌, length, refl, sym, ap, ◌∙◌, zero, suc, arith, length-append}
+use Rattle.std.proofs.lemmas.List.{length-take}
 use Rattle.std.specs.Prelude.{Option, Some, None, Result, Ok, Err, ◌==◌, if◌then◌else◌}
 use Rattle.std.specs.Cmp.{IsTotalOrder}
 use Rattle.std.specs.declared.cmp.Ordering.{Ordering}
@@ -14,7 +15,7 @@ use Rattle.priority_channel_laws.specs.Accepted.{all_but, sent}
 use Rattle.priority_channel_laws.specs.Alike.{SameHanded, SameState}
 use Rattle.priority_channel_laws.proofs.runs.Effects.{all_but-front}
 use Rattle.priority_channel_bag.proofs.Extremes.{one_greatest}
-use Rattle.priority_channel_laws.proofs.alike.Lists.{SameList, same_after, handed_same, nobody_same, same_pending, same_closed, same_capacity}
+use Rattle.priority_channel_laws.proofs.alike.Lists.{SameList, nobody_same, same_left, same_pending, same_closed, same_capacity}
 
 split_same : {A : Type 0} (front rest before after : List A) → front ++ rest ≡ before ++ after → length before ≡ length front
     → (before ≡ front) × (after ≡ rest)
@@ -37,13 +38,13 @@ module _ {T P W : Type 0} (is_clone : W → W → Type 0) where
     rooms = rw (same_pending is_clone same, same_capacity is_clone same) refl
 
     pub refuses_same : Refuses s h k → Refuses r h' k' → Both h h' k k'
-    refuses_same a b = record { handed = nobody_same is_clone h h' a.0 b.0; state = same_after is_clone k k' s r a.1 b.1 same }
+    refuses_same a b = record { handed = nobody_same is_clone h h' a.0 b.0; state = rw (a.1, b.1) same }
 
     accepts_same : (front : List (T × P)) → Accepts s front h k → Accepts r front h' k' → Both h h' k k'
     accepts_same front a b =
         record {
-          handed = handed_same is_clone h h' _ _ a.1.handed_is b.1.handed_is (handing (length front == 0));
-          state = same_after is_clone k k' _ _ a.1.new_is b.1.new_is (record {
+          handed = rw (a.1.handed_is, b.1.handed_is) (handing (length front == 0));
+          state = rw (a.1.new_is, b.1.new_is) (record {
             waiters = record { room = same.waiters.room; message = messages (length front == 0); next_ticket = same.waiters.next_ticket };
             others = ap (λ (x : State T P W). record x {
               pending = x.pending ++ front;
@@ -74,40 +75,23 @@ module _ {T P W : Type 0} (is_clone : W → W → Type 0) where
     pub sends_same : (pairs : List (T × P)) (x y : Result (Unit {0}) (TrySendError (List (T × P)))) → Sends s pairs x h k → Sends r pairs y h' k'
         → length (sent pairs y) ≡ length (sent pairs x) → (y ≡ x) × Both h h' k k'
     sends_same pairs (Ok d) (Ok e) a b count = (refl, accepts_same pairs a.2 b.2)
-    sends_same pairs (Ok d) (Err (send_error.Closed v)) a b count = let c = a.2.0 in let d' = b.0 in let e = same_closed is_clone same in absurd (cc)
-    sends_same pairs (Ok d) (Err (send_error.Full v)) a b count =
-        let e = rooms in let p = a.0 in let q = a.1 in let m = b.2 in let l = (parts_long pairs b.0 v b.1).0 in
-        elim b.3 [ inl z ↦ absurd (omega arith) | inr more ↦ absurd (omega arith) ]
-    sends_same pairs (Ok d) (Err (send_error.Memory v)) a b count =
-        let more = b.3 in let l = parts_long pairs b.0 v b.1 in let m = l.0 in let n = l.1 in absurd (omega arith)
-    sends_same pairs (Err (send_error.Closed u)) (Ok d) a b count = let c = b.2.0 in let d' = a.0 in let e = same_closed is_clone same in absurd (cc)
     sends_same pairs (Err (send_error.Closed u)) (Err (send_error.Closed v)) a b count =
         (ap (λ (z : List (T × P)). Err (send_error.Closed z)) (b.1 ∙ sym a.1), refuses_same a.2 b.2)
-    sends_same pairs (Err (send_error.Closed u)) (Err (send_error.Full v)) a b count = let c = b.4.0 in let d' = a.0 in let e = same_closed is_clone same in absurd (cc)
-    sends_same pairs (Err (send_error.Closed u)) (Err (send_error.Memory v)) a b count = let c = b.4.0 in let d' = a.0 in let e = same_closed is_clone same in absurd (cc)
-    sends_same pairs (Err (send_error.Full u)) (Ok d) a b count =
-        let e = rooms in let p = b.0 in let q = b.1 in let m = a.2 in let l = (parts_long pairs a.0 u a.1).0 in
-        elim a.3 [ inl z ↦ absurd (omega arith) | inr more ↦ absurd (omega arith) ]
-    sends_same pairs (Err (send_error.Full u)) (Err (send_error.Closed v)) a b count = let c = a.4.0 in let d' = b.0 in let e = same_closed is_clone same in absurd (cc)
     sends_same pairs (Err (send_error.Full u)) (Err (send_error.Full v)) a b count =
         let t = fronts_same pairs a.0 u b.0 v a.1 b.1 (b.2 ∙ (rooms ∙ sym a.2)) a.4 b.4 in
         (ap (λ (z : List (T × P)). Err (send_error.Full z)) t.0, t.1)
-    sends_same pairs (Err (send_error.Full u)) (Err (send_error.Memory v)) a b count =
-        let e = rooms in let m = a.2 in let n = b.2 in let c = (parts_long pairs a.0 u a.1).1 in let d = (parts_long pairs b.0 v b.1).1 in absurd (omega arith)
-    sends_same pairs (Err (send_error.Memory u)) (Ok d) a b count =
-        let more = a.3 in let l = parts_long pairs a.0 u a.1 in let m = l.0 in let n = l.1 in absurd (omega arith)
-    sends_same pairs (Err (send_error.Memory u)) (Err (send_error.Closed v)) a b count = let c = a.4.0 in let d' = b.0 in let e = same_closed is_clone same in absurd (cc)
-    sends_same pairs (Err (send_error.Memory u)) (Err (send_error.Full v)) a b count =
-        let e = rooms in let m = b.2 in let n = a.2 in let c = (parts_long pairs a.0 u a.1).1 in let d = (parts_long pairs b.0 v b.1).1 in absurd (omega arith)
     sends_same pairs (Err (send_error.Memory u)) (Err (send_error.Memory v)) a b count =
         let c = (parts_long pairs a.0 u a.1).1 in let d = (parts_long pairs b.0 v b.1).1 in
         let t = fronts_same pairs a.0 u b.0 v a.1 b.1 (sym d ∙ (count ∙ c)) a.4 b.4 in
         (ap (λ (z : List (T × P)). Err (send_error.Memory z)) t.0, t.1)
+    sends_same pairs x y a b count =
+        let closed = same_closed is_clone same in let more = rooms in
+        absurd (grind (arith, length-append {A = T × P}, length-take {A = T × P}))
 
     shuts_same : (s' r' : State T P W) → SameState is_clone s' r' → Shuts s' h k → Shuts r' h' k' → Both h h' k k'
     shuts_same s' r' e a b = record {
-      handed = handed_same is_clone h h' _ _ a.0 b.0 (record { room = e.waiters.room; message = e.waiters.message });
-      state = same_after is_clone k k' _ _ a.1 b.1 (record {
+      handed = rw (a.0, b.0) (record { room = e.waiters.room; message = e.waiters.message });
+      state = rw (a.1, b.1) (record {
         waiters = record { room = tt; message = tt; next_ticket = e.waiters.next_ticket };
         others = ap (λ (x : State T P W). record x { is_closed = true; waiters = record r'.waiters { room = []; message = [] } }) e.others;
       });
@@ -115,37 +99,28 @@ module _ {T P W : Type 0} (is_clone : W → W → Type 0) where
 
     pub closes_same : (x y : Bool) → Closes s x h k → Closes r y h' k' → (y ≡ x) × Both h h' k k'
     closes_same true true a b = (refl, shuts_same s r same a.1 b.1)
-    closes_same true false a b = let c = a.0 in let d = b.0 in let e = same_closed is_clone same in absurd (cc)
-    closes_same false true a b = let c = a.0 in let d = b.0 in let e = same_closed is_clone same in absurd (cc)
     closes_same false false a b = (refl, refuses_same a.1 b.1)
+    closes_same x y a b = let e = same_closed is_clone same in absurd (cc)
 
     pub looks_same : {A : Type 0} (v w x y : A) → w ≡ v → Looks s v x h k → Looks r w y h' k' → (y ≡ x) × Both h h' k k'
     looks_same v w x y e a b = (b.0 ∙ (e ∙ sym a.0), refuses_same a.1 b.1)
 
     pub clones_same : (n m : ℕ) (s' r' : State T P W) (x y : Bool) → m ≡ n → SameState is_clone s' r' → Clones n s' x s h k → Clones m r' y r h' k' → (y ≡ x) × Both h h' k k'
-    clones_same n m s' r' true true e g a b = (refl, record { handed = nobody_same is_clone h h' a.1 b.1; state = same_after is_clone k k' s' r' a.2 b.2 g })
-    clones_same n m s' r' true false e g a b = let c = a.0 in let d = b.0 in absurd (omega arith)
-    clones_same n m s' r' false true e g a b = let c = a.0 in let d = b.0 in absurd (omega arith)
+    clones_same n m s' r' true true e g a b = (refl, record { handed = nobody_same is_clone h h' a.1 b.1; state = rw (a.2, b.2) g })
     clones_same n m s' r' false false e g a b = (refl, refuses_same a.1 b.1)
+    clones_same n m s' r' x y e g a b = absurd (omega arith)
 
-    pub drops_same : (n : ℕ) (s' r' : State T P W) → SameState is_clone s' r' → Drops n s' h k → Drops n r' h' k' → Both h h' k k'
-    drops_same zero s' r' e a b = absurd a
-    drops_same (suc zero) s' r' e a b = shuts_same s' r' e a b
-    drops_same (suc (suc n)) s' r' e a b = record { handed = nobody_same is_clone h h' a.0 b.0; state = same_after is_clone k k' s' r' a.1 b.1 e }
+    pub drops_same : (n m : ℕ) (s' r' : State T P W) → m ≡ n → SameState is_clone s' r' → Drops n s' h k → Drops m r' h' k' → Both h h' k k'
+    drops_same zero m s' r' e g a b = absurd a
+    drops_same (suc zero) m s' r' e g a b = shuts_same s' r' g a (rw e at b)
+    drops_same (suc (suc n)) m s' r' e g a b =
+        let d : (h' ≡ nobody) × (k' ≡ r') = rw e at b in record { handed = nobody_same is_clone h h' a.0 d.0; state = rw (a.1, d.1) g }
 
     frees_same : k.pending ≡ k'.pending → Frees s h k → Frees r h' k' → Both h h' k k'
     frees_same left a b = record {
-      handed = handed_same is_clone h h' _ _ a.0 b.0 (record { room = same.waiters.room; message = tt });
-      state = same_after is_clone k k' (record s { pending = k.pending; waiters = record s.waiters { room = [] } })
-          (record r { pending = k'.pending; waiters = record r.waiters { room = [] } }) a.1 b.1 (record {
-            waiters = record { room = tt; message = same.waiters.message; next_ticket = same.waiters.next_ticket };
-            others = ap (λ (x : State T P W). record x { pending = k'.pending; waiters = record r.waiters { room = [] } }) same.others
-                ∙ ap (λ (l : List (T × P)). record s { pending = l; waiters = record r.waiters { room = [] } }) (sym left);
-          });
+      handed = rw (a.0, b.0) (record { room = same.waiters.room; message = tt });
+      state = rw (a.1, b.1) (same_left is_clone s r _ _ _ _ left same (record { room = tt; message = same.waiters.message; next_ticket = same.waiters.next_ticket }));
     }
-
-    place_long : (pending before after : List (T × P)) (pair : T × P) → pending ≡ before ++ pair ∷ after → length before < length pending
-    place_long pending before after pair e = omega (arith, ap length e, length-append before (pair ∷ after))
 
     pub takes_same : (place : ℕ) (x y : Option (T × P)) → Takes s place x h k → Takes r place y h' k' → (y ≡ x) × Both h h' k k'
     takes_same place (Some p) (Some q) a b =
@@ -159,9 +134,8 @@ module _ {T P W : Type 0} (is_clone : W → W → Type 0) where
 
         tail_same : (p q : T × P) (xs ys : List (T × P)) → q ∷ ys ≡ p ∷ xs → xs ≡ ys
         tail_same p q xs ys e = cc
-    takes_same place (Some p) None a b = let l = place_long s.pending a.0.before a.0.after p a.0.split in let e = ap length (same_pending is_clone same) in absurd (omega (arith, l, e, a.1, b.0))
-    takes_same place None (Some q) a b = let l = place_long r.pending b.0.before b.0.after q b.0.split in let e = ap length (same_pending is_clone same) in absurd (omega (arith, l, e, b.1, a.0))
     takes_same place None None a b = (refl, refuses_same a.1 b.1)
+    takes_same place x y a b = let pending = ap length (same_pending is_clone same) in absurd (grind (arith, length-append {A = T × P}))
 
     pub changes_same : (place : ℕ) (priority : P) (x y : Result P P) → ChangesPriority s place priority x h k → ChangesPriority r place priority y h' k' → (y ≡ x) × Both h h' k k'
     changes_same place priority (Ok was) (Ok had) a b =
@@ -170,36 +144,21 @@ module _ {T P W : Type 0} (is_clone : W → W → Type 0) where
         let heads = same_heads t.msg u.msg was had t.after u.after one.1 in
         let left : k.pending ≡ k'.pending = t.changed ∙ (λ i. sym one.0 i ++ (sym heads.0 i, priority) ∷ sym heads.2 i) ∙ sym u.changed in (
           ap (λ (p : P). Ok p) heads.1,
-          record {
-            handed = nobody_same is_clone h h' a.2 b.2;
-            state = same_after is_clone k k' (record s { pending = k.pending }) (record r { pending = k'.pending }) a.3 b.3 (record {
-              waiters = same.waiters;
-              others = ap (λ (x : State T P W). record x { pending = k'.pending }) same.others ∙ ap (λ (l : List (T × P)). record s { pending = l; waiters = r.waiters }) (sym left);
-            });
-          },
+          record { handed = nobody_same is_clone h h' a.2 b.2; state = rw (a.3, b.3) (same_left is_clone s r _ _ _ _ left same same.waiters) },
         )
       where
         same_heads : (m n : T) (p q : P) (xs ys : List (T × P)) → (n, q) ∷ ys ≡ (m, p) ∷ xs → (n ≡ m) × (q ≡ p) × (ys ≡ xs)
         same_heads m n p q xs ys e = let rest : ys ≡ xs = cc in let pair : (n, q) ≡ (m, p) = cc in (ap (λ (z : T × P). z.0) pair, ap (λ (z : T × P). z.1) pair, rest)
-    changes_same place priority (Ok was) (Err back) a b =
-        let l = place_long s.pending a.0.before a.0.after (a.0.msg, was) a.0.split in let e = ap length (same_pending is_clone same) in absurd (omega (arith, l, e, a.1, b.0))
-    changes_same place priority (Err back) (Ok had) a b =
-        let l = place_long r.pending b.0.before b.0.after (b.0.msg, had) b.0.split in let e = ap length (same_pending is_clone same) in absurd (omega (arith, l, e, b.1, a.0))
     changes_same place priority (Err back) (Err again) a b = (ap (λ (p : P). Err p) (b.1 ∙ sym a.1), refuses_same a.2 b.2)
+    changes_same place priority x y a b = let pending = ap length (same_pending is_clone same) in absurd (grind (arith, length-append {A = T × P}))
 
     module _ {cmp : P → P → Ordering} (o : IsTotalOrder cmp) where
-      nothing_taken : (pending before after : List (T × P)) (pair : T × P) → pending ≡ before ++ pair ∷ after → pending ≡ [] → ⊥
-      nothing_taken pending before after pair e f = let l = ap length e in let m = ap length f in let n = length-append before (pair ∷ after) in omega arith
-
       pub receives_same : (x y : Result (T × P) TryRecvError) → Receives cmp s x h k → Receives cmp r y h' k' → (y ≡ x) × Both h h' k k'
       receives_same (Ok p) (Ok q) a b =
           let one = one_greatest o s.pending p q k.pending k'.pending a.0 (rw (same_pending is_clone same) at b.0) in
           (ap (λ (z : T × P). Ok z) (sym one.0), frees_same one.1 a.1 b.1)
-      receives_same (Ok p) (Err recv_error.Closed) a b = absurd (nothing_taken _ _ _ p a.0.split (sym (same_pending is_clone same) ∙ b.0))
-      receives_same (Ok p) (Err recv_error.Empty) a b = absurd (nothing_taken _ _ _ p a.0.split (sym (same_pending is_clone same) ∙ b.0))
-      receives_same (Err recv_error.Closed) (Ok q) a b = absurd (nothing_taken _ _ _ q b.0.split (same_pending is_clone same ∙ a.0))
-      receives_same (Err recv_error.Empty) (Ok q) a b = absurd (nothing_taken _ _ _ q b.0.split (same_pending is_clone same ∙ a.0))
       receives_same (Err recv_error.Closed) (Err recv_error.Closed) a b = (refl, refuses_same a.2 b.2)
       receives_same (Err recv_error.Empty) (Err recv_error.Empty) a b = (refl, refuses_same a.2 b.2)
-      receives_same (Err recv_error.Closed) (Err recv_error.Empty) a b = let c = a.1 in let d = b.1 in let e = same_closed is_clone same in absurd (cc)
-      receives_same (Err recv_error.Empty) (Err recv_error.Closed) a b = let c = a.1 in let d = b.1 in let e = same_closed is_clone same in absurd (cc)
+      receives_same x y a b =
+          let closed = same_closed is_clone same in let pending = ap length (same_pending is_clone same) in
+          absurd (grind (arith, length-append {A = T × P}))

@@ -13,7 +13,7 @@ use Rattle.priority_channel_core.specs.machine.Sends.{as_list, Sends}
 use Rattle.priority_channel_core.specs.machine.Evicts.{Evicts}
 use Rattle.priority_channel_laws.specs.Accepted.{sent, accepted_by}
 use Rattle.priority_channel_laws.specs.Alike.{is_memory, SameState}
-use Rattle.priority_channel_laws.proofs.alike.Lists.{same_after, same_pending}
+use Rattle.priority_channel_laws.proofs.alike.Lists.{same_left, same_pending}
 use Rattle.priority_channel_laws.proofs.alike.Calls.{Both, rooms, refuses_same, sends_same}
 use Rattle.priority_channel_laws.proofs.alike.Polls.{as_list_one}
 
@@ -46,10 +46,7 @@ module _ {T P W : Type 0} (is_clone : W → W → Type 0) {cmp : P → P → Ord
   evicts_same (Ok (Some out)) (Ok None) a b count memory = absurd (omega (arith, b.0, a.1.full, rooms is_clone s r k k' h h' same))
   evicts_same (Ok (Some out)) (Ok (Some gone)) a b count memory =
       let one = one_least o s.pending out gone a.0.pending b.0.pending a.1.least (rw (same_pending is_clone same) at b.1.least) in
-      let mids : SameState is_clone a.0 b.0 = same_after is_clone a.0 b.0 (record s { pending = a.0.pending }) (record r { pending = b.0.pending }) a.1.same b.1.same (record {
-        waiters = same.waiters;
-        others = ap (λ (x : State T P W). record x { pending = b.0.pending }) same.others ∙ ap (λ (l : List (T × P)). record s { pending = l; waiters = r.waiters }) (sym one.1);
-      }) in
+      let mids : SameState is_clone a.0 b.0 = rw (a.1.same, b.1.same) (same_left is_clone s r _ _ _ _ one.1 same same.waiters) in
       (ap (λ (z : T × P). Ok (Some z)) (sym one.0), (sends_same is_clone a.0 b.0 k k' h h' mids Pairs (Ok tt) (Ok tt) a.2 b.2 refl).1)
   evicts_same (Ok displaced) (Err f) a b count memory = absurd (omega (arith, count))
   evicts_same (Err e) (Ok displaced) a b count memory = absurd (omega (arith, count))

@@ -1,7 +1,8 @@
 -- Waiting lists and states that are the same except for clones of wakers.
-use Rattle.std.proofs.Common.{◌≡◌, ℕ, Bool, true, false, not, List, [], ◌∷◌, refl, sym, ap, ◌∙◌, subst, inl, inr, is_some}
+use Rattle.std.proofs.Common.{◌≡◌, ℕ, Bool, true, false, List, [], ◌∷◌, refl, sym, ap, ◌∙◌, subst, inl, inr, is_some}
 use Rattle.std.specs.Prelude.{Option, Some, None, ◌==◌, if◌then◌else◌}
 use Rattle.std.specs.List.{AllZip}
+use Rattle.std.proofs.lemmas.Bool.Decides.{eqb_tells}
 use Rattle.std.proofs.lemmas.List.Elements.{AllZip-push}
 use Rattle.priority_channel_core.specs.machine.State.{State, Handed, nobody}
 use Rattle.priority_channel_core.specs.Waiting.{is_listed, without, without_given, with_waker, listing, Listing, fresh}
@@ -26,12 +27,8 @@ module _ {W : Type 0} (is_clone : W → W → Type 0) where
   pub same_without : (t : ℕ) (xs ys : List (ℕ × W)) → SameList xs ys → SameList (without t xs) (without t ys)
   same_without t [] [] h = tt
   same_without t (x ∷ xs) (y ∷ ys) h =
-      let e : (y.0 == t) ≡ (x.0 == t) = ap (λ (u : ℕ). u == t) h.0.0 in
-      rw e (either (not (x.0 == t)) (same_without t xs ys h.1))
-    where
-      either : (b : Bool) → SameList (without t xs) (without t ys) → SameList (if b then x ∷ without t xs else without t xs) (if b then y ∷ without t ys else without t ys)
-      either true k = (h.0, k)
-      either false k = k
+      let e : (y.0 == t) ≡ (x.0 == t) = ap (λ (u : ℕ). u == t) h.0.0 in let rest = same_without t xs ys h.1 in
+      rw e (elim (eqb_tells x.0 t) [ inl u ↦ let r = u.0 in rw r rest | inr u ↦ let r = u.0 in rw r (h.0, rest) ])
   same_without t xs ys h = absurd h
 
   pub same_without_given : (given : Option ℕ) (xs ys : List (ℕ × W)) → SameList xs ys → SameList (without_given given xs) (without_given given ys)
@@ -41,12 +38,8 @@ module _ {W : Type 0} (is_clone : W → W → Type 0) where
   pub same_with_waker : (t : ℕ) (k l w : W) (xs ys : List (ℕ × W)) → is_clone w k → is_clone w l → SameList xs ys → SameList (with_waker t k xs) (with_waker t l ys)
   same_with_waker t k l w [] [] c d h = tt
   same_with_waker t k l w (x ∷ xs) (y ∷ ys) c d h =
-      let e : (y.0 == t) ≡ (x.0 == t) = ap (λ (u : ℕ). u == t) h.0.0 in
-      (rw e (either (x.0 == t)), same_with_waker t k l w xs ys c d h.1)
-    where
-      either : (b : Bool) → SameWaiter is_clone (if b then (t, k) else x) (if b then (t, l) else y)
-      either true = (refl, inr (w, c, d))
-      either false = h.0
+      let e : (y.0 == t) ≡ (x.0 == t) = ap (λ (u : ℕ). u == t) h.0.0 in let rest = same_with_waker t k l w xs ys c d h.1 in
+      rw e (elim (eqb_tells x.0 t) [ inl u ↦ let r = u.0 in rw r ((refl, inr (w, c, d)), rest) | inr u ↦ let r = u.0 in rw r (h.0, rest) ])
   same_with_waker t k l w xs ys c d h = absurd h
 
   -- the same ticket, in lists of the same waiters
@@ -68,11 +61,8 @@ module _ {W : Type 0} (is_clone : W → W → Type 0) where
       either true = record { ticket = refl; waiters = same_with_waker t k l w xs ys c d h; next = refl }
       either false = same_fresh n k l w xs ys c d h
 
-  pub handed_same : (h h' g g' : Handed W) → h ≡ g → h' ≡ g' → SameHanded is_clone g g' → SameHanded is_clone h h'
-  handed_same h h' g g' e f s = subst (λ z. SameHanded is_clone z h') (sym e) (subst (λ z. SameHanded is_clone g z) (sym f) s)
-
   pub nobody_same : (h h' : Handed W) → h ≡ nobody → h' ≡ nobody → SameHanded is_clone h h'
-  nobody_same h h' e f = handed_same h h' _ _ e f (record { room = tt; message = tt })
+  nobody_same h h' e f = rw (e, f) (record { room = tt; message = tt })
 
   pub same_unlist : (given : Option ℕ) (w v : Waiters W) → SameWaiters is_clone w v → SameWaiters is_clone (unlist given w) (unlist given v)
   same_unlist given w v same = record {
@@ -90,20 +80,17 @@ module _ {W : Type 0} (is_clone : W → W → Type 0) where
   same_on_side Room w v same = same.room
   same_on_side Message w v same = same.message
 
-  pub waiters_after : (u v w x : Waiters W) → u ≡ w → v ≡ x → SameWaiters is_clone w x → SameWaiters is_clone u v
-  waiters_after u v w x e f h = subst (λ z. SameWaiters is_clone z v) (sym e) (subst (λ z. SameWaiters is_clone w z) (sym f) h)
-
   pub same_enlists : (side : Side) (given t u : Option ℕ) (waker : W) (old new old' new' : Waiters W) → SameWaiters is_clone old old'
       → is_some u ≡ is_some t → Enlists is_clone side given waker t old new → Enlists is_clone side given waker u old' new'
       → (u ≡ t) × SameWaiters is_clone new new'
-  same_enlists side given None None waker old new old' new' same both a b = (refl, waiters_after new new' _ _ a b (same_unlist given old old' same))
+  same_enlists side given None None waker old new old' new' same both a b = (refl, rw (a, b) (same_unlist given old old' same))
   same_enlists side given (Some t) (Some u) waker old new old' new' same both a b =
       let n = old.next_ticket in
       let at : ℕ → Type 0 = λ m. let listings = listing given b.0 (on_side side old') m in (u ≡ listings.ticket) × (new' ≡ enlist side listings old') in
       let here : at n = subst at same.next_ticket b.2 in
       let listings = same_listing given n a.0 b.0 waker (on_side side old) (on_side side old') a.1 b.1 (same_on_side side old old' same) in (
         ap (λ (m : ℕ). Some m) (here.0 ∙ (listings.ticket ∙ sym a.2.0)),
-        waiters_after new new' _ _ a.2.1 here.1 (same_enlist side _ _ old old' listings same),
+        rw (a.2.1, here.1) (same_enlist side _ _ old old' listings same),
       )
   same_enlists side given t u waker old new old' new' same both a b = absurd (cc)
 
@@ -114,15 +101,19 @@ module _ {W : Type 0} (is_clone : W → W → Type 0) where
     pub state_same : (s : State T P W) → SameState is_clone s s
     state_same s = record { waiters = waiters_same s.waiters; others = refl }
 
-    pub same_after : (k l s r : State T P W) → k ≡ s → l ≡ r → SameState is_clone s r → SameState is_clone k l
-    same_after k l s r e f h = subst (λ z. SameState is_clone z l) (sym e) (subst (λ z. SameState is_clone s z) (sym f) h)
-
     -- states that were the same, and that have the same waiters now
     pub same_waiting : (k l s r : State T P W) → k ≡ record s { waiters = k.waiters } → l ≡ record r { waiters = l.waiters }
         → SameState is_clone s r → SameWaiters is_clone k.waiters l.waiters → SameState is_clone k l
     same_waiting k l s r e f same waiters = record {
       waiters = waiters;
       others = f ∙ (ap (λ (x : State T P W). record x { waiters = l.waiters }) same.others ∙ sym (ap (λ (x : State T P W). record x { waiters = l.waiters }) e));
+    }
+
+    pub same_left : (s r : State T P W) (xs ys : List (T × P)) (w v : Waiters W) → xs ≡ ys → SameState is_clone s r → SameWaiters is_clone w v
+        → SameState is_clone (record s { pending = xs; waiters = w }) (record r { pending = ys; waiters = v })
+    same_left s r xs ys w v e same waiters = record {
+      waiters = waiters;
+      others = ap (λ (x : State T P W). record x { pending = ys; waiters = v }) same.others ∙ ap (λ (l : List (T × P)). record s { pending = l; waiters = v }) (sym e);
     }
 
     pub same_unlisted : (given : Option ℕ) (s r : State T P W) → SameState is_clone s r

@@ -1,7 +1,7 @@
 -- Two polls from states that are the same, with as many pairs accepted, where both or neither
 -- answered Memory.
-use Rattle.std.proofs.Common.{◌≡◌, ℕ, Bool, true, false, List, [], ◌∷◌, length, refl, sym, ap, ◌∙◌, is_some}
-use Rattle.std.specs.Prelude.{Option, None, Some, Result, Ok, Err}
+use Rattle.std.proofs.Common.{◌≡◌, ℕ, Bool, true, false, List, [], ◌∷◌, length, refl, sym, ap, ◌∙◌, is_some, arith}
+use Rattle.std.specs.Prelude.{Option, Some, Result, Err}
 use Rattle.std.specs.Cmp.{IsTotalOrder}
 use Rattle.std.specs.declared.cmp.Ordering.{Ordering}
 use Rattle.priority_channel_core.specs.declared.calls.Call.TheVariants as call
@@ -9,13 +9,10 @@ use Rattle.priority_channel_core.specs.declared.calls.Answer.TheVariants as answ
 use Rattle.priority_channel_core.specs.declared.calls.CorePoll.{CorePoll}
 use Rattle.priority_channel_core.specs.declared.calls.CorePoll.TheVariants.{Ready, Pending}
 use Rattle.priority_channel_core.specs.declared.errors.TrySendError.{TrySendError}
-use Rattle.priority_channel_core.specs.declared.errors.TrySendError.TheVariants as send_error
 use Rattle.priority_channel_core.specs.declared.errors.TryRecvError.{TryRecvError}
-use Rattle.priority_channel_core.specs.declared.errors.TryRecvError.TheVariants as recv_error
 use Rattle.priority_channel_core.specs.declared.errors.SendFault.{SendFault}
 use Rattle.priority_channel_core.specs.declared.errors.SendFault.TheVariants as send_fault
 use Rattle.priority_channel_core.specs.declared.errors.RecvFault.{RecvFault}
-use Rattle.priority_channel_core.specs.declared.errors.RecvFault.TheVariants as recv_fault
 use Rattle.priority_channel_core.specs.machine.State.{State, Handed}
 use Rattle.priority_channel_core.specs.machine.Sends.{as_list}
 use Rattle.priority_channel_core.specs.machine.Polls.{send_answer, recv_answer, Ends, Polls}
@@ -27,68 +24,21 @@ use Rattle.priority_channel_laws.proofs.runs.Effects.{poll_sent-is, accepted_one
 use Rattle.priority_channel_laws.proofs.alike.Lists.{same_waiting, same_enlists}
 use Rattle.priority_channel_laws.proofs.alike.Calls.{Both, sends_same, receives_same}
 
-pub poll_memory : {A : Type 0} → CorePoll (Result (Unit {0}) (SendFault A)) A → Bool
-poll_memory (Ready (Err (send_fault.Memory rest))) = true
-poll_memory poll = false
-
-pub is_memory-poll_sendv : {T P : Type 0} (x : CorePoll (Result (Unit {0}) (SendFault (List (T × P)))) (List (T × P))) → poll_memory x ≡ is_memory {T = T} {P = P} (answer.PollSendv x)
-unfolding poll_memory
-is_memory-poll_sendv (Ready (Ok d)) = refl
-is_memory-poll_sendv (Ready (Err (send_fault.Closed e))) = refl
-is_memory-poll_sendv (Ready (Err (send_fault.Memory rest))) = refl
-is_memory-poll_sendv (Pending rest ticket) = refl
-
-pub is_memory-poll_send : {T P : Type 0} (x : CorePoll (Result (Unit {0}) (SendFault (T × P))) (T × P)) → poll_memory x ≡ is_memory {T = T} {P = P} (answer.PollSend x)
-unfolding poll_memory
-is_memory-poll_send (Ready (Ok d)) = refl
-is_memory-poll_send (Ready (Err (send_fault.Closed e))) = refl
-is_memory-poll_send (Ready (Err (send_fault.Memory rest))) = refl
-is_memory-poll_send (Pending rest ticket) = refl
-
 pub as_list_one : {A : Type 0} (x y : Result (Unit {0}) (TrySendError A)) → as_list y ≡ as_list x → y ≡ x
-as_list_one (Ok d) (Ok e) h = refl
-as_list_one (Ok d) (Err (send_error.Closed q)) h = cc
-as_list_one (Err (send_error.Closed p)) (Err (send_error.Closed q)) h = cc
-as_list_one (Err (send_error.Full p)) (Err (send_error.Full q)) h = cc
-as_list_one (Err (send_error.Memory p)) (Err (send_error.Memory q)) h = cc
-as_list_one x y h = cc
-
-only_one : {K : Type 0} (reply : Result (Unit {0}) (TrySendError K)) (u : ℕ) (x y : CorePoll (Result (Unit {0}) (SendFault K)) K)
-    → send_answer reply None ≡ Some x → send_answer reply (Some u) ≡ Some y → poll_memory y ≡ poll_memory x → ⊥
-unfolding poll_memory
-only_one (Err (send_error.Full rest)) u x y a b memory =
-    let e : x ≡ Ready (Err (send_fault.Memory rest)) = cc in
-    let f : y ≡ Pending rest u = cc in
-    let m : poll_memory (Pending rest u) ≡ poll_memory (Ready (Err (send_fault.Memory rest))) = rw (e, f) at memory in
-    absurd (cc)
-only_one reply u x y a b memory = cc
+as_list_one x y h = grind arith
 
 -- of two polls whose tries had the same reply, both wait or neither does, if both or neither
 -- answered Memory
-sends_wait_alike : {K : Type 0} (reply : Result (Unit {0}) (TrySendError K)) (t u : Option ℕ) (x y : CorePoll (Result (Unit {0}) (SendFault K)) K)
-    → send_answer reply t ≡ Some x → send_answer reply u ≡ Some y → poll_memory y ≡ poll_memory x → is_some u ≡ is_some t
-sends_wait_alike reply None None x y a b memory = refl
-sends_wait_alike reply (Some t) (Some u) x y a b memory = refl
-sends_wait_alike reply None (Some u) x y a b memory = absurd (only_one reply u x y a b memory)
-sends_wait_alike reply (Some t) None x y a b memory = absurd (only_one reply t y x b a (sym memory))
-
-only_one_receives : {T P : Type 0} (reply : Result (T × P) TryRecvError) (u : ℕ) (x y : CorePoll (Result (T × P) RecvFault) (Unit {0}))
-    → recv_answer reply None ≡ Some x → recv_answer reply (Some u) ≡ Some y
-    → is_memory {T = T} {P = P} (answer.PollRecv y) ≡ is_memory {T = T} {P = P} (answer.PollRecv x) → ⊥
-only_one_receives {T} {P} (Err recv_error.Empty) u x y a b memory =
-    let e : x ≡ Ready (Err recv_fault.Memory) = cc in
-    let f : y ≡ Pending tt u = cc in
-    let m : false ≡ true = rw (e, f) at memory in
-    absurd (cc)
-only_one_receives reply u x y a b memory = cc
+sends_wait_alike : {K : Type 0} (says : CorePoll (Result (Unit {0}) (SendFault K)) K → Bool) → ((rest : K) → says (Ready (Err (send_fault.Memory rest))) ≡ true)
+    → ((rest : K) (ticket : ℕ) → says (Pending rest ticket) ≡ false)
+    → (reply : Result (Unit {0}) (TrySendError K)) (t u : Option ℕ) (x y : CorePoll (Result (Unit {0}) (SendFault K)) K)
+    → send_answer reply t ≡ Some x → send_answer reply u ≡ Some y → says y ≡ says x → is_some u ≡ is_some t
+sends_wait_alike says ready waits reply t u x y a b memory = grind arith
 
 recvs_wait_alike : {T P : Type 0} (reply : Result (T × P) TryRecvError) (t u : Option ℕ) (x y : CorePoll (Result (T × P) RecvFault) (Unit {0}))
     → recv_answer reply t ≡ Some x → recv_answer reply u ≡ Some y
     → is_memory {T = T} {P = P} (answer.PollRecv y) ≡ is_memory {T = T} {P = P} (answer.PollRecv x) → is_some u ≡ is_some t
-recvs_wait_alike reply None None x y a b memory = refl
-recvs_wait_alike reply (Some t) (Some u) x y a b memory = refl
-recvs_wait_alike {T} {P} reply None (Some u) x y a b memory = absurd (only_one_receives {T = T} {P = P} reply u x y a b memory)
-recvs_wait_alike {T} {P} reply (Some t) None x y a b memory = absurd (only_one_receives {T = T} {P = P} reply t y x b a (sym memory))
+recvs_wait_alike reply t u x y a b memory = grind arith
 
 module _ {T P W : Type 0} (is_clone : W → W → Type 0) {cmp : P → P → Ordering} (o : IsTotalOrder cmp) (s r k k' : State T P W) (h h' : Handed W) (same : SameState is_clone s r) where
   ends_same : (side : Side) (given t u : Option ℕ) (waker : W) (m m' : State T P W) → Both is_clone h h' m m' → is_some u ≡ is_some t
@@ -112,22 +62,22 @@ module _ {T P W : Type 0} (is_clone : W → W → Type 0) {cmp : P → P → Ord
       → Moves cmp is_clone s (call.PollSend msg priority given waker) (answer.PollSend x) h k
       → Moves cmp is_clone r (call.PollSend msg priority given waker) (answer.PollSend y) h' k'
       → length (accepted_by (call.PollSend msg priority given waker) (answer.PollSend y)) ≡ length (accepted_by (call.PollSend msg priority given waker) (answer.PollSend x))
-      → poll_memory y ≡ poll_memory x → (y ≡ x) × Both is_clone h h' k k'
+      → is_memory {T = T} {P = P} (answer.PollSend y) ≡ is_memory {T = T} {P = P} (answer.PollSend x) → (y ≡ x) × Both is_clone h h' k k'
   polls_send_same msg priority given waker x y a b count memory =
       let mine = ap length (accepted_one-is msg priority given waker a.reply a.ticket x a.answered) in
       let other = ap length (accepted_one-is msg priority given waker b.reply b.ticket y b.answered) in
       let tries = sends_same is_clone s r a.mid b.mid h h' same ((msg, priority) ∷ []) (as_list a.reply) (as_list b.reply) a.tried b.tried (sym other ∙ (count ∙ mine)) in
-      polls_same a b (as_list_one a.reply b.reply tries.0) tries.1 (λ p q. sends_wait_alike a.reply a.ticket b.ticket x y p q memory)
+      polls_same a b (as_list_one a.reply b.reply tries.0) tries.1 (λ p q. sends_wait_alike (λ z. is_memory {T = T} {P = P} (answer.PollSend z)) (λ rest. refl) (λ rest ticket. refl) a.reply a.ticket b.ticket x y p q memory)
 
   pub polls_sendv_same : (pairs : List (T × P)) (given : Option ℕ) (waker : W) (x y : CorePoll (Result (Unit {0}) (SendFault (List (T × P)))) (List (T × P)))
       → Moves cmp is_clone s (call.PollSendv pairs given waker) (answer.PollSendv x) h k
       → Moves cmp is_clone r (call.PollSendv pairs given waker) (answer.PollSendv y) h' k'
-      → length (poll_sent pairs y) ≡ length (poll_sent pairs x) → poll_memory y ≡ poll_memory x → (y ≡ x) × Both is_clone h h' k k'
+      → length (poll_sent pairs y) ≡ length (poll_sent pairs x) → is_memory {T = T} {P = P} (answer.PollSendv y) ≡ is_memory {T = T} {P = P} (answer.PollSendv x) → (y ≡ x) × Both is_clone h h' k k'
   polls_sendv_same pairs given waker x y a b count memory =
       let mine = ap length (poll_sent-is pairs a.reply a.ticket x a.answered) in
       let other = ap length (poll_sent-is pairs b.reply b.ticket y b.answered) in
       let tries = sends_same is_clone s r a.mid b.mid h h' same pairs a.reply b.reply a.tried b.tried (sym other ∙ (count ∙ mine)) in
-      polls_same a b tries.0 tries.1 (λ p q. sends_wait_alike a.reply a.ticket b.ticket x y p q memory)
+      polls_same a b tries.0 tries.1 (λ p q. sends_wait_alike (λ z. is_memory {T = T} {P = P} (answer.PollSendv z)) (λ rest. refl) (λ rest ticket. refl) a.reply a.ticket b.ticket x y p q memory)
 
   pub polls_receive_same : (given : Option ℕ) (waker : W) (x y : CorePoll (Result (T × P) RecvFault) (Unit {0}))
       → Moves cmp is_clone s (call.PollRecv given waker) (answer.PollRecv x) h k

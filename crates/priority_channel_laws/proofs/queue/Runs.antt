@@ -1,81 +1,45 @@
 -- Calls of the core by anybody, and any number of events.
-use Rattle.std.proofs.Common.{◌≡◌, ◌≢◌, ℕ, ◌<◌, ◌⊎◌, Bool, true, false, List, [], ◌∷◌, ◌++◌, refl, ap, sym, subst, ◌∙◌, inl, inr, arith, zero, suc, eq-eqb}
-use Rattle.std.specs.Prelude.{Option, Some, None, slice_get, ◌==◌, ◌||◌}
-use Rattle.std.specs.List.{All}
-use Rattle.std.proofs.lemmas.List.Elements.{All-head, All-tail, All-nil}
+use Rattle.std.proofs.Common.{◌≡◌, ◌≢◌, ℕ, ◌⊎◌, Bool, true, false, List, [], ◌∷◌, ◌++◌, refl, ap, sym, ◌∙◌, inl, inr, arith}
+use Rattle.std.specs.Prelude.{Option, Some, None, slice_get}
 use Rattle.std.proofs.lemmas.List.Folds.{list_any-append}
 use Rattle.std.specs.declared.cmp.Ordering.{Ordering}
-use Rattle.std.proofs.lemmas.Bool.{ne_eqb}
-use Rattle.std.proofs.lemmas.Bool.Decides.{eqb_tells}
 use Rattle.priority_channel_core.specs.declared.side.Side.{Side}
 use Rattle.priority_channel_core.specs.declared.side.Side.TheVariants.{Room, Message}
-use Rattle.priority_channel_core.specs.Waiting.{listing, without_given, is_listed}
-use Rattle.priority_channel_core.specs.Waiters.{Waiters, on_side, unlist}
-use Rattle.priority_channel_core.proofs.Tickets.{unlisted_above}
+use Rattle.priority_channel_core.specs.Waiters.{Waiters, on_side}
 use Rattle.priority_channel_core.specs.declared.calls.Call.TheVariants as call
 use Rattle.priority_channel_core.specs.declared.calls.Answer.TheVariants as answer
 use Rattle.priority_channel_core.specs.machine.State.{State, Handed}
 use Rattle.priority_channel_core.specs.machine.Good.{IsGood}
 use Rattle.priority_channel_core.specs.machine.Step.{Moves, Calls, Answers}
-use Rattle.priority_channel_core.specs.Future.{Tasks, Futures}
+use Rattle.priority_channel_core.specs.Future.{Tasks, Futures, ticket_of}
 use Rattle.priority_channel_core.specs.Future.Task.{Send, Sendv, Recv}
-use Rattle.priority_channel_laws.specs.WaitingLaw.{waker_of, CanGoOn, side_of}
-use Rattle.priority_channel_laws.proofs.worlds.Hands.{Hands, hands, handed_of}
-use Rattle.priority_channel_laws.proofs.worlds.Lookups.{waker_of-without, waker_of-listing, waker_of-listed, ticket_listed}
-use Rattle.priority_channel_laws.proofs.worlds.Events.{some_pending}
-use Rattle.priority_channel_laws.proofs.worlds.Standings.{same_side}
-use Rattle.priority_channel_laws.proofs.worlds.PollEnds.{Ended, Waits, poll_end, still_given, stays_or_leaves}
+use Rattle.priority_channel_laws.specs.WaitingLaw.{waker_of, side_of}
+use Rattle.priority_channel_laws.proofs.worlds.Hands.{Hands, handed_of}
+use Rattle.priority_channel_laws.proofs.runs.Effects.{hands}
+use Rattle.priority_channel_laws.proofs.worlds.Lookups.{waker_of-relisted, waker_of-below}
+use Rattle.priority_channel_laws.proofs.worlds.Events.{can_go_on}
+use Rattle.priority_channel_laws.proofs.worlds.PollEnds.{unlist_side, Ended, Waits, poll_end, still_given, stays_or_leaves}
+use Rattle.priority_channel_laws.proofs.worlds.Positions.{all_at, mapped_at}
+use Rattle.priority_channel_laws.proofs.worlds.Standings.{gone, Keeps-none, same_side}
 use Rattle.priority_channel_laws.specs.Threads.{Phase, Thread, ThreadWorld, wake, IsUnused}
-use Rattle.priority_channel_laws.specs.ThreadEvents.{ThreadEvent, given_to, Occurs, LeadsTo}
+use Rattle.priority_channel_laws.specs.Threads.Phase.{Outside}
+use Rattle.priority_channel_laws.specs.ThreadEvents.{ThreadEvent, given_to, LeadsTo}
 use Rattle.priority_channel_laws.specs.ThreadEvents.ThreadEvent.{Makes, Does}
-use Rattle.priority_channel_core.specs.Lines.{IsFirst}
-use Rattle.priority_channel_laws.specs.QueueLaw.{number_of, asleep_at}
-use Rattle.priority_channel_laws.proofs.queue.Kept.{line_of, has_waiter, asleep_number, lead_number, all_any, at_first}
-use Rattle.priority_channel_laws.proofs.queue.Kept as kept
-use Rattle.priority_channel_laws.proofs.queue.Acts.{IsAttended, SeenIn, act_kept, or-both}
-
-pub or-right-true : (a b : Bool) → b ≡ true → (a || b) ≡ true
-or-right-true true b h = refl
-or-right-true false b h = h
+use Rattle.priority_channel_laws.specs.QueueLaw.{number_of, asleep_at, SomeSpin, NobodySleepsOn}
+use Rattle.priority_channel_laws.proofs.queue.Kept.{lead_of, asleep_number, found, standing_by, futures_of, lists_of, own, head_of, woken}
+use Rattle.priority_channel_laws.proofs.queue.Acts.{has_waiter, IsAttended, SeenIn, watched_wake, act_kept}
 
 listed_waiter : (xs : List (ℕ × ℕ)) (t v : ℕ) → waker_of t xs ≡ Some v → has_waiter v xs ≡ true
 listed_waiter [] t v h = absurd (cc)
-listed_waiter (x ∷ xs) t v h =
-    elim (eqb_tells x.0 t) [
-      | inl e ↦ let r = e.0 in let s : Some x.1 ≡ Some v = rw r at h in let m : x.1 ≡ v = cc in let y : (x.1 == v) ≡ true = eq-eqb x.1 v m in rw y refl
-      | inr e ↦ let r = e.0 in let rest = listed_waiter xs t v (rw r at h) in or-right-true (x.1 == v) (has_waiter v xs) rest
-    ]
+listed_waiter (x ∷ xs) t v h = grind (arith, listed_waiter xs t v)
 
--- whom a call hands out on a side is woken
+-- the waiters that a call returns on a side are woken
 woke_side : (side : Side) (handed : Handed ℕ) (v : ℕ) → has_waiter v (handed_of side handed) ≡ true → has_waiter v (handed.room ++ handed.message) ≡ true
-woke_side Room handed v h = list_any-append (λ a. a.1 == v) handed.room handed.message ∙ rw h refl
-woke_side Message handed v h = list_any-append (λ a. a.1 == v) handed.room handed.message ∙ or-right-true (has_waiter v handed.room) (has_waiter v handed.message) h
-
-unlisted : {W : Type 0} (xs : List (ℕ × W)) (given : Option ℕ) (t : ℕ) (v : W) → given ≢ Some t → waker_of t xs ≡ Some v → waker_of t (without_given given xs) ≡ Some v
-unlisted xs None t v ne h = h
-unlisted xs (Some u) t v ne h = let n : (u == t) ≡ false = ne_eqb u t (λ e. ne (ap Some e)) in waker_of-without xs u t ∙ rw n h
-
-relisted : {W : Type 0} (xs : List (ℕ × W)) (given : Option ℕ) (kept : W) (next t : ℕ) (v : W) → All (λ a. a.0 < next) xs → given ≢ Some t → waker_of t xs ≡ Some v
-    → waker_of t (listing given kept xs next).waiters ≡ Some v
-relisted xs given kept next t v below ne h =
-    let l = listing given kept xs next in
-    let other : l.ticket ≢ t = λ e. elim (ticket_listed xs given kept next).own_or_next [
-      | inl own ↦ ne (own.0 ∙ ap Some e)
-      | inr new ↦
-          let s : t ≡ next = sym e ∙ new.0 in
-          let a : is_listed t xs ≡ true = waker_of-listed xs t v h in
-          let b : is_listed t xs ≡ false = unlisted_above xs next t below (let q = s in omega arith) in
-          absurd (cc)
-    ] in
-    let n : (l.ticket == t) ≡ false = ne_eqb l.ticket t other in
-    waker_of-listing xs given kept next t below ∙ rw n h
-
-unlist_side : {W : Type 0} (given : Option ℕ) (side : Side) (w : Waiters W) → on_side side (unlist given w) ≡ without_given given (on_side side w)
-unlist_side given Room w = refl
-unlist_side given Message w = refl
+woke_side Room handed v h = grind (arith, list_any-append)
+woke_side Message handed v h = grind (arith, list_any-append)
 
 module _ {T P : Type 0} (cmp : P → P → Ordering) (old new : State T P ℕ) (handed : Handed ℕ) (good : IsGood old) where
-  -- a call hands out whole lists, and then changes them at its own ticket alone
+  -- a call empties whole lists, and then changes them at its own ticket alone
   record Lands (given : Option ℕ) : Type 0 where
     mid : State T P ℕ
     handing : Hands old mid handed
@@ -87,7 +51,7 @@ module _ {T P : Type 0} (cmp : P → P → Ordering) (old new : State T P ℕ) (
     mid = e.mid;
     handing = e.handing;
     after = λ side t v ne h. ap (λ (w : Waiters ℕ). waker_of t (on_side side w)) e.left
-        ∙ (ap (waker_of t) (unlist_side given side e.mid.waiters) ∙ unlisted (on_side side e.mid.waiters) given t v ne h);
+        ∙ (ap (waker_of t) (unlist_side given side e.mid.waiters) ∙ (gone (on_side side e.mid.waiters) given t ne ∙ h));
   }
   poll_lands task future given waker (inr w) = record {
     mid = w.mid;
@@ -95,9 +59,10 @@ module _ {T P : Type 0} (cmp : P → P → Ordering) (old new : State T P ℕ) (
     after = λ side t v ne h.
         elim (same_side side (side_of task)) [
           | inl e ↦
-              ap (λ (s : Side). waker_of t (on_side s new.waiters)) e ∙ (ap (waker_of t) w.mine
-              ∙ relisted (on_side (side_of task) w.mid.waiters) given w.kept w.mid.waiters.next_ticket t v (still_given old w.mid handed w.handing good (side_of task)) ne
-              (ap (λ (s : Side). waker_of t (on_side s w.mid.waiters)) (sym e) ∙ h))
+              let xs = on_side (side_of task) w.mid.waiters in
+              let here : waker_of t xs ≡ Some v = rw e at h in
+              let below = still_given old w.mid handed w.handing good (side_of task) in
+              rw e (ap (waker_of t) w.mine ∙ (waker_of-relisted xs given w.kept w.mid.waiters.next_ticket t below ne (waker_of-below xs _ t v below here) ∙ here))
           | inr n ↦ ap (waker_of t) (w.others side n) ∙ h
         ];
   }
@@ -113,15 +78,10 @@ module _ {T P : Type 0} (cmp : P → P → Ordering) (old new : State T P ℕ) (
     mid = old;
     handing = let e = h.0 in rw e (record { room = inl (refl, refl); message = inl (refl, refl); next = refl });
     after = λ side t v ne w. ap (λ (s : State T P ℕ). waker_of t (on_side side s.waiters)) h.1
-        ∙ (ap (waker_of t) (unlist_side (Some ticket) side old.waiters) ∙ unlisted (on_side side old.waiters) (Some ticket) t v ne w);
+        ∙ (ap (waker_of t) (unlist_side (Some ticket) side old.waiters) ∙ (gone (on_side side old.waiters) (Some ticket) t ne ∙ w));
   }
   lands (call.GiveUp ticket) reply h = absurd h
-  lands made reply h = direct None (hands old new handed cmp (λ waker kept. kept ≡ waker) made reply tt h)
-
-pub all_at : {X : Type 0} (Q : X → Type 0) (xs : List X) (i : ℕ) (x : X) → All Q xs → slice_get xs i ≡ Some x → Q x
-all_at Q [] i x all h = absurd (cc)
-all_at Q (y ∷ xs) zero x all h = let s : y ≡ x = cc in rw (← s) (All-head Q y xs all)
-all_at Q (y ∷ xs) (suc i) x all h = all_at Q xs i x (All-tail Q y xs all) h
+  lands made reply h = direct None (hands cmp (λ waker kept. kept ≡ waker) old new handed made reply tt h)
 
 module _ {T P : Type 0} where
   -- the waiters on the wakes are woken, and then the lists may change at the tickets of others
@@ -129,81 +89,82 @@ module _ {T P : Type 0} where
       → ((t v : ℕ) → old.line.ticket ≡ Some t → waker_of t (on_side old.side mid.waiters) ≡ Some v → waker_of t (on_side old.side s.waiters) ≡ Some v)
       → IsAttended (record old { state = s; threads = wake (handed.room ++ handed.message) old.threads })
   handed_out old a mid s handed h good after =
-      let woken = handed.room ++ handed.message in
-      let now : ThreadWorld T P = record old { state = s; threads = wake woken old.threads } in
+      let ws = handed.room ++ handed.message in
+      let now : ThreadWorld T P = record old { state = s; threads = wake ws old.threads } in
       record {
         good = good;
-        kept = kept.woken (SeenIn old) (SeenIn now) old.line old.line old.threads a.kept woken
-            (λ j t there f. record {
-              seen = λ n v asleep e w.
-                  let still = or-both t.is_woken (has_waiter t.waiter woken) w in
-                  let same = at_first (λ (entry : ℕ × ℕ). number_of t.phase ≡ Some entry.0 → entry.1 ≡ t.waiter) old.line.first old.line.others (n, v) f.own e (asleep_number t.phase n asleep) in
-                  elim (f.seen n v asleep e still.0) [
-                    | inr u ↦ inr u
-                    | inl x ↦ elim (stays_or_leaves old.state mid handed h old.side) [
-                      | inl k ↦ inl (x.0, x.1, after x.0 v x.1 (ap (waker_of x.0) k.0 ∙ x.2))
-                      | inr k ↦
-                          let out : has_waiter v (handed_of old.side handed) ≡ true = ap (has_waiter v) k.1 ∙ listed_waiter (on_side old.side old.state.waiters) x.0 v x.2 in
-                          let yes : has_waiter v woken ≡ true = woke_side old.side handed v out in
-                          let no : has_waiter v woken ≡ false = ap (λ (w : ℕ). has_waiter w woken) same ∙ still.1 in
-                          absurd (cc)
-                    ]
-                  ];
-              own = f.own;
-              given = f.given;
-              leads = f.leads;
-            }) a.kept.below;
+        queue = woken a.queue ws;
+        seen = watched_wake (SeenIn old) (SeenIn now) old.line.first old.threads a.seen ws (λ j t n v there has e unwoken see.
+            elim see [
+              | inr u ↦ inr u
+              | inl x ↦ elim (stays_or_leaves old.state mid handed h old.side) [
+                | inl k ↦ inl (x.0, x.1, after x.0 v x.1 (ap (waker_of x.0) k.0 ∙ x.2))
+                | inr k ↦
+                    let out : has_waiter v (handed_of old.side handed) ≡ true = ap (has_waiter v) k.1 ∙ listed_waiter (on_side old.side old.state.waiters) x.0 v x.2 in
+                    let yes = woke_side old.side handed v out in
+                    let no : has_waiter v ws ≡ false = ap (λ (w : ℕ). has_waiter w ws) (own a.queue j t n v there has e) ∙ unwoken in
+                    absurd (cc)
+              ]
+            ]);
       }
 
-  can_go_on : (side : Side) (s : State T P ℕ) → IsGood s → CanGoOn s side → on_side side s.waiters ≡ []
-  can_go_on Room s good (inl closed) = (good.no_waiters_if_closed closed).0
-  can_go_on Room s good (inr ne) = good.room_waiters_if_full (let w = good.within_capacity in omega arith)
-  can_go_on Message s good (inl closed) = (good.no_waiters_if_closed closed).1
-  can_go_on Message s good (inr ne) = good.message_waiters_if_empty (some_pending s.pending ne)
+  unused_attended : (world : ThreadWorld T P) → IsUnused world → IsAttended world
+  unused_attended world u = record {
+    good = u.0;
+    queue = rw u.2 (record {
+      headed = λ e. refl;
+      rises = λ i j d before within. absurd (omega arith);
+      below = λ k d lt. absurd (omega arith);
+      keeps = Keeps-none _ (lists_of []) 0 (futures_of world.threads) nobody (λ i f at.
+          let m = mapped_at _ world.threads i f at in
+          ap (λ (x : Futures (Unit {0}) (Unit {0}) ℕ). ticket_of x.standing) (sym m.2) ∙ ap (λ (q : Phase). ticket_of (standing_by (number_of q) m.0.waiter)) (outside i m.0 m.1));
+      leads = λ i t n at lead. let z : None ≡ Some n = sym (ap lead_of (outside i t at)) ∙ lead in absurd (cc);
+      counted = omega arith;
+    });
+    seen = λ i t n v at asleep e no. let z : None ≡ Some (n, v) = rw u.2 at e in absurd (cc);
+  }
+    where
+      outside : (i : ℕ) (t : Thread) → slice_get world.threads i ≡ Some t → t.phase ≡ Outside
+      outside i t at = all_at (λ (t : Thread). t.phase ≡ Outside) world.threads i t u.3 at
 
-  -- a head that sleeps although it can go on has been woken, or there is a spin
-  pub attended_seen : (world : ThreadWorld T P) → IsAttended world
-      → (which : ℕ) (thread : Thread) (number : ℕ) → slice_get world.threads which ≡ Some thread → asleep_at thread.phase ≡ Some number
-      → IsFirst world.line number → CanGoOn world.state world.side → (thread.is_woken ≡ true) ⊎ (0 < world.line.spinning)
-  attended_seen world a i t n at asleep first can =
-      elim (t.is_woken) as (λ b. b ≡ t.is_woken → (t.is_woken ≡ true) ⊎ (0 < world.line.spinning)) [
-        | true ↦ λ e. inl (sym e)
-        | false ↦ λ e. elim ((a.kept.fits i t at).seen n first.0 asleep first.1 (sym e)) [
-          | inl x ↦ let none : None ≡ Some first.0 = ap (waker_of x.0) (sym (can_go_on world.side world.state a.good can)) ∙ x.2 in absurd (cc)
-          | inr u ↦ inr u.1
-        ]
-      ] refl
-
-  pub unused_attended : (world : ThreadWorld T P) → IsUnused world → IsAttended world
-  unused_attended world o =
-      let none : (i : ℕ) (t : Thread) → slice_get world.threads i ≡ Some t → number_of t.phase ≡ None
-      = λ i t at. ap number_of (all_at (λ (t : Thread). t.phase ≡ Phase.Outside) world.threads i t o.3 at) in
-      record {
-        good = o.0;
-        kept = record {
-          fits = λ i t at. record {
-            seen = λ n w asleep first woken. let x : None ≡ Some n = sym (none i t at) ∙ asleep_number t.phase n asleep in absurd (cc);
-            own = all_any (λ (entry : ℕ × ℕ). number_of t.phase ≡ Some entry.0 → entry.1 ≡ t.waiter) (line_of world.line)
-                (λ entry h. let x : None ≡ Some entry.0 = sym (none i t at) ∙ h in absurd (cc));
-            given = λ n h. let x : None ≡ Some n = sym (none i t at) ∙ h in absurd (cc);
-            leads = λ n h. let x : None ≡ Some n = sym (none i t at) ∙ lead_number t.phase n h in absurd (cc);
-          };
-          below = let e = o.2 in rw e (All-nil (λ (entry : ℕ × ℕ). entry.0 < 0));
-          differ = λ i j a b n at at' h h'. let x : None ≡ Some n = sym (none i a at) ∙ h in absurd (cc);
-        };
-      }
+      nobody : (side : Side) → lists_of [] side ≡ []
+      nobody Room = refl
+      nobody Message = refl
 
   module _ (cmp : P → P → Ordering) where
-    pub event_kept : (old new : ThreadWorld T P) (e : ThreadEvent T P) → IsAttended old → Occurs cmp old e new → IsAttended new
-    event_kept old new (Makes made) a h =
-        let l = lands cmp old.state new.state h.2 a.good made h.1 h.3.moves in
-        subst IsAttended (sym h.4) (handed_out old a l.mid new.state h.2 l.handing h.3.good
-        (λ t v own w. l.after old.side t v (λ e. h.0 t e own) w))
-    event_kept old new (Does which act) a h = act_kept old new a which h.0 h.1 act h.2
+    attended : (old new : ThreadWorld T P) (events : List (ThreadEvent T P)) → IsAttended old → LeadsTo cmp old events new → IsAttended new
+    attended old new [] a h = rw h a
+    attended old new (Makes made ∷ more) a h =
+        let step = h.1 in
+        let l = lands cmp old.state h.0.state step.2 a.good made step.1 step.3.moves in
+        attended h.0 new more (rw step.4 (handed_out old a l.mid h.0.state step.2 l.handing step.3.good
+        (λ t v own w. l.after old.side t v (λ e. step.0 t e own) w))) h.2
+    attended old new (Does which act ∷ more) a h = attended h.0 new more (act_kept old a which h.1.0 h.1.1 h.0 act h.1.2) h.2
 
-    events_kept : (old new : ThreadWorld T P) (events : List (ThreadEvent T P)) → IsAttended old → LeadsTo cmp old events new → IsAttended new
-    events_kept old new [] a h = subst IsAttended (sym h) a
-    events_kept old new (e ∷ more) a h = events_kept h.0 new more (event_kept old h.0 e a h.1) h.2
-
-    pub always_attended : (start world : ThreadWorld T P) (events : List (ThreadEvent T P)) → IsUnused start → LeadsTo cmp start events world → IsAttended world
-    always_attended start world events o h = events_kept start world events (unused_attended start o) h
+    pub nobody_sleeps_on : (start world : ThreadWorld T P) (events : List (ThreadEvent T P)) → IsUnused start → LeadsTo cmp start events world → NobodySleepsOn world
+    nobody_sleeps_on start world events u h i t n at has can =
+        let a = attended start world events (unused_attended start u) h in
+        let q = head_of a.queue i t n at has in
+        record {
+          which = q.2;
+          head = q.3;
+          number = q.0.0;
+          there = q.4;
+          stands = q.5;
+          first = q.1 ∙ ap (λ (w : ℕ). Some (q.0.0, w)) (sym q.6);
+          seen_to = seen_to a q.2 q.3 q.0.0 q.0.1 q.4 q.5 q.1 (asleep_at q.3.phase) refl q.3.is_woken refl;
+        }
+      where
+        -- a head that sleeps although it can go on has been woken, or a thread spins
+        seen_to : IsAttended world → (j : ℕ) (head : Thread) (m v : ℕ) → slice_get world.threads j ≡ Some head → number_of head.phase ≡ Some m → world.line.first ≡ Some (m, v)
+            → (o : Option ℕ) → o ≡ asleep_at head.phase → (b : Bool) → b ≡ head.is_woken → (asleep_at head.phase ≡ None) ⊎ ((head.is_woken ≡ true) ⊎ SomeSpin world)
+        seen_to a j head m v there stands first None asleep b woken = inl (sym asleep)
+        seen_to a j head m v there stands first (Some k) asleep true woken = inr (inl (sym woken))
+        seen_to a j head m v there stands first (Some k) asleep false woken =
+            let same : m ≡ k = cc (asleep_number head.phase k (sym asleep)) in
+            elim (a.seen j head k v there (sym asleep) (rw (← same) first) (sym woken)) [
+              | inl x ↦ let none : None ≡ Some v = ap (waker_of x.0) (sym (can_go_on world.side world.state a.good can)) ∙ x.2 in absurd (cc)
+              | inr u ↦
+                  let f = found world.threads (let c = a.queue.counted in let pos = u.1 in omega arith) in
+                  inr (inr (record { which = f.0; thread = f.1; there = f.2; lead = f.3; spins = f.4 }))
+            ]

@@ -21,28 +21,7 @@ module _ {T P : Type 0} where
   empty waiters next = record (opening 1 false) { waiters = record { room = []; message = waiters; next_ticket = next } }
 
   good : (waiters : List (ℕ × ℕ)) (next : ℕ) → IsRising waiters → All (λ a. a.0 < next) waiters → next < 2 ^ 64 → IsGood (empty waiters next)
-  good waiters next rising given fits = record {
-    has_capacity = omega arith;
-    capacity_fits = omega arith;
-    reserved_fits = λ h. absurd (cc);
-    within_capacity = omega arith;
-    within_limit = omega arith;
-    accepted_before = omega arith;
-    accepted_fits = omega arith;
-    no_waiters_if_closed = λ h. absurd (cc);
-    room_waiters_if_full = λ h. refl;
-    message_waiters_if_empty = λ h. absurd (omega arith);
-    tickets = record {
-      room_rises = search rules;
-      message_rises = rising;
-      room_given = All-nil (λ (a : ℕ × ℕ). a.0 < next);
-      message_given = given;
-      apart = λ t h. absurd (cc);
-    };
-    tickets_fit = fits;
-    closed_if_no_senders = λ h. absurd (omega arith);
-    closed_if_no_receivers = λ h. absurd (omega arith);
-  }
+  good waiters next rising given fits = grind arith
 
   abbrev world : State T P ℕ → Lined → Phase → ThreadWorld T P
   world state line phase = record {

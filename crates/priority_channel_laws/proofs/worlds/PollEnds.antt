@@ -11,7 +11,7 @@ use Rattle.priority_channel_core.specs.declared.errors.SendFault.{SendFault}
 use Rattle.priority_channel_core.specs.declared.errors.RecvFault.{RecvFault}
 use Rattle.priority_channel_core.specs.declared.side.Side.{Side}
 use Rattle.priority_channel_core.specs.declared.side.Side.TheVariants.{Room, Message}
-use Rattle.priority_channel_core.specs.Waiting.{Listing, listing}
+use Rattle.priority_channel_core.specs.Waiting.{Listing, listing, without_given}
 use Rattle.priority_channel_core.specs.Waiters.{Waiters, on_side, unlist, enlist}
 use Rattle.priority_channel_core.specs.machine.State.{State, Handed}
 use Rattle.priority_channel_core.specs.machine.Good.{IsGood}
@@ -24,23 +24,23 @@ use Rattle.priority_channel_core.specs.Future.{Tasks, Futures, poll_of, future_a
 use Rattle.priority_channel_core.specs.Future.Task.{Send, Sendv, Recv}
 use Rattle.priority_channel_core.specs.Future.Standing.{Waiting, Done}
 use Rattle.priority_channel_laws.specs.WaitingLaw.{side_of}
-use Rattle.priority_channel_laws.proofs.worlds.Hands.{handed_of, StaysOrLeaves, Hands, hands_sends, hands_receives}
+use Rattle.priority_channel_laws.proofs.runs.Effects.{sends, receives}
+use Rattle.priority_channel_laws.proofs.worlds.Hands.{handed_of, StaysOrLeaves, Hands}
 
 module _ {W : Type 0} where
   -- a listed waiter is on its own side
-  pub enlisted_mine : (side : Side) (listed : Listing W) (w : Waiters W) → on_side side (enlist side listed w) ≡ listed.waiters
-  enlisted_mine Room listed w = refl
-  enlisted_mine Message listed w = refl
+  pub enlisted_mine : (side : Side) (listed : Listing W) (w : Waiters W) → (on_side side (enlist side listed w) ≡ listed.waiters) × ((enlist side listed w).next_ticket ≡ listed.next_ticket)
+  enlisted_mine Room listed w = (refl, refl)
+  enlisted_mine Message listed w = (refl, refl)
 
   enlisted_others : (side other : Side) (listed : Listing W) (w : Waiters W) → other ≢ side → on_side other (enlist side listed w) ≡ on_side other w
-  enlisted_others Room Room listed w ne = absurd (ne refl)
   enlisted_others Room Message listed w ne = refl
   enlisted_others Message Room listed w ne = refl
-  enlisted_others Message Message listed w ne = absurd (ne refl)
+  enlisted_others side other listed w ne = absurd (ne refl)
 
-  enlisted_next : (side : Side) (listed : Listing W) (w : Waiters W) → (enlist side listed w).next_ticket ≡ listed.next_ticket
-  enlisted_next Room listed w = refl
-  enlisted_next Message listed w = refl
+  pub unlist_side : (given : Option ℕ) (side : Side) (w : Waiters W) → on_side side (unlist given w) ≡ without_given given (on_side side w)
+  unlist_side given Room w = refl
+  unlist_side given Message w = refl
 
 module _ {T P W : Type 0} where
   abbrev pub lists_of : State T P W → Side → List (ℕ × W)
@@ -97,9 +97,9 @@ module _ {T P W : Type 0} where
         handing = h;
         kept = e.0.0;
         clone = e.0.1;
-        mine = ap (on_side side) e.0.2.1 ∙ enlisted_mine side listed mid.waiters;
+        mine = ap (on_side side) e.0.2.1 ∙ (enlisted_mine side listed mid.waiters).0;
         others = λ other ne. ap (on_side other) e.0.2.1 ∙ enlisted_others side other listed mid.waiters ne;
-        nexts = ap (λ (w : Waiters W). w.next_ticket) e.0.2.1 ∙ enlisted_next side listed mid.waiters;
+        nexts = ap (λ (w : Waiters W). w.next_ticket) e.0.2.1 ∙ (enlisted_mine side listed mid.waiters).1;
         goes_on = stands.0;
         stands = stands.1 ∙ ap (λ (t : ℕ). Waiting t waker) e.0.2.0;
       })
@@ -123,12 +123,12 @@ module _ {T P W : Type 0} where
     pub poll_end : (task : Tasks T P) (reply : Answers T P) → Moves cmp is_clone old (poll_of task given waker) reply handed new
         → Ended old given (future_after task waker reply) handed new ⊎ Waits is_clone old given waker (side_of task) (future_after task waker reply) handed new
     poll_end (Send m p) (answer.PollSend poll) h =
-        ends is_clone Room old h.mid new given h.ticket waker _ handed (hands_sends old h.mid handed ((m, p) ∷ []) (as_list h.reply) h.tried) h.ends
+        ends is_clone Room old h.mid new given h.ticket waker _ handed (sends cmp old h.mid handed ((m, p) ∷ []) (as_list h.reply) h.tried).0 h.ends
         (rw (send_waits_under h.reply h.ticket poll h.answered) (stands_send m p waker poll))
     poll_end (Sendv pairs) (answer.PollSendv poll) h =
-        ends is_clone Room old h.mid new given h.ticket waker _ handed (hands_sends old h.mid handed pairs h.reply h.tried) h.ends
+        ends is_clone Room old h.mid new given h.ticket waker _ handed (sends cmp old h.mid handed pairs h.reply h.tried).0 h.ends
         (rw (send_waits_under h.reply h.ticket poll h.answered) (stands_sendv pairs waker poll))
     poll_end Recv (answer.PollRecv poll) h =
-        ends is_clone Message old h.mid new given h.ticket waker _ handed (hands_receives old h.mid handed cmp h.reply h.tried) h.ends
+        ends is_clone Message old h.mid new given h.ticket waker _ handed (receives cmp old h.mid handed h.reply h.tried).0 h.ends
         (rw (recv_waits_under h.reply h.ticket poll h.answered) (stands_recv waker poll))
     poll_end task reply h = absurd h

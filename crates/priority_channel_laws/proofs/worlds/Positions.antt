@@ -1,10 +1,15 @@
 -- The element at a position of a list that was mapped, or changed at one position.
-use Rattle.std.proofs.Common.{◌≡◌, ◌≢◌, ℕ, ◌⊎◌, List, [], ◌∷◌, map, set, refl, ap, inl, inr, zero, suc}
-use Rattle.std.specs.Prelude.{Option, Some, slice_get}
+use Rattle.std.proofs.Common.{◌≡◌, ◌≢◌, ℕ, ◌⊎◌, List, [], ◌∷◌, map, set, refl, ap, ◌∙◌, inl, inr, arith, zero, suc}
+use Rattle.std.specs.Prelude.{Option, Some, slice_get, option_map}
+use Rattle.std.specs.List.{All}
+use Rattle.std.proofs.lemmas.Option.{slice_get-map, slice_get_within, get_or_from_slice_get}
 
 module _ {A : Type 0} where
   pub Some-same : (o : Option A) (x y : A) → o ≡ Some x → o ≡ Some y → x ≡ y
   Some-same o x y p q = cc
+
+  pub all_at : (Q : A → Type 0) (xs : List A) (i : ℕ) (x : A) → All Q xs → slice_get xs i ≡ Some x → Q x
+  all_at Q xs i x all at = rw (get_or_from_slice_get xs i x x at) at (all i x (slice_get_within xs i x at))
 
   pub mapped_at : {B : Type 0} (f : A → B) (xs : List A) (i : ℕ) (y : B) → slice_get (map f xs) i ≡ Some y → (x : A) × (slice_get xs i ≡ Some x) × (f x ≡ y)
   mapped_at f [] i y h = absurd (cc)
@@ -12,20 +17,14 @@ module _ {A : Type 0} where
   mapped_at f (x ∷ xs) (suc i) y h = mapped_at f xs i y h
 
   pub at_mapped : {B : Type 0} (f : A → B) (xs : List A) (i : ℕ) (x : A) → slice_get xs i ≡ Some x → slice_get (map f xs) i ≡ Some (f x)
-  at_mapped f [] i x h = absurd (cc)
-  at_mapped f (x ∷ xs) zero y h = let e : x ≡ y = cc in ap (λ z. Some (f z)) e
-  at_mapped f (x ∷ xs) (suc i) y h = at_mapped f xs i y h
+  at_mapped f xs i x h = slice_get-map f xs i ∙ ap (option_map f) h
 
   pub changed_at : (xs : List A) (i j : ℕ) (x y : A) → slice_get (set xs i x) j ≡ Some y → ((i ≡ j) × (x ≡ y)) ⊎ ((i ≢ j) × (slice_get xs j ≡ Some y))
   changed_at [] i j x y h = absurd (cc)
   changed_at (z ∷ xs) zero zero x y h = inl (refl, cc)
   changed_at (z ∷ xs) zero (suc j) x y h = inr ((λ e. cc), h)
   changed_at (z ∷ xs) (suc i) zero x y h = inr ((λ e. cc), h)
-  changed_at (z ∷ xs) (suc i) (suc j) x y h =
-      elim (changed_at xs i j x y h) [
-        | inl k ↦ inl (ap suc k.0, k.1)
-        | inr k ↦ inr ((λ e. k.0 (cc)), k.1)
-      ]
+  changed_at (z ∷ xs) (suc i) (suc j) x y h = grind (arith, changed_at xs i j x y h)
 
   pub at_changed : (xs : List A) (i : ℕ) (x y : A) → slice_get xs i ≡ Some y → slice_get (set xs i x) i ≡ Some x
   at_changed [] i x y h = absurd (cc)

@@ -1,43 +1,30 @@
 -- A future ends, waits, or has another task of its side: the changes that this makes in a world.
-use Rattle.std.proofs.Common.{eq-eqb, ◌≡◌, ◌≢◌, ℕ, ◌<◌, ◌⊎◌, true, false, List, refl, ap, sym, ◌∙◌, inl, inr, arith}
+use Rattle.std.proofs.Common.{eq-eqb, ◌≡◌, ◌≢◌, ℕ, ◌<◌, ◌⊎◌, true, List, [], refl, ap, sym, ◌∙◌, inl, inr, arith}
 use Rattle.std.specs.Prelude.{Option, Some, None, slice_get, ◌==◌}
 use Rattle.std.specs.List.{All}
-use Rattle.std.proofs.lemmas.Bool.{ne_eqb}
 use Rattle.std.proofs.lemmas.Bool.Decides.{eqb_tells}
 use Rattle.priority_channel_core.specs.Waiting.{without_given, listing}
 use Rattle.priority_channel_laws.specs.WaitingLaw.{waker_of, side_of}
-use Rattle.priority_channel_core.specs.Future.{Standing, Futures, ticket_of}
-use Rattle.priority_channel_core.specs.Future.Standing.{New, Waiting, Called, Done}
+use Rattle.priority_channel_core.specs.Future.{Futures, ticket_of}
+use Rattle.priority_channel_core.specs.Future.Standing.{Waiting, Done}
 use Rattle.priority_channel_core.specs.declared.side.Side.{Side}
-use Rattle.priority_channel_core.specs.declared.side.Side.TheVariants.{Room, Message}
 use Rattle.priority_channel_laws.proofs.worlds.Positions.{Some-same}
-use Rattle.priority_channel_laws.proofs.worlds.Lookups.{put, waker_of-without, waker_of-listing, waker_of-listed, ticket_listed}
+use Rattle.priority_channel_laws.proofs.worlds.Lookups.{put, waker_of-without, waker_of-listing, waker_of-listed, waker_of-relisted, ticket_listed}
 use Rattle.priority_channel_laws.proofs.worlds.Worlds.{Keeps, Changes}
 
-gone : {W : Type 0} (xs : List (ℕ × W)) (given : Option ℕ) (t : ℕ) → given ≢ Some t → waker_of t (without_given given xs) ≡ waker_of t xs
+pub gone : {W : Type 0} (xs : List (ℕ × W)) (given : Option ℕ) (t : ℕ) → given ≢ Some t → waker_of t (without_given given xs) ≡ waker_of t xs
 gone xs None t ne = refl
-gone xs (Some u) t ne = let n : (u == t) ≡ false = ne_eqb u t (λ e. ne (ap Some e)) in waker_of-without xs u t ∙ rw n refl
+gone xs (Some u) t ne = let n : u ≢ t = λ e. ne (ap Some e) in grind (arith, waker_of-without xs u t)
 
 gone_only : {W : Type 0} (xs : List (ℕ × W)) (given : Option ℕ) (t : ℕ) (k : W) → waker_of t (without_given given xs) ≡ Some k → (waker_of t xs ≡ Some k) × (given ≢ Some t)
 gone_only xs None t k h = (h, λ e. cc)
-gone_only xs (Some u) t k h =
-    let p : put u t None (waker_of t xs) ≡ Some k = sym (waker_of-without xs u t) ∙ h in
-    elim (eqb_tells u t) [
-      | inl e ↦ let r = e.0 in let n : None ≡ Some k = rw r at p in absurd (cc)
-      | inr e ↦ let r = e.0 in (rw r at p, λ q. e.1 (cc))
-    ]
+gone_only xs (Some u) t k h = let p : put u t None (waker_of t xs) ≡ Some k = sym (waker_of-without xs u t) ∙ h in grind arith
 
 pub same_side : (a b : Side) → (a ≡ b) ⊎ (a ≢ b)
-same_side Room Room = inl refl
-same_side Room Message = inr (λ e. cc)
-same_side Message Room = inr (λ e. cc)
-same_side Message Message = inl refl
+same_side a b = grind arith
 
-has_ticket : {W : Type 0} (s : Standing W) (t : ℕ) → (ticket_of s ≡ Some t) ⊎ (ticket_of s ≢ Some t)
-has_ticket (Waiting u w) t = elim (eqb_tells u t) [ inl e ↦ inl (ap Some e.1) | inr e ↦ inr (λ q. e.1 (cc)) ]
-has_ticket (Called u w) t = elim (eqb_tells u t) [ inl e ↦ inl (ap Some e.1) | inr e ↦ inr (λ q. e.1 (cc)) ]
-has_ticket New t = inr (λ q. cc)
-has_ticket Done t = inr (λ q. cc)
+has_ticket : (given : Option ℕ) (t : ℕ) → (given ≡ Some t) ⊎ (given ≢ Some t)
+has_ticket given t = grind arith
 
 module _ {T P W : Type 0} (is_clone : W → W → Type 0) where
   pub Keeps-same : (lists lists' : Side → List (ℕ × W)) (next next' : ℕ) (futures : List (Futures T P W))
@@ -47,6 +34,15 @@ module _ {T P W : Type 0} (is_clone : W → W → Type 0) where
     listed = λ side t kept here. k.listed side t kept (ap (waker_of t) (sym (same side)) ∙ here);
     below = λ i f t at has. let b = k.below i f t at has in omega arith;
     differ = k.differ;
+  }
+
+  pub Keeps-none : (lists : Side → List (ℕ × W)) (next : ℕ) (futures : List (Futures T P W)) → ((side : Side) → lists side ≡ [])
+      → ((i : ℕ) (f : Futures T P W) → slice_get futures i ≡ Some f → ticket_of f.standing ≡ None) → Keeps is_clone lists next futures
+  Keeps-none lists next futures empty none = record {
+    kept = λ i f t w at is. let z : None ≡ Some t = sym (none i f at) ∙ ap ticket_of is in absurd (cc);
+    listed = λ side t k here. let z : None ≡ Some k = rw (empty side) at here in absurd (cc);
+    below = λ i f t at has. let z : None ≡ Some t = sym (none i f at) ∙ has in absurd (cc);
+    differ = λ i j f g t at at' has has'. let z : None ≡ Some t = sym (none i f at) ∙ has in absurd (cc);
   }
 
   module _ (lists : Side → List (ℕ × W)) (next : ℕ) (futures : List (Futures T P W)) (keeps : Keeps is_clone lists next futures)
@@ -61,24 +57,24 @@ module _ {T P W : Type 0} (is_clone : W → W → Type 0) where
       ticket = λ t has. let n : None ≡ Some t = rw done at has in absurd (cc);
     }
 
+    -- a ticket of `f` that is listed is its own
+    owner : (side : Side) (t : ℕ) (k : W) → waker_of t (lists side) ≡ Some k → ticket_of f.standing ≡ Some t
+        → (w : W) × (side_of f.task ≡ side) × (f.standing ≡ Waiting t w) × is_clone w k
+    owner side t k here has =
+        let found = keeps.listed side t k here in
+        let same : i ≡ found.which = keeps.differ i found.which f found.future t at found.there has (ap ticket_of found.waits) in
+        let one : f ≡ found.future = Some-same _ f found.future at (ap (slice_get futures) same ∙ found.there) in
+        (found.waker, ap (λ (x : Futures T P W). side_of x.task) one ∙ found.on_side, ap (λ (x : Futures T P W). x.standing) one ∙ found.waits, found.clone)
+
     pub stays : side_of g.task ≡ side_of f.task → g.standing ≡ f.standing → Changes is_clone lists next futures keeps i f g at lists next
     stays side standing = record {
       grows = omega arith;
       same = λ s t lt ne. refl;
       own = λ t w waits. let k = keeps.kept i f t w at (sym standing ∙ waits) in (k.0, k.1, ap (λ (s : Side). waker_of t (lists s)) side ∙ k.2);
       only = λ s t k here.
-          elim (has_ticket f.standing t) [
+          elim (has_ticket (ticket_of f.standing) t) [
             | inr none ↦ inl (here, none)
-            | inl has ↦
-                let found = keeps.listed s t k here in
-                let same : i ≡ found.which = keeps.differ i found.which f found.future t at found.there has (ap ticket_of found.waits) in
-                let one : f ≡ found.future = Some-same _ f found.future at (ap (slice_get futures) same ∙ found.there) in
-                inr (
-                  found.waker,
-                  side ∙ (ap (λ (x : Futures T P W). side_of x.task) one ∙ found.on_side),
-                  standing ∙ (ap (λ (x : Futures T P W). x.standing) one ∙ found.waits),
-                  found.clone,
-                )
+            | inl has ↦ let mine = owner s t k here has in inr (mine.0, side ∙ mine.1, standing ∙ mine.2, mine.3)
           ];
       ticket = λ t has. let mine : ticket_of f.standing ≡ Some t = ap ticket_of (sym standing) ∙ has in (keeps.below i f t at mine, inl mine);
     }
@@ -95,30 +91,29 @@ module _ {T P W : Type 0} (is_clone : W → W → Type 0) where
         let xs = lists side in
         let l = listing given kept xs next in
         let p = (ticket_listed xs given kept next).own_or_next in
+        let put_is : (t : ℕ) → waker_of t (lists' side) ≡ put l.ticket t (Some kept) (waker_of t xs)
+        = λ t. ap (waker_of t) mine ∙ waker_of-listing xs given kept next t below in
         record {
           grows = elim p [ inl a ↦ let e = a.1 in omega arith | inr b ↦ let e = b.1 in omega arith ];
           same = λ s t lt ne.
               elim (same_side s side) [
-                | inl e ↦
-                    let n : (l.ticket == t) ≡ false = ne_eqb l.ticket t (λ q. elim p [ inl a ↦ ne (sym own ∙ (a.0 ∙ ap Some q)) | inr b ↦ let c = b.0 in absurd (omega arith) ]) in
-                    rw e (ap (waker_of t) mine ∙ (waker_of-listing xs given kept next t below ∙ rw n refl))
+                | inl e ↦ rw e (ap (waker_of t) mine ∙ waker_of-relisted xs given kept next t below (λ q. ne (sym own ∙ q)) lt)
                 | inr ne ↦ ap (waker_of t) (others s ne)
               ];
           own = λ t w is.
               let q : l.ticket ≡ t = cc in let v : waker ≡ w = cc in
-              let r : (l.ticket == l.ticket) ≡ true = eq-eqb l.ticket l.ticket refl in
-              (kept, rw (← v) clone, rw (goes_on, ← q) (ap (waker_of l.ticket) mine ∙ (waker_of-listing xs given kept next l.ticket below ∙ rw r refl)));
+              let r : (l.ticket == t) ≡ true = eq-eqb l.ticket t q in
+              (kept, rw (← v) clone, rw goes_on (put_is t ∙ rw r refl));
           only = λ s t k here.
               elim (same_side s side) [
                 | inl e ↦
-                    let w : waker_of t (lists' side) ≡ Some k = rw e at here in
-                    let put_is : put l.ticket t (Some kept) (waker_of t xs) ≡ Some k = sym (ap (waker_of t) mine ∙ waker_of-listing xs given kept next t below) ∙ w in
+                    let put_at : put l.ticket t (Some kept) (waker_of t xs) ≡ Some k = sym (put_is t) ∙ (rw e at here) in
                     elim (eqb_tells l.ticket t) [
                       | inl q ↦
-                          let r = q.0 in let v : Some kept ≡ Some k = rw r at put_is in let same : kept ≡ k = cc in
+                          let r = q.0 in let v : Some kept ≡ Some k = rw r at put_at in let same : kept ≡ k = cc in
                           inr (waker, goes_on ∙ sym e, stands ∙ ap (λ (u : ℕ). Waiting u waker) q.1, rw (← same) clone)
                       | inr q ↦
-                          let r = q.0 in let old : waker_of t xs ≡ Some k = rw r at put_is in
+                          let r = q.0 in let old : waker_of t xs ≡ Some k = rw r at put_at in
                           inl (
                             rw e old,
                             λ has. elim p [
@@ -129,14 +124,7 @@ module _ {T P W : Type 0} (is_clone : W → W → Type 0) where
                     ]
                 | inr ne ↦
                     let old : waker_of t (lists s) ≡ Some k = ap (waker_of t) (sym (others s ne)) ∙ here in
-                    inl (
-                      old,
-                      λ has.
-                          let found = keeps.listed s t k old in
-                          let same : i ≡ found.which = keeps.differ i found.which f found.future t at found.there has (ap ticket_of found.waits) in
-                          let one : f ≡ found.future = Some-same _ f found.future at (ap (slice_get futures) same ∙ found.there) in
-                          ne (sym found.on_side ∙ (sym (ap (λ (x : Futures T P W). side_of x.task) one) ∙ on_side)),
-                    )
+                    inl (old, λ has. ne (sym (owner s t k old has).1 ∙ on_side))
               ];
           ticket = λ t has.
               let q : l.ticket ≡ t = cc in

@@ -1,6 +1,7 @@
 -- What each event preserves of the futures and the two waiting lists.
-use Rattle.std.proofs.Common.{◌≡◌, ◌≢◌, ℕ, ◌<◌, ◌≤◌, ◌⊎◌, ◌||◌, Bool, true, false, List, [], ◌∷◌, set, refl, ap, sym, ◌∙◌, inl, inr, arith}
+use Rattle.std.proofs.Common.{◌≡◌, ◌≢◌, ℕ, ◌<◌, ◌≤◌, ◌⊎◌, true, false, List, [], ◌∷◌, set, refl, ap, sym, ◌∙◌, inl, inr, arith}
 use Rattle.std.specs.Prelude.{Some, None, slice_get}
+use Rattle.std.proofs.Math.Bool.{or-false}
 use Rattle.std.proofs.lemmas.Bool.Decides.{eqb_tells}
 use Rattle.priority_channel_core.specs.machine.State.{Handed}
 use Rattle.priority_channel_core.specs.Waiting.{is_listed}
@@ -15,16 +16,13 @@ use Rattle.priority_channel_laws.proofs.worlds.Lookups.{waker_of-listed}
 use Rattle.priority_channel_laws.proofs.worlds.Hands.{handed_of, StaysOrLeaves}
 use Rattle.priority_channel_laws.proofs.worlds.Callings.{called-ticket, called-waiting, called-stays, called-called}
 
-or-false : (a b : Bool) → a ≡ false → b ≡ false → (a || b) ≡ false
-or-false a b h k = rw (h, k) refl
-
-or-left : (a b : Bool) → (a || b) ≡ false → a ≡ false
-or-left true b h = absurd (cc)
-or-left false b h = refl
-
-or-right : (a b : Bool) → (a || b) ≡ false → b ≡ false
-or-right true b h = absurd (cc)
-or-right false b h = h
+-- a future has the ticket that it had
+pub had_ticket : {T P W : Type 0} (handed : Handed W) (futures : List (Futures T P W)) (i : ℕ) (g : Futures T P W) (t : ℕ)
+    → slice_get (call_out handed futures) i ≡ Some g → ticket_of g.standing ≡ Some t
+    → (f : Futures T P W) × (slice_get futures i ≡ Some f) × (ticket_of f.standing ≡ Some t)
+had_ticket {T} {P} {W} handed futures i g t at has =
+    let m = mapped_at _ futures i g at in
+    (m.0, m.1, sym (called-ticket handed m.0.standing) ∙ (ap (λ (x : Futures T P W). ticket_of x.standing) m.2 ∙ has))
 
 module _ {T P W : Type 0} (is_clone : W → W → Type 0) where
   -- the two lists have exactly the waiting futures, and each ticket has one future
@@ -56,118 +54,94 @@ module _ {T P W : Type 0} (is_clone : W → W → Type 0) where
           | inr e ↦ let r = e.0 in rw r (unlisted_by t xs (λ k j. h k (rw r j)))
         ]
 
-    pub keeps-call_out : (handed : Handed W) (lists' : Side → List (ℕ × W)) → ((side : Side) → StaysOrLeaves (lists side) (handed_of side handed) (lists' side))
-        → Keeps lists' next (call_out handed futures)
-    keeps-call_out handed lists' stays = record {
-      kept = λ i g t w at waits.
-          let m = mapped_at _ futures i g at in
-          let f = m.0 in
-          let c = called-waiting handed f.standing t w (ap (λ (x : Futures T P W). x.standing) m.2 ∙ waits) in
-          let old = keeps.kept i f t w m.1 c.0 in
-          let side : side_of g.task ≡ side_of f.task = sym (ap (λ (x : Futures T P W). side_of x.task) m.2) in
-          (old.0, old.1, rw side (still f t old.0 c.1 old.2));
-      listed = λ side t k here.
-          let was = was_listed side t k here in
-          let old = keeps.listed side t k was in
-          record {
-            which = old.which;
-            future = record { task = old.future.task; standing = standing_after handed old.future.standing };
-            waker = old.waker;
-            there = at_mapped (λ (future : Futures T P W). record { task = future.task; standing = standing_after handed future.standing }) futures old.which old.future old.there;
-            on_side = old.on_side;
-            waits = ap (standing_after handed) old.waits ∙ called-stays handed t old.waker (not_handed side t k here was);
-            clone = old.clone;
-          };
-      below = λ i g t at has.
-          let m = mapped_at _ futures i g at in
-          keeps.below i m.0 t m.1 (sym (called-ticket handed m.0.standing) ∙ (ap (λ (x : Futures T P W). ticket_of x.standing) m.2 ∙ has));
-      differ = λ i j f g t at at' has has'.
-          let m = mapped_at _ futures i f at in
-          let n = mapped_at _ futures j g at' in
-          keeps.differ i j m.0 n.0 t m.1 n.1
-          (sym (called-ticket handed m.0.standing) ∙ (ap (λ (x : Futures T P W). ticket_of x.standing) m.2 ∙ has))
-          (sym (called-ticket handed n.0.standing) ∙ (ap (λ (x : Futures T P W). ticket_of x.standing) n.2 ∙ has'));
-    }
-      where
-        handed_side : (side : Side) (t : ℕ) → is_handed t handed ≡ false → is_listed t (handed_of side handed) ≡ false
-        handed_side Room t h = or-left _ _ h
-        handed_side Message t h = or-right (is_listed t handed.room) _ h
-
-        still : (f : Futures T P W) (t : ℕ) (k : W) → is_handed t handed ≡ false → waker_of t (lists (side_of f.task)) ≡ Some k
-            → waker_of t (lists' (side_of f.task)) ≡ Some k
-        still f t k out here =
-            elim (stays (side_of f.task)) [
-              | inl s ↦ rw s.0 here
-              | inr s ↦
-                  let a = handed_side (side_of f.task) t out in
-                  let b = waker_of-listed (lists (side_of f.task)) t k here in
-                  let e = s.1 in
-                  absurd (cc (ap (is_listed t) e))
-            ]
-
-        was_listed : (side : Side) (t : ℕ) (k : W) → waker_of t (lists' side) ≡ Some k → waker_of t (lists side) ≡ Some k
-        was_listed side t k here =
-            elim (stays side) [
-              | inl s ↦ rw s.0 at here
-              | inr s ↦ let n : None ≡ Some k = rw s.0 at here in absurd (cc)
-            ]
-
-        stays_unlisted : (side : Side) (t : ℕ) (k : W) → waker_of t (lists' side) ≡ Some k → is_listed t (handed_of side handed) ≡ false
-        stays_unlisted side t k here =
-            elim (stays side) [
-              | inl s ↦ rw s.1 refl
-              | inr s ↦ let n : None ≡ Some k = rw s.0 at here in absurd (cc)
-            ]
-
-        other_unlisted : (side : Side) (t : ℕ) → ((k : W) → waker_of t (lists side) ≡ Some k → ⊥) → is_listed t (handed_of side handed) ≡ false
-        other_unlisted side t none =
-            elim (stays side) [
-              | inl s ↦ rw s.1 refl
-              | inr s ↦ rw s.1 (unlisted_by t (lists side) none)
-            ]
-
-        not_handed : (side : Side) (t : ℕ) (k : W) → waker_of t (lists' side) ≡ Some k → waker_of t (lists side) ≡ Some k → is_handed t handed ≡ false
-        not_handed Room t k here was = or-false _ _ (stays_unlisted Room t k here) (other_unlisted Message t (λ l h. other_side t k l was h))
-        not_handed Message t k here was = or-false _ _ (other_unlisted Room t (λ l h. other_side t l k h was)) (stays_unlisted Message t k here)
-
-    -- a waiter that was woken, on either side, was woken with the clone of its waker
-    pub handed_kept : (handed : Handed W) (lists' : Side → List (ℕ × W)) → ((side : Side) → StaysOrLeaves (lists side) (handed_of side handed) (lists' side))
-        → (side : Side) (t : ℕ) (k : W) → waker_of t (lists side) ≡ Some k → is_handed t handed ≡ true
-        → (waker_of t handed.room ≡ Some k) ⊎ (waker_of t handed.message ≡ Some k)
-    handed_kept handed lists' stays Room t k here out =
-        elim (stays Room) [
-          | inr s ↦ inl (rw s.1 here)
-          | inl s ↦ elim (stays Message) [
-            | inl u ↦ let e : is_handed t handed ≡ false = rw (s.1, u.1) refl in absurd (cc)
-            | inr u ↦
-                let n = unlisted_by t (lists Message) (λ l h. other_side t k l here h) in
-                let e : is_handed t handed ≡ false = rw (s.1, u.1) n in absurd (cc)
+    -- some waiting lists are emptied, and all of their waiters are woken
+    module _ (handed : Handed W) (lists' : Side → List (ℕ × W)) (stays : (side : Side) → StaysOrLeaves (lists side) (handed_of side handed) (lists' side)) where
+      unhanded : (side : Side) (t : ℕ) → ((k : W) → waker_of t (lists side) ≡ Some k → ⊥) → is_listed t (handed_of side handed) ≡ false
+      unhanded side t none =
+          elim (stays side) [
+            | inl s ↦ rw s.1 refl
+            | inr s ↦ rw s.1 (unlisted_by t (lists side) none)
           ]
-        ]
-    handed_kept handed lists' stays Message t k here out =
-        elim (stays Message) [
-          | inr s ↦ inr (rw s.1 here)
-          | inl s ↦ elim (stays Room) [
-            | inl u ↦ let e : is_handed t handed ≡ false = rw (s.1, u.1) refl in absurd (cc)
-            | inr u ↦
-                let n = unlisted_by t (lists Room) (λ l h. other_side t l k h here) in
-                let e : is_handed t handed ≡ false = rw (s.1, u.1) (or-false _ _ n refl) in absurd (cc)
-          ]
-        ]
 
-    pub called_from : (handed : Handed W) (lists' : Side → List (ℕ × W)) → ((side : Side) → StaysOrLeaves (lists side) (handed_of side handed) (lists' side))
-        → (i : ℕ) (g : Futures T P W) (t : ℕ) (w : W) → slice_get (call_out handed futures) i ≡ Some g → g.standing ≡ Called t w
-        → (f : Futures T P W) × (slice_get futures i ≡ Some f)
-        × ((f.standing ≡ Called t w) ⊎ ((f.standing ≡ Waiting t w) × (k : W) × is_clone w k × ((waker_of t handed.room ≡ Some k) ⊎ (waker_of t handed.message ≡ Some k))))
-    called_from handed lists' stays i g t w at is =
-        let m = mapped_at (λ (future : Futures T P W). record { task = future.task; standing = standing_after handed future.standing }) futures i g at in (
-          m.0,
-          m.1,
-          elim (called-called handed m.0.standing t w (ap (λ (x : Futures T P W). x.standing) m.2 ∙ is)) [
-            | inl c ↦ inl c
-            | inr c ↦ let l = keeps.kept i m.0 t w m.1 c.0 in inr (c.0, l.0, l.1, handed_kept handed lists' stays (side_of m.0.task) t l.0 l.2 c.1)
-          ],
-        )
+      -- a waiter of one side is woken on that side or not at all
+      handed_there : (side : Side) (t : ℕ) (k : W) → waker_of t (lists side) ≡ Some k → is_handed t handed ≡ is_listed t (handed_of side handed)
+      handed_there Room t k here = let none = unhanded Message t (λ l h. other_side t k l here h) in rw none (or-false _)
+      handed_there Message t k here = let none = unhanded Room t (λ l h. other_side t l k h here) in rw none refl
+
+      -- it stays with its waker, or is woken with it
+      stays_or_woken : (side : Side) (t : ℕ) (k : W) → waker_of t (lists side) ≡ Some k
+          → ((is_handed t handed ≡ false) × (waker_of t (lists' side) ≡ Some k))
+          ⊎ ((is_handed t handed ≡ true) × (waker_of t (lists' side) ≡ None) × (waker_of t (handed_of side handed) ≡ Some k))
+      stays_or_woken side t k here =
+          elim (stays side) [
+            | inl s ↦ inl (handed_there side t k here ∙ rw s.1 refl, rw s.0 here)
+            | inr s ↦ inr (handed_there side t k here ∙ rw s.1 (waker_of-listed (lists side) t k here), rw s.0 refl, rw s.1 here)
+          ]
+
+      was_listed : (side : Side) (t : ℕ) (k : W) → waker_of t (lists' side) ≡ Some k → waker_of t (lists side) ≡ Some k
+      was_listed side t k here =
+          elim (stays side) [
+            | inl s ↦ rw s.0 at here
+            | inr s ↦ let n : None ≡ Some k = rw s.0 at here in absurd (cc)
+          ]
+
+      pub keeps-call_out : Keeps lists' next (call_out handed futures)
+      keeps-call_out = record {
+        kept = λ i g t w at waits.
+            let m = mapped_at _ futures i g at in
+            let f = m.0 in
+            let c = called-waiting handed f.standing t w (ap (λ (x : Futures T P W). x.standing) m.2 ∙ waits) in
+            let old = keeps.kept i f t w m.1 c.0 in
+            let side : side_of g.task ≡ side_of f.task = sym (ap (λ (x : Futures T P W). side_of x.task) m.2) in
+            elim (stays_or_woken (side_of f.task) t old.0 old.2) [
+              | inl s ↦ (old.0, old.1, rw side s.1)
+              | inr s ↦ let no = c.1 in absurd (cc)
+            ];
+        listed = λ side t k here.
+            let was = was_listed side t k here in
+            let old = keeps.listed side t k was in
+            let out : is_handed t handed ≡ false = elim (stays_or_woken side t k was) [ inl s ↦ s.0 | inr s ↦ let gone = s.1 in absurd (cc) ] in
+            record {
+              which = old.which;
+              future = record { task = old.future.task; standing = standing_after handed old.future.standing };
+              waker = old.waker;
+              there = at_mapped _ futures old.which old.future old.there;
+              on_side = old.on_side;
+              waits = ap (standing_after handed) old.waits ∙ called-stays handed t old.waker out;
+              clone = old.clone;
+            };
+        below = λ i g t at has. let m = had_ticket handed futures i g t at has in keeps.below i m.0 t m.1 m.2;
+        differ = λ i j f g t at at' has has'.
+            let m = had_ticket handed futures i f t at has in
+            let n = had_ticket handed futures j g t at' has' in
+            keeps.differ i j m.0 n.0 t m.1 n.1 m.2 n.2;
+      }
+
+      -- a waiter that was woken, on either side, was woken with the clone of its waker
+      handed_kept : (side : Side) (t : ℕ) (k : W) → waker_of t (lists side) ≡ Some k → is_handed t handed ≡ true
+          → (waker_of t handed.room ≡ Some k) ⊎ (waker_of t handed.message ≡ Some k)
+      handed_kept side t k here out =
+          elim (stays_or_woken side t k here) [
+            | inl s ↦ let no = s.0 in absurd (cc)
+            | inr s ↦ either side s.2
+          ]
+        where
+          either : (side : Side) → waker_of t (handed_of side handed) ≡ Some k → (waker_of t handed.room ≡ Some k) ⊎ (waker_of t handed.message ≡ Some k)
+          either Room h = inl h
+          either Message h = inr h
+
+      pub called_from : (i : ℕ) (g : Futures T P W) (t : ℕ) (w : W) → slice_get (call_out handed futures) i ≡ Some g → g.standing ≡ Called t w
+          → (f : Futures T P W) × (slice_get futures i ≡ Some f)
+          × ((f.standing ≡ Called t w) ⊎ ((f.standing ≡ Waiting t w) × (k : W) × is_clone w k × ((waker_of t handed.room ≡ Some k) ⊎ (waker_of t handed.message ≡ Some k))))
+      called_from i g t w at is =
+          let m = mapped_at _ futures i g at in (
+            m.0,
+            m.1,
+            elim (called-called handed m.0.standing t w (ap (λ (x : Futures T P W). x.standing) m.2 ∙ is)) [
+              | inl c ↦ inl c
+              | inr c ↦ let l = keeps.kept i m.0 t w m.1 c.0 in inr (c.0, l.0, l.1, handed_kept (side_of m.0.task) t l.0 l.2 c.1)
+            ],
+          )
 
     -- one future gets a new standing, and the lists change only at its tickets
     module _ (i : ℕ) (f g : Futures T P W) (at : slice_get futures i ≡ Some f) (lists' : Side → List (ℕ × W)) (next' : ℕ) where

@@ -1,4 +1,4 @@
-use Rattle.priority_channel_laws.proofs.queue.Order.{nobody_sleeps_on}
+use Rattle.priority_channel_laws.proofs.queue.Runs.{nobody_sleeps_on}
 use Rattle.priority_channel_laws.proofs.queue.Witness.{occurs}
 use Rattle.priority_channel_laws.proofs.laws.queue_law.Goals as goal
 
