@@ -9,7 +9,7 @@ use Rattle.priority_channel_chronicle.specs.declared.log.Line.{Line}
 use Rattle.priority_channel_chronicle.specs.declared.log.Line.TheVariants.{Made}
 use Rattle.priority_channel_chronicle.specs.Log.{IsLogOf, IsLogOfSome, IsLog, MayFollow, Looks, Adds, entries_in}
 use Rattle.priority_channel_chronicle.proofs.Fronts.{prefix_whole}
-use Rattle.priority_channel_chronicle.proofs.Lines.{entries_append, entries_front, same_opening}
+use Rattle.priority_channel_chronicle.proofs.Lines.{entries_append, seen_front, same_opening}
 
 abbrev word_at : ℕ → List Cell
 word_at n = (n, true) ∷ []
@@ -62,7 +62,7 @@ module _ {E : Type 0} (legal : ℕ → Bool → List E → Type 0) where
         let line : List (Line E) = Made entry ∷ [] in
         let here : length (entries_in log) ≡ count = grind (arith, nat_tests) in
         let at_least : count ≤ length (entries_in seen) = may.0 in
-        let same : entries_in seen ≡ entries_in log = prefix_whole (entries_in seen) (entries_in log) (entries_front seen log front) (omega (arith, here, at_least)) in
+        let same : entries_in seen ≡ entries_in log = prefix_whole (entries_in seen) (entries_in log) (seen_front seen log _ refl front) (omega (arith, here, at_least)) in
         let long : length (entries_in seen) ≡ count = ap length same ∙ here in
         let now : IsLogOf legal capacity is_reserved log = same_opening legal capacity is_reserved seen log kept front rule.of_some in
         let entries : entries_in (log ++ line) ≡ entries_in seen ++ entry ∷ [] =
@@ -112,5 +112,4 @@ module _ {E : Type 0} (legal : ℕ → Bool → List E → Type 0) where
         → MatchBool is_count ((length now ≡ count) × (entries_in after ≡ now ++ entry ∷ [])) (IsPrefix now (entries_in after))
     tells_added after now ask is made front true told =
         (ap length (sym is) ∙ told.0, told.1 ∙ ap (λ (l : Line E). entries_in seen ++ entries_in (l ∷ [])) made ∙ ap (λ (l : List E). l ++ entry ∷ []) is)
-    tells_added after now ask is made front false told =
-        subst (λ (l : List E). IsPrefix l (entries_in after)) is (entries_front seen after front)
+    tells_added after now ask is made front false told = seen_front seen after now is front

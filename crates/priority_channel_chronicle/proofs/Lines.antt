@@ -11,9 +11,8 @@ module _ {E : Type 0} where
   entries_append (Opened capacity is_reserved ∷ xs) ys = entries_append xs ys
   entries_append (Made entry ∷ xs) ys = ap (λ (l : List E). entry ∷ l) (entries_append xs ys)
 
-  pub entries_front : (xs ys : List (Line E)) → IsPrefix xs ys → IsPrefix (entries_in xs) (entries_in ys)
-  entries_front xs ys front =
-      (entries_in front.0, sym (entries_append xs front.0) ∙ ap (λ (l : List (Line E)). entries_in l) front.1)
+  pub seen_front : (xs ys : List (Line E)) (now : List E) → entries_in xs ≡ now → IsPrefix xs ys → IsPrefix now (entries_in ys)
+  seen_front xs ys now is front = (entries_in front.0, let more = entries_append xs front.0 in let all = ap (λ (l : List (Line E)). entries_in l) front.1 in cc)
 
   pub no_entries : (log : List (Line E)) → log ≡ opened (capacity_in log) (is_reserved_in log) → entries_in log ≡ []
   no_entries log is = ap (λ (l : List (Line E)). entries_in l) is

@@ -1,4 +1,4 @@
--- What a caller's pass carries, and what a call adds to it.
+-- What a pass carries, and what a call adds to it.
 use Rattle.std.specs.Prelude.{◌≡◌, ◌≢◌, ◌==◌, ◌≤◌, ℕ, List, [], ◌∷◌, ◌++◌, count_by, All, EachIndex, slice_get, Some}
 use Rattle.std.specs.List.{sum_by}
 
@@ -8,7 +8,7 @@ pub record Carried (E : Type 0) : Type 0 where
   pub seen : List E
 
 module _ {E : Type 0} where
-  -- with no call, numbered from 0 on
+  -- passes without calls, numbered from 0 on
   abbrev pub AreNew : List (Carried E) → Type 0
   AreNew passes =
       EachIndex passes

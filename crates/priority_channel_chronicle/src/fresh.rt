@@ -1,4 +1,4 @@
-//! What one channel is made of, and what contracts call it by.
+//! The parts from which a channel is made, and the names that contracts use for it.
 ghost use Rattle.std.specs.Prelude.{◌≡◌, []};
 ghost use Rattle.priority_channel_chronicle.specs.Log.{names};
 
@@ -9,13 +9,13 @@ use logbook::{Start, Word};
 use std::marker::{Brand, Model, PhantomData};
 use std::sync::ledger::{Blank, Ledger, Share};
 
-/// What contracts call one channel by: the name of its log, what it was opened as, and the names of
-/// its ledger. A function that uses a channel is generic in it, so that a pass of another channel
-/// is of another type.
+/// The names that contracts use for one channel: those of its log and its ledger, its capacity, and
+/// whether it is reserved. A function that uses a channel is generic in them, so a pass of another
+/// channel has another type.
 ///
-/// The outermost call passes `Brand`, and its caller says that the names are those of the `Fresh`
-/// that is passed. Where a function `main` of the crate `app` calls `served`, whose parameter
-/// `fresh` is the `Fresh`, the file `proofs/main/Invariants.antt` says:
+/// The outermost call passes `Brand`, and its caller states that the names are those of the `Fresh`
+/// that it passes. If the function `main` of the crate `app` calls `served`, whose parameter
+/// `fresh` is the `Fresh`, the file `proofs/main/Invariants.antt` is:
 ///
 /// ```text
 /// use Rattle.app.proofs.main.Given as goal
@@ -51,7 +51,7 @@ impl Recording for Brand {
     ghost is_reserved = { false };
 }
 
-/// A log without entries and an empty ledger, for one channel to be made of.
+/// A log without entries and an empty ledger, from which one channel is made.
 pub struct Fresh<H: Chronicle> {
     word: Word<Line<H::Entry>, u64, Law<H>>,
     seen: logbook::Seen<Line<H::Entry>, u64, Law<H>>,
@@ -74,8 +74,8 @@ impl<H: Chronicle> Model for Fresh<H> {
 }
 
 impl<H: Chronicle> Fresh<H> {
-    /// For a channel of this capacity, reserved or not, with parts for so many passes. Where passes
-    /// come and go, one part is not given out.
+    /// For a channel of this capacity, reserved or not, with parts of the ledger for that many
+    /// passes. If passes come and leave, one part stays for the calls of those that left.
     #[tactic(auto, using(crate::proofs::Lines::log_new))]
     pub fn new(cap: u64, is_reserved: bool, passes: usize) -> Self
         ensures capacity { result.capacity ≡ cap }
@@ -96,7 +96,7 @@ impl<H: Chronicle> Fresh<H> {
         }
     }
 
-    /// For how many passes it has parts.
+    /// The number of passes for which it has parts.
     pub fn passes(&self) -> usize
         ensures { result ≡ self.now.passes }
     {

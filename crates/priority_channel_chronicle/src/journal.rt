@@ -1,4 +1,5 @@
-//! What is kept of a history under a lock: how many entries it has, and whose calls they are.
+//! What the lock of a channel guards of its history: the number of entries, and whose calls they
+//! are.
 ghost use Rattle.std.specs.Prelude.{◌≡◌, ◌+◌, ◌<◌, ◌≤◌, ◌^◌, [], ◌∷◌, ◌++◌, length, vec_len, All, IfOk};
 ghost use mathlib.Core.List.{IsPrefix};
 ghost use Rattle.priority_channel_chronicle.specs.Passes.{IsTold, Accounts, AreApart, AreNew, calls_made, calls_of};
@@ -13,7 +14,7 @@ use std::marker::Model;
 use std::sync::ledger::Share;
 use std::sync::{Wait, ledger};
 
-/// How many calls were made, a ledger in which those of all passes are counted, and the history.
+/// The number of calls, a ledger that counts those of each pass, and the history.
 #[derive(Drop)]
 pub struct Journal<H: Chronicle, J: Recording> {
     pub(crate) count: u64,
@@ -32,7 +33,7 @@ impl<H: Chronicle, J: Recording> Model for Journal<H, J> {
 }
 
 impl<H: Chronicle, J: Recording> Journal<H, J> {
-    /// A pass that has made no call, whose holder has seen the history as it is.
+    /// A pass that has made no call, and has seen the history as it is.
     pub fn admit(&self, number: u64, share: Share<J>) -> Pass<H, J>
         requires part { share.parts ≡ 1 }
         requires amount { share.amount ≡ 0 }
@@ -46,7 +47,7 @@ impl<H: Chronicle, J: Recording> Journal<H, J> {
         }
     }
 
-    /// As many passes as the share has parts, of a channel of which nothing was called.
+    /// As many passes as the share has parts, for a channel without calls.
     #[tactic(auto, using(crate::proofs::Accounts::new_apart))]
     pub fn first_passes<A: Allocator>(
         &self,
@@ -86,7 +87,7 @@ impl<H: Chronicle, J: Recording> Journal<H, J> {
     {
         let count = next(rt, self.count);
         let seen = append(rt, log, &self.seen, &pass.seen, self.count, telling);
-        // What the passes have is at most the ledger's total, so no count overflows.
+        // The calls of a pass are at most the ledger's total, so no count overflows.
         self.calls.audit(&mut pass.share);
         self.calls.add(&mut pass.share, 1);
         pass.count += 1;
@@ -95,7 +96,7 @@ impl<H: Chronicle, J: Recording> Journal<H, J> {
         self.count = count;
     }
 
-    /// Takes a pass back. Its part and its calls go to the share.
+    /// Takes back a pass. Its part and its calls go to the share.
     pub fn leave<R: Wait>(&self, rt: &R, log: &Log<H, J>, pass: Pass<H, J>, rest: &mut Share<J>)
         ensures parts { rest.new.parts ≡ rest.old.parts + 1 }
         ensures amount { rest.new.amount ≡ rest.old.amount + pass.count }
@@ -106,7 +107,7 @@ impl<H: Chronicle, J: Recording> Journal<H, J> {
         rest.merge(pass.share);
     }
 
-    // The log has no more entries than are kept, so what was seen of it is kept.
+    // The log has no more entries than this journal, so what was seen of it is a prefix of these.
     #[tactic(auto, using(crate::proofs::Fronts::prefix_trans, crate::proofs::Fronts::prefix_whole))]
     fn await_front<R: Wait>(&self, rt: &R, log: &Log<H, J>, seen: &Seen<H, J>)
         ensures { IsPrefix seen.now self.now }
@@ -118,8 +119,8 @@ impl<H: Chronicle, J: Recording> Journal<H, J> {
         }
     }
 
-    /// The whole history, once all passes that are out have come back. The share has the calls of
-    /// those that left before.
+    /// The whole history, once all passes that were out have come back. The share has the calls of
+    /// those that had left.
     pub fn end<R: Wait, A: Allocator>(
         self,
         rt: &R,
@@ -175,8 +176,8 @@ fn next<R: Wait>(rt: &R, count: u64) -> u64
     count + 1
 }
 
-// Adds an entry behind all that was kept, of which what `other` has seen is a front. No one else
-// adds one meanwhile, but no contract can say so.
+// Adds an entry behind `kept`, of which `other` is a prefix. Nobody else adds one meanwhile, but no
+// contract says so.
 fn append<H: Chronicle, J: Recording, R: Wait, X: Telling<H>>(
     rt: &R,
     log: &Log<H, J>,

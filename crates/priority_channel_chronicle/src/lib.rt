@@ -1,7 +1,8 @@
-//! A history of calls that only grows, whatever its entries are and whatever makes it legal.
+//! Histories of calls, which only grow. They are generic in the entries and in what makes a history
+//! legal.
 //!
-//! Who calls has a `Pass`, and what a lock guards has a `Journal`, into which each call is entered.
-//! The contract of a call then tells its pass a legal history that ends with the call's entry.
+//! A caller has a `Pass`. The data behind a lock has a `Journal`, into which each call is entered.
+//! After its call a pass has seen a legal history that ends with the call's entry.
 #![tactic(auto)]
 
 mod entry;

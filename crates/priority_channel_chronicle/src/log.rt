@@ -1,5 +1,5 @@
-//! The log that the callers of one channel share. It exists in contracts alone, but for the number
-//! of its entries.
+//! The log that the callers of one channel share. Except for the number of its entries, it exists
+//! in contracts alone.
 ghost use Rattle.std.specs.Prelude.{◌≡◌, ◌+◌, ◌<◌, ◌^◌, ◌∷◌, [], ◌++◌, length, MatchBool};
 ghost use mathlib.Core.List.{IsPrefix};
 ghost use Rattle.priority_channel_chronicle.specs.Log.{MayFollow};
@@ -10,7 +10,7 @@ use crate::pass::Pass;
 use logbook::{Gain, Offer, Opening, Plain, Play, Rule, Word};
 use std::marker::{Model, PhantomData};
 
-/// A line of the log. The first is the opening of the channel, and each other is a call.
+/// A line of the log. The first is the opening of the channel, and each other one a call.
 pub enum Line<E> {
     Opened(u64, bool),
     Made(E),
@@ -39,7 +39,7 @@ impl<H: Chronicle> Rule<Line<H::Entry>, u64> for Law<H> {
     ghost moves = { λ ask before after answer. Unit {0} };
 }
 
-/// The log of a channel that is opened.
+/// The opening of a log.
 pub struct Opens;
 
 impl<E> Opening<(u64, bool), Line<E>> for Opens {
@@ -57,7 +57,7 @@ impl<E> Gain<Line<E>, u64> for Nothing {
     ghost after = { λ names about answer. ftrue };
 }
 
-/// A step that looks at the log.
+/// A step that reads the log.
 pub struct Look<H: Chronicle> {
     of: PhantomData<H>,
 }
@@ -117,8 +117,8 @@ impl<H: Chronicle, J: Recording> Model for Log<H, J> {
 }
 
 impl<H: Chronicle, J: Recording> Log<H, J> {
-    /// Lets both passes see what either has seen, and the history as it is. It takes no lock and
-    /// waits for nobody.
+    /// Afterwards both passes have seen what either had seen, and the history as it is. It takes no
+    /// lock, and does not wait.
     #[tactic(auto, using(crate::proofs::Fronts::prefix_trans, crate::proofs::Accounts::calls_seen))]
     pub fn meet(&self, one: &mut Pass<H, J>, other: &mut Pass<H, J>)
         ensures one_number { one.new.number ≡ one.old.number }
@@ -149,7 +149,7 @@ impl<H: Chronicle, J: Recording> Log<H, J> {
     }
 }
 
-/// A front of the log that was seen: the fact that it is one, which takes no memory. Contracts see
+/// A prefix of the log that was seen: evidence that it is one, which takes no memory. Contracts see
 /// its entries.
 #[derive(Drop)]
 pub struct Seen<H: Chronicle, J: Recording> {
@@ -170,7 +170,7 @@ impl<H: Chronicle, J: Recording> Model for Seen<H, J> {
 }
 
 impl<H: Chronicle, J: Recording> Seen<H, J> {
-    /// The same once more.
+    /// A copy.
     pub fn again(&self) -> Self
         ensures same { result ≡ self.now }
         ensures legal { H.legal J.capacity J.is_reserved result }
@@ -181,8 +181,8 @@ impl<H: Chronicle, J: Recording> Seen<H, J> {
         }
     }
 
-    /// Takes over what the other has seen.
-    #[tactic(auto, using(crate::proofs::Lines::entries_front, crate::proofs::Lines::same_opening))]
+    /// Adds what the other has seen.
+    #[tactic(auto, using(crate::proofs::Lines::same_opening))]
     pub fn learn(&mut self, other: &Seen<H, J>)
         ensures this { IsPrefix self.old self.new }
         ensures that { IsPrefix other.now self.new }
@@ -191,8 +191,8 @@ impl<H: Chronicle, J: Recording> Seen<H, J> {
         self.token.learn(&other.token);
     }
 
-    // Sees the log as it is, and tells how many entries it has.
-    #[tactic(auto, using(crate::proofs::Lines::entries_front, crate::proofs::Lines::same_opening))]
+    // Reads the log as it is, and returns the number of its entries.
+    #[tactic(auto, using(crate::proofs::Lines::same_opening))]
     pub(crate) fn look(&mut self, log: &Log<H, J>) -> u64
         ensures seen { IsPrefix self.old self.new }
         ensures length { result ≡ length self.new }
@@ -205,8 +205,8 @@ impl<H: Chronicle, J: Recording> Seen<H, J> {
             .load::<Look<H>, Nothing>(&mut self.token, &mut offer)
     }
 
-    // Adds an entry to the log where it has `count` of them, and tells whether it did.
-    #[tactic(auto, using(crate::proofs::Lines::entries_front, crate::proofs::Lines::same_opening))]
+    // Adds an entry to the log if it has `count` entries, and returns whether it did.
+    #[tactic(auto, using(crate::proofs::Lines::same_opening))]
     pub(crate) fn append<X: Telling<H>>(&mut self, log: &Log<H, J>, count: u64, telling: &X) -> bool
         requires room { count + 1 < 2 ^ 64 }
         requires next { MayFollow H.legal J.capacity J.is_reserved self.old count

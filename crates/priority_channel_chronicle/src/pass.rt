@@ -8,9 +8,8 @@ use crate::log::Seen;
 use std::marker::Model;
 use std::sync::ledger::Share;
 
-/// The right to call a channel, for one holder at a time. Contracts see its number, how many calls
-/// were made with it, and the history that its holder has seen. It takes the memory of the two
-/// numbers alone.
+/// The right to call a channel. It cannot be copied. Contracts see its number, the number of calls
+/// that were made with it, and the history that it has seen. In memory it is the two numbers alone.
 #[derive(Drop)]
 pub struct Pass<H: Chronicle, J: Recording> {
     pub(crate) number: u64,
@@ -32,21 +31,21 @@ impl<H: Chronicle, J: Recording> Model for Pass<H, J> {
 }
 
 impl<H: Chronicle, J: Recording> Pass<H, J> {
-    /// Under which its calls are entered.
+    /// The number under which its calls are entered.
     pub fn number(&self) -> u64
         ensures { result ≡ self.now.number }
     {
         self.number
     }
 
-    /// How many calls were made with it.
+    /// The number of calls that were made with it.
     pub fn count(&self) -> u64
         ensures { result ≡ self.now.count }
     {
         self.count
     }
 
-    /// Takes over what the holder of the other has seen.
+    /// Adds what the other has seen.
     #[tactic(auto, using(crate::proofs::Accounts::calls_seen))]
     pub fn learn(&mut self, other: &Self)
         ensures number { self.new.number ≡ self.old.number }

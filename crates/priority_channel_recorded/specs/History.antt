@@ -1,4 +1,4 @@
--- Histories of calls: who called, what, and what was answered.
+-- Histories of calls: for each, the number of its pass, the call, and the reply.
 use Rattle.std.specs.Prelude.{◌≡◌, ℕ, true, List, [], Option, Some, None, refl}
 use Rattle.std.specs.List.{AllZip}
 use Rattle.std.specs.declared.cmp.Ordering.{Ordering}
@@ -13,7 +13,7 @@ use Rattle.priority_channel_recorded.specs.declared.book.Reply.{Reply}
 use Rattle.priority_channel_recorded.specs.declared.book.Reply.TheVariants.{Sent, Displaced, Received, Bool as Truth, Len as Count}
 use Rattle.priority_channel_recorded.specs.declared.book.Entry.{Entry}
 
--- nobody waits for a recorded channel
+-- no waiters: nobody waits in a recorded channel
 abbrev pub Machine : Type 0 → Type 0 → Type 0
 Machine T P = State T P (Unit {0})
 

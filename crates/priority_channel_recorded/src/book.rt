@@ -1,4 +1,4 @@
-//! One caller's channel with the history of its calls.
+//! A channel for one caller, with the history of its calls.
 ghost use Rattle.std.specs.Prelude.{◌≡◌, ◌<◌, ◌≤◌, ◌^◌, true, [], ◌∷◌, ◌++◌, length, vec_capacity, IfOk, OnErr, Some, codes};
 ghost use Rattle.priority_channel_core.specs.machine.State.{opening};
 ghost use Rattle.priority_channel_recorded.specs.History.{entry, IsHistory, IsStep};
@@ -11,7 +11,7 @@ use std::error::Error;
 use std::fmt;
 use std::marker::Model;
 
-/// A call that is recorded.
+/// A call that a book records.
 #[derive(Clone, Copy, Debug, PartialEq, Eq)]
 pub enum Call<T, P> {
     TrySend(T, P),
@@ -24,12 +24,12 @@ pub enum Call<T, P> {
     Len,
 }
 
-/// What a recorded call answered.
+/// The reply to a recorded call.
 #[derive(Clone, Copy, Debug, PartialEq, Eq)]
 pub enum Reply<T, P> {
     /// To `TrySend`.
     Sent(Result<(), TrySendError<(T, P)>>),
-    /// To `TrySendEvicting`, what it displaced.
+    /// To `TrySendEvicting`, with the displaced pair.
     Displaced(Result<Option<(T, P)>, TrySendError<(T, P)>>),
     /// To `TryRecv`.
     Received(Result<(T, P), TryRecvError>),
@@ -40,7 +40,7 @@ pub enum Reply<T, P> {
     Len(u64),
 }
 
-/// A call that was made: by whom, and what it answered.
+/// A call: the caller's number, the call, and the reply.
 #[derive(Clone, Copy, Debug, PartialEq, Eq)]
 pub struct Entry<T, P> {
     pub who: u64,
@@ -111,9 +111,9 @@ impl<T: Copy, P: Copy + Ord, A: Allocator + Copy> Book<T, P, A> {
         Ok(Book { channel, history })
     }
 
-    /// Makes a call, and enters it under the caller's number with what it answered. Where there is
-    /// no memory for the entry the call is not made; that never comes as long as there are fewer
-    /// entries than memory was had for.
+    /// Makes a call, and enters it with its reply under the caller's number. If memory for the
+    /// entry is refused, the call is not made. That does not happen before `entries` entries are
+    /// made.
     #[tactic(auto, using(crate::proofs::Histories::history_more))]
     pub fn record(&mut self, who: u64, call: Call<T, P>) -> Result<Reply<T, P>, NoMemory>
         ensures step { IfOk result (λ reply.
@@ -173,7 +173,7 @@ fn make<T: Copy, P: Copy + Ord, A: Allocator + Copy>(
     }
 }
 
-// Nobody waits for a recorded channel, so there is nobody to wake.
+// Nobody waits in a recorded channel, so there is nobody to wake.
 fn unwoken<R, A: Allocator>(told: (R, Wakes<(), A>)) -> R
     ensures { result ≡ told.0 }
 {

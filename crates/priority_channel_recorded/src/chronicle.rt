@@ -1,11 +1,11 @@
-//! What is told of a recorded channel: the calls of its book.
+//! The histories of a recorded channel: the calls of its book.
 ghost use Rattle.std.specs.Prelude.{◌≡◌};
 
 use crate::book::Entry;
 use priority_channel_chronicle::{Chronicle, Telling};
 use std::marker::{Model, PhantomData};
 
-/// The chronicle of a recorded channel of such messages and priorities.
+/// Histories of a recorded channel with these messages and priorities.
 pub struct Calls<T, P: Ord> {
     of: PhantomData<(T, P)>,
 }
@@ -29,10 +29,10 @@ impl<T, P: Ord> Telling<Calls<T, P>> for Entry<T, P> {
 
 pub type Log<T, P, J> = priority_channel_chronicle::Log<Calls<T, P>, J>;
 
-/// The right to call a recorder, for one holder at a time.
+/// The right to call a recorder.
 pub type Pass<T, P, J> = priority_channel_chronicle::Pass<Calls<T, P>, J>;
 
-/// A log without entries and an empty ledger, for one recorder to be made of.
+/// A log without entries and an empty ledger, from which one recorder is made.
 pub struct Fresh<T, P: Ord> {
     pub(crate) fresh: priority_channel_chronicle::Fresh<Calls<T, P>>,
 }
@@ -46,7 +46,7 @@ impl<T, P: Ord> Model for Fresh<T, P> {
 }
 
 impl<T, P: Ord> Fresh<T, P> {
-    /// For a recorder of a channel of this capacity, with so many passes.
+    /// For a recorder of a channel of this capacity, with that many passes.
     pub fn new(cap: u64, passes: usize) -> Self
         ensures capacity { result.capacity ≡ cap }
         ensures passes { result.passes ≡ passes }

@@ -1,8 +1,8 @@
-//! A channel that keeps the history of its calls: who called, what, and what was answered.
+//! A channel that keeps the history of its calls: the caller, the call, and the reply.
 //!
-//! A `Book` is for one caller, and a `Recorded` for many threads, each with a `Pass`. A pass tells
-//! in its contracts which history its holder has seen, so that a caller can conclude from its own
-//! replies what the others did. A caller has both in `async_priority_channel`.
+//! A `Book` is for one caller, and a `Recorded` for many threads, each with a `Pass`. Contracts see
+//! the history that a pass has seen, so a caller can conclude from its own replies what the others
+//! did. `async_priority_channel` exports both, as `recorded`.
 #![tactic(auto)]
 
 mod book;

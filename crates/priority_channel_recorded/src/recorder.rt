@@ -1,4 +1,4 @@
-//! A channel whose calls many threads make, with the history of them all.
+//! A channel that many threads call, with the history of all calls.
 ghost use Rattle.std.specs.Prelude.{◌≡◌, ◌+◌, ◌<◌, ◌≤◌, ◌^◌, ◌∷◌, [], ◌++◌, length, vec_len, All, IfOk, OnErr};
 ghost use mathlib.Core.List.{IsPrefix};
 ghost use Rattle.priority_channel_recorded.specs.History.{entry, IsStep};
@@ -18,7 +18,7 @@ use std::sync::{Mutex, Wait};
 struct Guarded<T, P: Ord, J: Recording, A: Allocator> {
     book: Book<T, P, A>,
     journal: Journal<Calls<T, P>, J>,
-    // For `end` to merge the passes' shares into.
+    // `end` merges the passes' shares into it.
     none: Share<J>,
 }
 
@@ -68,16 +68,20 @@ impl<T: Copy, P: Copy + Ord, J: Recording, A: Allocator + Copy> Guarded<T, P, J,
 
 /// A reserved channel that many threads call, each with its pass, and the history of their calls.
 ///
-/// Each call is one step, in one hold of the recorder's lock. A pass learns the history up to its
-/// own call, so what its holder has seen begins what it sees later, what it sees when it meets
-/// another, and what is told at the end.
+/// Each call is one step, in one hold of the recorder's lock. After a call its pass has seen the
+/// history up to that call. What a pass has seen is a prefix of what it sees later, of what it has
+/// seen after it meets another pass, and of the whole history, which `end` returns.
 ///
 /// ```
 /// ghost use Rattle.std.specs.Prelude.{◌≡◌, IfOk};
 /// ghost use Rattle.std.specs.Ordering.{nat_cmp};
 /// ghost use Rattle.priority_channel_recorded.specs.Log.{names, IsLegal};
 ///
-/// fn audited<J: Recording, R: Wait>(rt: &R, alloc: Global, fresh: Fresh<u64, u8>) -> Result<History<u64, u8>, AllocError>
+/// fn audited<J: Recording, R: Wait>(
+///     rt: &R,
+///     alloc: Global,
+///     fresh: Fresh<u64, u8>,
+/// ) -> Result<History<u64, u8>, AllocError>
 ///     requires names { fresh ≡ names J.log J.capacity J.is_reserved J.name J.parts }
 ///     requires capacity { fresh.capacity ≡ 4 }
 ///     requires passes { fresh.passes ≡ 2 }
@@ -137,9 +141,8 @@ impl<T: Copy, P: Copy + Ord, J: Recording, A: Allocator + Copy> Recorded<T, P, J
         ))
     }
 
-    /// Makes a call under the pass's number, and enters it with what it answered. Where there is no
-    /// memory for the entry the call is not made; that never comes before there are as many entries
-    /// as memory was had for.
+    /// Makes a call, and enters it with its reply under the pass's number. If memory for the entry
+    /// is refused, the call is not made. That does not happen before `entries` entries are made.
     pub fn call<R: Wait>(
         &self,
         rt: &R,
@@ -155,8 +158,8 @@ impl<T: Copy, P: Copy + Ord, J: Recording, A: Allocator + Copy> Recorded<T, P, J
         self.guarded.lock(rt).call(rt, &self.log, pass, call)
     }
 
-    /// Lets both passes see what either has seen, and the history as it is. It takes no lock and
-    /// waits for nobody.
+    /// Afterwards both passes have seen what either had seen, and the history as it is. It takes no
+    /// lock, and does not wait.
     pub fn meet(&self, one: &mut Pass<T, P, J>, other: &mut Pass<T, P, J>)
         ensures one_number { one.new.number ≡ one.old.number }
         ensures one_count { one.new.count ≡ one.old.count }
@@ -170,8 +173,8 @@ impl<T: Copy, P: Copy + Ord, J: Recording, A: Allocator + Copy> Recorded<T, P, J
         self.log.meet(one, other);
     }
 
-    /// Ends the recording, once all passes have come back, and tells the history, which nothing
-    /// shows before. So no pass may be lost.
+    /// Ends the recording once all passes have come back, and returns the history of all calls. No
+    /// pass may be lost: without all of them the whole history is not known.
     #[tactic(auto, using(crate::proofs::Histories::legal_at))]
     pub fn end<R: Wait>(self, rt: &R, passes: Vec<Pass<T, P, J>, A>) -> History<T, P, A>
         requires all { vec_len passes ≡ J.parts }
@@ -193,7 +196,7 @@ impl<T: Copy, P: Copy + Ord, J: Recording, A: Allocator + Copy> Recorded<T, P, J
     }
 }
 
-/// What a recorder has told: the history of all calls.
+/// The history of all calls of a recorder.
 #[derive(Drop)]
 pub struct History<T, P, A: Allocator = Global> {
     entries: Vec<Entry<T, P>, A>,

@@ -1,5 +1,5 @@
--- Histories of calls: who called, what, the answer, and the waiters that it woke. They exist in
--- contracts alone.
+-- Histories of calls: for each, its pass's number, the call, the answer, and the waiters that it
+-- woke. They exist in contracts alone.
 use Rattle.std.specs.Prelude.{ℕ, Bool, List, [], map, refl}
 use Rattle.std.specs.declared.cmp.Ordering.{Ordering}
 use Rattle.priority_channel_core.specs.machine.State.{State, Handed, opening}
@@ -45,7 +45,7 @@ module _ {T P W : Type 0} where
       pub so_far : IsHistory capacity is_reserved before old
       pub step : Step cmp is_clone old last.call last.answer last.handed new
 
-    -- nothing was called yet
+    -- the history without calls
     pub legal_none : (capacity : ℕ) (is_reserved : Bool) → IsLegal capacity is_reserved []
     legal_none capacity is_reserved = record {
       state = opening capacity is_reserved;

@@ -1,4 +1,4 @@
--- The pairs of a bulk send, which a vector's iterator gives that may have been peeked.
+-- The pairs of a bulk send: those of a vector's iterator that may have been peeked.
 use Rattle.std.specs.Prelude.{List, [], ◌∷◌, Option, Some, None, Result, Ok, Err}
 use Rattle.std.specs.declared.vec.IntoIter.{IntoIter}
 use Rattle.std.specs.declared.iter.Ahead.{Ahead}
@@ -10,7 +10,7 @@ use Rattle.priority_channel_core.specs.declared.errors.TrySendError.TheVariants.
 use Rattle.priority_channel_core.specs.declared.errors.SendFault.{SendFault}
 use Rattle.priority_channel_core.specs.declared.errors.SendFault.TheVariants as send
 
--- what is given where this was peeked, and these items stand behind it
+-- all that is given if this was peeked, and these items stand behind it
 abbrev pub behind : {X : Type 0} → Option (Option X) → List X → List X
 behind None items = items
 behind (Some None) items = []
@@ -21,7 +21,7 @@ module _ {X Z : Type 0} where
   abbrev pub list_in : Ahead (IntoIter X Z) X → List X
   list_in msgs = behind msgs.peeked (into_iter_items msgs.iter)
 
-  -- the machine's reply to a bulk send, in which lists come back
+  -- the machine's reply to a bulk send, with lists in place of iterators
   abbrev pub listed : Result (Unit {0}) (TrySendError (Ahead (IntoIter X Z) X))
       → Result (Unit {0}) (TrySendError (List X))
   listed (Ok done) = Ok tt
@@ -29,7 +29,7 @@ module _ {X Z : Type 0} where
   listed (Err (Full rest)) = Err (Full (list_in rest))
   listed (Err (Memory rest)) = Err (Memory (list_in rest))
 
-  -- and its answer to a poll
+  -- the machine's answer to its poll
   abbrev pub listed_poll
       : CorePoll (Result (Unit {0}) (SendFault (Ahead (IntoIter X Z) X))) (Ahead (IntoIter X Z) X)
       → CorePoll (Result (Unit {0}) (SendFault (List X))) (List X)

@@ -1,4 +1,4 @@
--- What a caller's pass carries, and what a call adds to it.
+-- What a pass carries, and what a call adds to it.
 use Rattle.std.specs.Prelude.{◌≡◌, ◌==◌, ◌≤◌, ℕ, Bool, true, not, ◌&&◌, List, [], ◌∷◌, ◌+◌, length, count_by}
 use Rattle.std.specs.List.{sum_by}
 use Rattle.std.specs.declared.cmp.Ordering.{Ordering}
@@ -35,8 +35,8 @@ module _ {T P W : Type 0} where
   abbrev pub calls_under : List ℕ → List (Entry T P W) → ℕ
   calls_under numbers history = sum_by (λ number. calls_of number history) numbers
 
-  -- Each entry stands under a number below the next. So many calls of passes that left are among
-  -- those under other numbers than those of the passes that are out.
+  -- Each entry stands under a number below the next. `left` calls, of passes that left, stand under
+  -- other numbers than those of the passes that are out.
   pub record IsShared (out : List ℕ) (next left : ℕ) (history : List (Entry T P W)) : Type 0 where
     pub below : (number : ℕ) → next ≤ number → calls_of number history ≡ 0
     pub others : left + calls_under out history ≤ length history
@@ -50,15 +50,14 @@ pub record AreGiven (numbers : List ℕ) (next : ℕ) : Type 0 where
   pub once : (number : ℕ) → times_in number numbers ≤ 1
   pub below : (number : ℕ) → next ≤ number → times_in number numbers ≡ 0
 
--- Now a legal history of such a channel was seen that begins with all that had been seen, is
--- longer, and ends with this entry. Under the pass's number it has at least as many entries as the
--- pass has made calls.
+-- `new` has seen a legal history of such a channel. It begins with all that `old` had seen, is
+-- longer, and ends with this entry. Under its number stand at least as many entries as its count.
 abbrev pub IsTold : {T P W : Type 0} → (P → P → Ordering) → (W → W → Type 0) → ℕ → Bool
     → Carried T P W → Entry T P W → Carried T P W → Type 0
 IsTold cmp is_clone capacity is_reserved =
     chronicle.IsTold who_of (IsLegal cmp is_clone capacity is_reserved)
 
--- One more call was made with the pass, under its number, and it was told of that call.
+-- one more call was made with the pass, under its number, and the pass has seen that call
 pub record Tells {T P W : Type 0} (cmp : P → P → Ordering) (is_clone : W → W → Type 0)
     (capacity : ℕ) (is_reserved : Bool) (old : Carried T P W) (made : Calls T P W)
     (reply : Answers T P) (handed : Handed W) (new : Carried T P W) : Type 0 where

@@ -1,4 +1,4 @@
--- What a caller tells the log of its call.
+-- The entry that a call makes in the log.
 use Rattle.std.specs.Prelude.{Option, Some, None}
 use Rattle.std.specs.declared.snapshot.Snapshot.{Snapshot}
 use Rattle.priority_channel_core.specs.declared.calls.Call.TheVariants as call
@@ -12,13 +12,13 @@ use Rattle.priority_channel_witnessed.specs.declared.entry.Telling.{Telling}
 use Rattle.priority_channel_witnessed.specs.History.{entry}
 use Rattle.priority_channel_witnessed.specs.Items.{list_in, listed, listed_poll}
 
--- whom a call woke, if it wakes
+-- the waiters that a call woke, if it is of those that wake
 abbrev pub handed_told : {W : Type 0} → Option (Snapshot (Handed W)) → Handed W
 handed_told None = nobody
 handed_told (Some handed) = handed.value
 
 module _ {T P W A : Type 0} where
-  -- the call of which this is told, and its answer
+  -- the call that the snapshots are of, and its answer
   abbrev pub made_of : Told T P W A → Calls T P W × Answers T P
   made_of (TrySend msg priority reply) =
       (call.TrySend msg.value priority.value, answer.TrySend reply.value)
@@ -45,7 +45,7 @@ module _ {T P W A : Type 0} where
       (call.PollRecv ticket waker.value, answer.PollRecv reply.value)
   made_of (GiveUp ticket) = (call.GiveUp ticket, answer.GiveUp)
 
-  -- its entry
+  -- the entry of the call
   abbrev pub told_entry : Telling T P W A → Entry T P W
   told_entry telling = entry telling.who (made_of telling.told).0 (made_of telling.told).1
       (handed_told telling.handed)

@@ -1,4 +1,4 @@
--- What a caller knows of its own call, whatever others do.
+-- What a caller knows after its own call, whatever others do.
 use Rattle.std.specs.Prelude.{◌≡◌, ℕ, false, Bool, List, ◌++◌}
 use Rattle.std.specs.declared.cmp.Ordering.{Ordering}
 use Rattle.priority_channel_bag.specs.Greatest.{TakesGreatest}
@@ -8,19 +8,19 @@ use Rattle.priority_channel_witnessed.specs.History.{IsHistory}
 
 module _ {T P W : Type 0} (cmp : P → P → Ordering) (is_clone : W → W → Type 0) (capacity : ℕ)
     (is_reserved : Bool) where
-  -- the channel came to this state behind all that had been seen
+  -- the channel came to this state after all that had been seen
   pub record Reaches (seen : List (Entry T P W)) (state : State T P W) : Type 0 where
     pub between : List (Entry T P W)
     pub history : IsHistory cmp is_clone capacity is_reserved (seen ++ between) state
 
-  -- the pair was the first among the most urgent that were pending
+  -- the pair was the first of the pending pairs of greatest priority
   pub record WasMostUrgent (seen : List (Entry T P W)) (pair : T × P) : Type 0 where
     pub state : State T P W
     pub reached : Reaches seen state
     pub rest : List (T × P)
     pub takes : TakesGreatest cmp state.pending pair rest
 
-  -- the channel was open, and had no room
+  -- the channel was open and full
   pub record WasFull (seen : List (Entry T P W)) : Type 0 where
     pub state : State T P W
     pub reached : Reaches seen state

@@ -1,4 +1,4 @@
--- The calls of a wait, and how it ends.
+-- The calls that a wait makes, and how it ends.
 use Rattle.std.specs.Prelude.{◌≡◌, ℕ, Bool, Option, Some, None, Result, Ok, Err, IfErr, IfSome, IsSomeAnd}
 use Rattle.std.specs.Result.{result_map_both}
 use Rattle.std.specs.declared.cmp.Ordering.{Ordering}
@@ -25,14 +25,14 @@ use Rattle.priority_channel_waiting.specs.Waits.{recv_fault_in_time, send_fault_
 use Rattle.priority_channel_witnessed.specs.Items.{list_in, listed, listed_poll}
 use Rattle.priority_channel_witnessed.specs.Passes.{Carried, Tells}
 
--- A wait has ended, with its reply, or with what is left where its time is over. Or this is left,
--- and listed under this ticket, if any.
+-- A wait has ended: with its reply, or, if its time is over, with the work that is left. Or work is
+-- left, and is listed under this ticket, if any.
 pub data Ending (R X : Type 0) : Type 0 where
   ends : Result R X → Ending R X
   left : X → Option ℕ → Ending R X
 
--- A future: its pass and what is left, until its answer; its ticket, once it is listed; and the
--- source of its wakes.
+-- a future: its pass and the work that is left, until it has answered; its ticket, once listed; and
+-- the source of its wakes
 pub record Underway (S X : Type 0) : Type 0 where
   pub holds : Option (S × X)
   pub ticket : Option ℕ
@@ -42,38 +42,38 @@ pub record Underway (S X : Type 0) : Type 0 where
 abbrev pub without_evidence : {R X O : Type 0} → Result R (X × O) → Result R X
 without_evidence result = result_map_both (λ reply. reply) (λ rest. rest.0) result
 
--- what a receive with a limit gives at such an end
+-- what a receive with a time limit returns
 abbrev pub recv_result : {X C : Type 0} → Result (Result X RecvFault) C → Result X RecvTimeoutError
 recv_result (Ok received) = result_map_both (λ pair. pair) recv_fault_in_time received
 recv_result (Err call) = Err recv_late.Timeout
 
--- and a send
+-- what a send with a time limit returns
 abbrev pub send_result : {K : Type 0} → Result (Result (Unit {0}) (SendFault K)) K
     → Result (Unit {0}) (SendTimeoutError K)
 send_result (Ok sent) = result_map_both (λ done. done) send_fault_in_time sent
 send_result (Err rest) = Err (send_late.Timeout rest)
 
--- Where a try was blocked, the time is over, the wait goes on, or memory for it is refused. Other
--- tries end it as polls of that reply.
+-- After a blocked try the time is over, the wait goes on, or memory for it is refused. Other tries
+-- end the wait with their reply.
 abbrev pub Tried : {Q R X : Type 0} → (Q → Option ℕ → Option (CorePoll R X)) → (X → Q) → Q
     → Ending R X → Type 0
 Tried polled blocked reply (ends (Ok told)) = polled reply None ≡ Some (Ready told)
 Tried polled blocked reply (ends (Err rest)) = reply ≡ blocked rest
 Tried polled blocked reply (left rest ticket) = (reply ≡ blocked rest) × (ticket ≡ None)
 
--- A poll ends the wait, or lists it.
+-- a poll ends the wait, or lists it
 abbrev pub polled_to : {R X : Type 0} → CorePoll R X → Ending R X
 polled_to (Ready reply) = ends (Ok reply)
 polled_to (Pending rest at) = left rest (Some at)
 
--- what comes back of a send is what it was to send
+-- a send gives back the message that it was given
 abbrev pub IsBack : {Q : Type 0} → Q → Ending (Result (Unit {0}) (SendFault Q)) Q → Type 0
 IsBack pair (ends (Ok sent)) = IfErr sent (λ fault. unsent fault ≡ pair)
 IsBack pair (ends (Err kept)) = kept ≡ pair
 IsBack pair (left kept ticket) = kept ≡ pair
 
 module _ {T P W : Type 0} where
-  -- The calls of a receive: tries while it is not listed, and polls under its ticket.
+  -- the calls of a receive: tries while it is not listed, and polls under its ticket
   abbrev pub RecvCalls : Unit {0} → Option ℕ → Calls T P W → Answers T P
       → Ending (Result (T × P) RecvFault) (Unit {0}) → Type 0
   RecvCalls nothing ticket call.TryRecv (answer.TryRecv reply) ending =
@@ -82,7 +82,7 @@ module _ {T P W : Type 0} where
       (given ≡ ticket) × (ending ≡ polled_to polled)
   RecvCalls nothing ticket made reply ending = ⊥
 
-  -- of a send of this pair
+  -- the calls of a send of this pair
   abbrev pub SendMade : T × P → Option ℕ → Calls T P W → Answers T P
       → Ending (Result (Unit {0}) (SendFault (T × P))) (T × P) → Type 0
   SendMade pair ticket (call.TrySend msg priority) (answer.TrySend reply) ending =
@@ -97,7 +97,7 @@ module _ {T P W : Type 0} where
   SendCalls pair ticket made reply ending =
       IsBack pair ending × SendMade pair ticket made reply ending
 
-  -- of a send of these pairs, of which any may be left
+  -- the calls of a bulk send of these pairs
   abbrev pub SendvCalls : {Z : Type 0} → Ahead (IntoIter (T × P) Z) (T × P) → Option ℕ
       → Calls T P W → Answers T P
       → Ending (Result (Unit {0}) (SendFault (Ahead (IntoIter (T × P) Z) (T × P))))
@@ -115,7 +115,7 @@ module _ {T P W : Type 0} where
 
 module _ {T P W : Type 0} (cmp : P → P → Ordering) (is_clone : W → W → Type 0) (capacity : ℕ)
     (is_reserved : Bool) where
-  -- The pass made one more call, which came to this.
+  -- the pass made one more call, with this result
   pub record Makes {E : Type 0} (comes_to : Calls T P W → Answers T P → E → Type 0)
       (old : Carried T P W) (ending : E) (new : Carried T P W) : Type 0 where
     pub made : Calls T P W
@@ -126,8 +126,8 @@ module _ {T P W : Type 0} (cmp : P → P → Ordering) (is_clone : W → W → T
 
   module _ {R X : Type 0}
       (calls : X → Option ℕ → Calls T P W → Answers T P → Ending R X → Type 0) where
-    -- The calls of a wait, all that the pass made: what one leaves is for the next one, and the
-    -- last one comes to this. Only a wait that ends gives its ticket up.
+    -- The calls of a wait: each takes up the work that the one before it left, and the last one has
+    -- this result. Only a wait that ends gives up its ticket.
     pub data ComesTo : Carried T P W → X → Option ℕ → Ending R X → Carried T P W → Type 0 where
       at_last : {old new : Carried T P W} {own : X} {ticket : Option ℕ} {ending : Ending R X}
           → Makes (calls own ticket) old ending new
@@ -143,12 +143,12 @@ module _ {T P W : Type 0} (cmp : P → P → Ordering) (is_clone : W → W → T
           → ComesTo mid own None (ends end) new
           → ComesTo old own (Some ticket) (ends end) new
 
-    -- what a future gives: a reply, and its pass
+    -- what a future returns: a reply, and its pass
     abbrev pub Gives : Underway (Carried T P W) X → R × Carried T P W → Type 0
     Gives future given = IsSomeAnd future.holds
         (λ held. ComesTo held.0 held.1 future.ticket (ends (Ok given.0)) given.1)
 
-    -- it is listed, with its pass and what is left
+    -- it is listed, with its pass and the work that is left
     abbrev pub WaitsOn : Underway (Carried T P W) X → Underway (Carried T P W) X → Type 0
     WaitsOn old new = IfSome old.holds (λ before. IsSomeAnd new.holds (λ after.
         IsSomeAnd new.ticket

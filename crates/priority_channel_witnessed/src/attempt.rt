@@ -1,4 +1,4 @@
-//! What can be called again and again until it is answered: a receive, a send, a bulk send.
+//! The calls that are tried until they are answered: a receive, a send, a bulk send.
 ghost use Rattle.std.specs.Prelude.{◌≡◌, ℕ, Option, Some, None, Ok, Err, IfOk, IfErr};
 ghost use Rattle.priority_channel_core.specs.declared.errors.TrySendError.TheVariants.{Full};
 ghost use Rattle.priority_channel_core.specs.declared.calls.Call.TheVariants as call;
@@ -21,21 +21,20 @@ use priority_channel_waiting::waiter::{Waiter, wake_all};
 use std::alloc::Allocator;
 use std::sync::Wait;
 
-/// A call that waits until it is answered. Each of its calls of the channel wakes the waiters that
-/// it lets go on.
+/// A call that is tried until it is answered. Each try wakes the waiters that it lets go on.
 pub trait Attempt<T, P: Ord, W: Clone, J: Recording, A: Allocator + Copy>: Sized {
     type Reply;
 
-    // What a call of the channel comes to, where this is left and listed under that ticket.
+    // How a call of the channel may end, if this is left to do and listed under that ticket.
     ghost calls: { Self → Option ℕ → Calls T P W → Answers T P → Ending Self.Reply Self → Type 0 };
 
-    // The call by which it is tried.
+    // The call of the channel that a try makes.
     ghost tries: { Self → Calls T P W };
 
-    // The reply where memory for a wait is refused.
+    // The reply if memory for waiting is refused.
     ghost no_memory: { Self → Self.Reply };
 
-    // The source at which its tasks are woken, of that for room and that for a message.
+    // The source that wakes its tasks: of the two, the one for room or the one for a message.
     ghost woken_at: { ℕ → ℕ → ℕ };
 
     fn source(channel: &Witnessed<T, P, W, J, A>) -> &Source
@@ -44,7 +43,7 @@ pub trait Attempt<T, P: Ord, W: Clone, J: Recording, A: Allocator + Copy>: Sized
     fn refuse(self) -> Self::Reply
         ensures { result ≡ no_memory self };
 
-    /// A try, which gives back what is left.
+    /// A try. It returns what is left to do.
     fn now<R: Wait>(
         self,
         channel: &Witnessed<T, P, W, J, A>,
@@ -60,7 +59,7 @@ pub trait Attempt<T, P: Ord, W: Clone, J: Recording, A: Allocator + Copy>: Sized
         ensures tried { (reply : _) × (handed : _) × Tells P.cmp W.is_clone J.capacity J.is_reserved
             pass.old (tries self) reply handed pass.new };
 
-    /// A poll, which gives back what is left, and the ticket under which that is listed.
+    /// A poll. It returns what is left to do, and the ticket under which that is listed.
     fn or_list<R: Wait>(
         self,
         channel: &Witnessed<T, P, W, J, A>,
@@ -75,7 +74,7 @@ pub trait Attempt<T, P: Ord, W: Clone, J: Recording, A: Allocator + Copy>: Sized
             (calls self ticket) pass.old (left rest.0 (Some rest.1)) pass.new) };
 }
 
-/// A receive of one pair, which needs nothing.
+/// A receive of one pair.
 impl<T, P: Ord, J: Recording, A: Allocator + Copy> Attempt<T, P, Waiter<A>, J, A> for () {
     ghost use Rattle.priority_channel_core.specs.declared.errors.RecvFault.TheVariants.{Memory};
     ghost use Rattle.priority_channel_witnessed.specs.Waits.{RecvCalls};
@@ -226,7 +225,7 @@ impl<T: Drop, P: Ord + Drop, J: Recording, A: Allocator + Copy> Attempt<T, P, Wa
     }
 }
 
-// What a try to send comes to.
+// How a try to send ends.
 fn outcome_of<K>(sent: Result<(), TrySendError<K>>) -> Result<Result<(), SendFault<K>>, K>
     ensures ended { Tried send_answer (λ rest. Err (Full rest)) sent (ends result) }
     ensures refused { IfErr result (λ rest.

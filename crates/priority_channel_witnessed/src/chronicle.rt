@@ -1,10 +1,10 @@
-//! What is told of a channel: the calls of its machine.
+//! The histories of a channel: calls of its machine.
 use crate::entry::{Entry, Telling};
 use priority_channel_chronicle::Chronicle;
 use std::alloc::Allocator;
 use std::marker::PhantomData;
 
-/// The chronicle of a channel of such messages, priorities and wakers.
+/// Histories of a channel with these messages, priorities and wakers.
 pub struct Calls<T, P: Ord, W: Clone> {
     of: PhantomData<(T, P, W)>,
 }
@@ -33,8 +33,8 @@ pub type Fresh<T, P, W> = priority_channel_chronicle::Fresh<Calls<T, P, W>>;
 
 pub type Log<T, P, W, J> = priority_channel_chronicle::Log<Calls<T, P, W>, J>;
 
-/// A front of the log that was seen.
+/// A prefix of the log that was seen.
 pub type Seen<T, P, W, J> = priority_channel_chronicle::Seen<Calls<T, P, W>, J>;
 
-/// The right to call a channel, for one holder at a time.
+/// The right to call a channel.
 pub type Pass<T, P, W, J> = priority_channel_chronicle::Pass<Calls<T, P, W>, J>;

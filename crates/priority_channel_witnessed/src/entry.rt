@@ -1,4 +1,4 @@
-//! A call as an entry of the history, and what its caller tells of it.
+//! A call as an entry of the history, and what the code records of it.
 use priority_channel_core::awaitable_atomics::Wakes;
 use priority_channel_core::calls::{Answer, Call, CorePoll};
 use priority_channel_core::errors::{RecvFault, SendFault, TryRecvError, TrySendError};
@@ -11,8 +11,8 @@ use std::vec::IntoIter;
 /// The pairs of a bulk send and what comes back of them: the `Peekable` of a vector.
 pub type Pairs<T, P, A> = Ahead<IntoIter<(T, P), A>, (T, P)>;
 
-/// A call that was made: by whom, what it answered, and which waiters it woke. Only contracts have
-/// entries: no value of this type is made.
+/// A call: the number of its pass, the call with its answer, and the waiters that it woke. Entries
+/// exist in contracts alone: no value of this type is made.
 pub struct Entry<T, P, W> {
     pub who: u64,
     pub call: Call<T, P, W, LinkedList<(T, P)>, u64>,
@@ -20,7 +20,7 @@ pub struct Entry<T, P, W> {
     pub handed: Wakes<W>,
 }
 
-/// What is told of a call, in snapshots, which take no memory and leave the values where they are.
+/// A call with its answer, in snapshots. These take no memory, and leave the values where they are.
 #[derive(Drop)]
 pub enum Told<T, P, W, A: Allocator> {
     TrySend(Snapshot<T>, Snapshot<P>, Snapshot<Result<(), TrySendError<(T, P)>>>),
@@ -56,7 +56,8 @@ pub enum Told<T, P, W, A: Allocator> {
     GiveUp(u64),
 }
 
-/// Who made a call, what is told of it, and which waiters it woke, if it is of those that wake.
+/// The number of a call's pass, the call with its answer, and the waiters that it woke. None for a
+/// call that wakes no waiter.
 #[derive(Drop)]
 pub struct Telling<T, P, W, A: Allocator> {
     pub who: u64,

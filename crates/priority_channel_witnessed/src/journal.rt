@@ -26,7 +26,7 @@ pub(crate) struct Journal<T, P: Ord, W: Clone, J: Recording, A: Allocator> {
     // The numbers of the passes that are out, and the next number.
     out: Vec<u64, A>,
     next: u64,
-    // Of so many parts in all, those that no pass has. The calls of passes that left count here.
+    // The number of all parts, and those that no pass has, with the calls of passes that left.
     parts: usize,
     rest: Share<J>,
 }
@@ -45,7 +45,7 @@ impl<T, P: Ord, W: Clone, J: Recording, A: Allocator> Model for Journal<T, P, W,
 }
 
 impl<T, P: Ord, W: Clone, J: Recording, A: Allocator> Journal<T, P, W, J, A> {
-    /// Of a channel of which nothing was called, with these passes.
+    /// The journal of a channel without calls, with these passes.
     #[tactic(auto, using(crate::proofs::Leaving::shared_none))]
     pub(crate) fn new(
         made: priority_channel_chronicle::Journal<Calls<T, P, W>, J>,
@@ -70,7 +70,7 @@ impl<T, P: Ord, W: Clone, J: Recording, A: Allocator> Journal<T, P, W, J, A> {
         }
     }
 
-    /// A pass of the next number. One part always stays, for the calls of the passes that left.
+    /// A pass with the next number. One part always stays for the calls of the passes that left.
     #[tactic(auto, using(crate::proofs::Leaving::given_more, crate::proofs::Leaving::shared_come))]
     pub(crate) fn admit(&mut self) -> Option<Pass<T, P, W, J>>
         ensures same { self.new ≡ self.old }
@@ -92,7 +92,7 @@ impl<T, P: Ord, W: Clone, J: Recording, A: Allocator> Journal<T, P, W, J, A> {
         Some(self.made.admit(number, self.rest.split_off(1, 0)))
     }
 
-    /// Takes a pass back, with its part and its calls.
+    /// Takes back a pass, with its part and its calls.
     #[tactic(auto, using(crate::proofs::Leaving::given_less, crate::proofs::Leaving::shared_go))]
     pub(crate) fn leave<R: Wait>(&mut self, rt: &R, log: &Log<T, P, W, J>, pass: Pass<T, P, W, J>)
         ensures same { self.new ≡ self.old }
@@ -103,8 +103,8 @@ impl<T, P: Ord, W: Clone, J: Recording, A: Allocator> Journal<T, P, W, J, A> {
         strike(rt, &mut self.out, number);
     }
 
-    /// Enters a call that led to the core's state from that to which the history leads, under the
-    /// pass.
+    /// Enters a call of the pass, which led from the state at the end of the history to the core's
+    /// state.
     #[tactic(auto, using(crate::proofs::Histories::legal_of, crate::proofs::Leaving::shared_more))]
     pub(crate) fn enter<R: Wait>(
         &mut self,
@@ -153,7 +153,7 @@ impl<T, P: Ord, W: Clone, J: Recording, A: Allocator> Journal<T, P, W, J, A> {
         made.end(rt, log, rest.empty(), passes)
     }
 
-    /// The whole history, where these are all passes that are out.
+    /// The whole history, if these are all passes that are out.
     pub(crate) fn try_end<R: Wait>(
         self,
         rt: &R,
@@ -185,7 +185,7 @@ impl<T, P: Ord, W: Clone, J: Recording, A: Allocator> Journal<T, P, W, J, A> {
     }
 }
 
-// A number that was given out is below the next. No pass has another, but no contract can say so.
+// The number of each pass is below the next. No contract says so, hence the test.
 fn await_given<R: Wait>(rt: &R, number: u64, next: u64)
     ensures { number < next }
 {

@@ -5,8 +5,8 @@ use priority_channel_core::channel::PriorityQueueChannel;
 use std::alloc::Allocator;
 use std::marker::Model;
 
-/// The history in the journal leads to the core's state. It holds again once a call of the core is
-/// entered.
+/// The history in the journal leads to the core's state. Between a call of the core and its entry
+/// it does not.
 #[derive(Drop)]
 pub(crate) struct Kept<T, P: Ord, W: Clone, J: Recording, A: Allocator> {
     pub(crate) core: PriorityQueueChannel<T, P, W, A>,

@@ -12,8 +12,7 @@ use priority_channel_chronicle::Recording;
 use std::alloc::Allocator;
 
 /// The last entry of a legal history is one step of the machine, from a state to which the entries
-/// before it lead. So a caller who was told of its call knows that it had its reply by one step from
-/// such a state.
+/// before it lead. A call's contract names such a history, so its reply came of one such step.
 pub fn last_law<T, P: Ord, W: Clone>()
     ensures last { (capacity : ℕ) (is_reserved : Bool) (before : List (Entry T P W)) (last : Entry T P W)
         → IsLegal P.cmp W.is_clone capacity is_reserved (before ++ last ∷ [])
@@ -25,9 +24,9 @@ pub fn last_law<T, P: Ord, W: Clone>()
         × IsNext P.cmp W.is_clone capacity is_reserved (old.seen ++ between) last }
 {}
 
-/// The calls of a wait are one or more, under the pass's number. What was seen then is a legal
-/// history that begins with all that had been seen, and ends with the last of these calls, which
-/// came to that end.
+/// A wait is one or more calls under the pass's number. The history seen at its end is legal,
+/// begins with all that had been seen before, and ends with the last of these calls, which gave the
+/// result.
 pub fn wait_law<C: Attempt<T, P, W, J, A>, T, P: Ord, W: Clone, J: Recording, A: Allocator + Copy>()
     ensures { (old new : Carried T P W) (call : C) (ticket : Option ℕ) (ending : Ending C.Reply C)
         → ComesTo P.cmp W.is_clone J.capacity J.is_reserved C.calls old call ticket ending new

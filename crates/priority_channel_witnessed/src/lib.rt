@@ -1,8 +1,8 @@
-//! A channel whose calls tell, in their contracts, that each reply is the next step of one history.
+//! A channel whose contracts say, of each call, that its reply is the next step of one history.
 //!
-//! A `Witnessed` is for many threads and tasks, each with a `Pass`, and for messages, priorities
-//! and wakers of any type. No entry of the history takes memory: it exists in contracts alone. The
-//! handles of `async_priority_channel` are not for it.
+//! Many threads and tasks share a `Witnessed`, each with a `Pass`. Messages, priorities and wakers
+//! may be of any type. The history exists in contracts alone, and takes no memory. The handles of
+//! `async_priority_channel` cannot be used with it.
 #![tactic(auto)]
 
 mod attempt;

@@ -25,7 +25,7 @@ pub(crate) fn first_numbers<A: Allocator>(
     Ok(numbers)
 }
 
-// Where the number stands.
+// The position of the number.
 fn place_of<A: Allocator>(numbers: &Vec<u64, A>, number: u64) -> Option<usize>
     ensures within { IfSome result (λ at. at < vec_len numbers.now) }
     ensures is { IfSome result (λ at. number ≡ slice_index_or numbers.now.items at number) }
@@ -38,8 +38,8 @@ fn place_of<A: Allocator>(numbers: &Vec<u64, A>, number: u64) -> Option<usize>
     None
 }
 
-/// Takes the number of a pass from those that are out. A pass that is out has one of them, and no
-/// other pass has the same, but no contract can say so: so it would wait for ever for another.
+/// Takes the number of a pass from those that are out. Each pass that is out has one of these
+/// numbers, and no two have the same. No contract says so: given another number, it waits for ever.
 #[tactic(auto, using(crate::proofs::Leaving::struck_at))]
 pub(crate) fn strike<A: Allocator, R: Wait>(rt: &R, out: &mut Vec<u64, A>, number: u64)
     ensures struck { IsPermutation out.old.items (number ∷ out.new.items) }
@@ -60,7 +60,7 @@ fn await_place<A: Allocator, R: Wait>(rt: &R, numbers: &Vec<u64, A>, number: u64
     at
 }
 
-/// Takes the numbers of all these passes from those that are out.
+/// Takes the numbers of these passes from those that are out.
 pub(crate) fn strike_all<T, P: Ord, W: Clone, J: Recording, A: Allocator, R: Wait>(
     rt: &R,
     out: &mut Vec<u64, A>,

@@ -1,5 +1,5 @@
 //! Callers that prove what a reply meant, whatever other threads did: a worker, a service, and the
-//! end of a channel. Each has a proof of a few lines; begin yours from one of them.
+//! end of a channel. The proof of each has a few lines. Begin yours from one of them.
 
 mod balance;
 mod service;

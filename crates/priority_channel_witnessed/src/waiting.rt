@@ -1,10 +1,10 @@
 //! Futures that send and receive, for tasks.
 //!
-//! A future holds its pass and gives it back with its reply, so that what its caller has seen goes
-//! on. Dropped before that it gives its ticket up, and its pass leaves the channel. Each poll makes
-//! calls of the history: the first poll a try, and where that finds nothing, and at each later
-//! poll, one that lists the task's waker. So a future that is answered at once asks for no memory.
-//! Each message wakes all tasks that wait for one, and room all who wait for that.
+//! A future holds its caller's pass, and returns it with its reply. If it is dropped before that,
+//! it gives up its ticket, and its pass leaves the channel. The first poll is a try. If that is
+//! blocked, it lists the task's waker by a second call, as each later poll does. So a future that
+//! is answered at once takes no memory. Each message wakes all tasks that wait for one, and free
+//! room all tasks that wait for room.
 ghost use Rattle.std.specs.Prelude.{◌≡◌, ⊤, Some, None, Ok, IfOk, IfErr};
 ghost use Rattle.futures.specs.Task.{Covers, Keeps};
 ghost use Rattle.futures.specs.Poll.{IfReady, OnPending};
@@ -22,26 +22,26 @@ use std::alloc::{Allocator, Global};
 use std::marker::Model;
 use std::sync::Wait;
 
-/// Receives one pair once there is one, and gives the pass back. `Witnessed::recv` makes it.
+/// Receives one pair once there is one, and returns the pass. `Witnessed::recv` makes it.
 ///
-/// Its fault is `Closed`, where none can come any more, or `Memory`, where memory was refused.
+/// The error is `Closed` if no pair can come any more, or `Memory` if memory was refused.
 pub type Recv<'a, T, P, W, R, J, A = Global> = Waits<'a, (), T, P, W, R, J, A>;
 
-/// Sends one pair once there is room, and gives the pass back. `Witnessed::send` makes it.
+/// Sends one pair once there is room, and returns the pass. `Witnessed::send` makes it.
 ///
-/// Its fault is `Closed`, or `Memory` where memory was refused, and gives the pair back. Dropped
-/// before its answer it drops the pair.
+/// The error is `Closed`, or `Memory` if memory was refused, and gives the pair back. If the future
+/// is dropped before its answer, it drops the pair.
 pub type Send<'a, T, P, W, R, J, A = Global> = Waits<'a, (T, P), T, P, W, R, J, A>;
 
-/// Sends all pairs of a vector, as there is room, and gives the pass back. `Witnessed::sendv` makes
+/// Sends all pairs of a vector, as there is room, and returns the pass. `Witnessed::sendv` makes
 /// it.
 ///
-/// Its fault is `Closed`, or `Memory` where memory was refused, and gives the rest back. Dropped
-/// before its answer it drops the rest; what was sent stays sent.
+/// The error is `Closed`, or `Memory` if memory was refused, and gives the rest back. If the future
+/// is dropped before its answer, it drops the rest. What was sent stays sent.
 pub type Sendv<'a, T, P, W, R, J, A = Global> = Waits<'a, Pairs<T, P, A>, T, P, W, R, J, A>;
 
-/// A call that waits as a future. Polled again after its answer it is pending, changes nothing, and
-/// asks to be polled once more, so it should not be polled on.
+/// A call that waits as a future. If it is polled again after its answer, it is pending, changes
+/// nothing, and asks to be polled once more. So it should not be polled any more.
 #[must_use = "a future does nothing until it is polled: `block_on`, or a call that ends in `_blocking`"]
 pub struct Waits<
     'a,
@@ -83,8 +83,7 @@ impl<
 }
 
 impl<T: Drop, P: Ord + Drop, J: Recording, A: Allocator + Copy> Witnessed<T, P, Waiter<A>, J, A> {
-    /// Receives a pair once there is one, as `recv_blocking`, but as a future, which gives the pass
-    /// back with its reply.
+    /// As `recv_blocking`, but as a future, which returns the pass with its reply.
     ///
     /// ```
     /// let (received, pass) = block_on(rt, channel.recv(rt, pass))?;
@@ -100,8 +99,7 @@ impl<T: Drop, P: Ord + Drop, J: Recording, A: Allocator + Copy> Witnessed<T, P, 
         Waits::new(self, rt, pass, ())
     }
 
-    /// Sends a pair once there is room, as `send_blocking`, but as a future, which gives the pass
-    /// back with its reply.
+    /// As `send_blocking`, but as a future, which returns the pass with its reply.
     ///
     /// ```
     /// let (sent, pass) = block_on(rt, channel.send(rt, pass, "Foo", 0))?;
@@ -119,8 +117,7 @@ impl<T: Drop, P: Ord + Drop, J: Recording, A: Allocator + Copy> Witnessed<T, P, 
         Waits::new(self, rt, pass, (msg, priority))
     }
 
-    /// Sends all pairs of a vector, in order, as `sendv_blocking`, but as a future, which gives the
-    /// pass back with its reply.
+    /// As `sendv_blocking`, but as a future, which returns the pass with its reply.
     ///
     /// ```
     /// let (sent, pass) = block_on(rt, channel.sendv(rt, pass, jobs.into_iter().peekable()))?;
@@ -165,7 +162,7 @@ impl<
         }
     }
 
-    // Leaves the task's waker, and is answered or listed; or ends, for want of memory.
+    // Stores the task's waker, and polls. If memory for that is refused, the call ends.
     fn list(
         &mut self,
         cx: &mut Context<'_>,
@@ -267,7 +264,7 @@ impl<
             channel.leave(rt, pass);
             drop(rest);
         }
-        // A waker wakes as it is dropped.
+        // A waker wakes its task when it is dropped.
         drop(waiter);
     }
 }

@@ -21,8 +21,8 @@ use std::alloc::{AllocError, Allocator, Global};
 use std::snapshot::Snapshot;
 use std::sync::{Mutex, Wait};
 
-// A call of the core and its entry, in one hold of the lock. The entry tells what the call was
-// given, as `$kept`, and what it answered.
+// Calls the core and enters the call, in one hold of the lock. The entry has the arguments, as
+// `$kept`, and the answer.
 macro_rules! call {
     ($channel:ident, $rt:ident, $pass:ident; $call:ident($($given:expr),*)
         => $told:ident($($kept:expr),*)) => {{
@@ -42,15 +42,16 @@ mod waits;
 
 /// A channel that many threads call, each with its pass.
 ///
-/// Each call is one step, in one hold of the channel's lock, and hands out whom it lets go on, to
-/// be woken once the lock is free. A pass learns the history up to its own call, so what its holder
-/// has seen begins what it sees later, what it sees when it meets another, and what is told at the
-/// end.
-/// A call asks for no memory but what the core's call asks for, and to wait for its waiter. At 2^64
-/// calls it waits for ever.
+/// Each call is one step, in one hold of the channel's lock. The waiters that it lets go on are
+/// woken once the lock is free. After a call its pass has seen the history up to that call. What a
+/// pass has seen is a prefix of what it sees later, of what it has seen after it meets another
+/// pass, and of the whole history, which `end` returns.
 ///
-/// Values without `Drop` are taken too, but by bulk sends and `new`; at other calls the compiler
-/// refuses a body that loses one.
+/// A call takes the memory that the core's call takes, and one that waits also memory for its
+/// waiter. After 2^64 - 1 calls the next one waits for ever.
+///
+/// Messages and priorities need not be `Drop`, except for bulk sends and `new`. So the compiler
+/// refuses a body of another call that loses one.
 ///
 /// ```
 /// ghost use Rattle.std.specs.Prelude.{◌≡◌, false};
@@ -83,7 +84,7 @@ mod waits;
 pub struct Witnessed<T, P: Ord, W: Clone, J: Recording, A: Allocator = Global> {
     log: Log<T, P, W, J>,
     kept: Mutex<Kept<T, P, W, J, A>>,
-    // For those who wait: threads and tasks take memory, and tasks are woken at a source.
+    // For waiters: threads and tasks take memory, and a source wakes tasks.
     pub(crate) alloc: A,
     pub(crate) room: Source,
     pub(crate) message: Source,
@@ -97,7 +98,7 @@ impl<T: Drop, P: Ord + Drop, W: Clone + Drop, J: Recording, A: Allocator + Copy>
     A,
 > {
     /// A channel over an open and empty core, and its first passes. The error is that memory was
-    /// refused for the passes, or for the numbers of as many as there are parts for.
+    /// refused for these passes, or for the numbers of all passes that may be out at a time.
     #[tactic(auto, using(crate::proofs::Histories::history_none))]
     pub fn new(
         alloc: A,
@@ -136,8 +137,8 @@ impl<T: Drop, P: Ord + Drop, W: Clone + Drop, J: Recording, A: Allocator + Copy>
 }
 
 impl<T, P: Ord, W: Clone, J: Recording, A: Allocator + Copy> Witnessed<T, P, W, J, A> {
-    /// Sends a pair, if the channel is open and has room. A pair that is refused comes back: for
-    /// `Closed` before `Full`, and for `Full` before `Memory`.
+    /// Sends a pair, if the channel is open and has room. A refused pair comes back. `Closed` is
+    /// checked before `Full`, and `Full` before `Memory`.
     pub fn try_send<R: Wait>(
         &self,
         rt: &R,
@@ -152,9 +153,9 @@ impl<T, P: Ord, W: Clone, J: Recording, A: Allocator + Copy> Witnessed<T, P, W, 
         call!(self, rt, pass; try_send(msg, priority) => TrySend(kept_msg, kept_priority))
     }
 
-    /// Sends a pair, and into a full channel in place of the last accepted of the least urgent
-    /// pairs, if the new one is more urgent: then that comes back. Else the new one does, as
-    /// `Full`.
+    /// Sends a pair. If the channel is full, the pair takes the place of the pending pair of least
+    /// priority (among equals the one accepted last), if its own priority is greater. The displaced
+    /// pair comes back. Otherwise the new pair comes back, as `Full`.
     pub fn try_send_evicting<R: Wait>(
         &self,
         rt: &R,
@@ -171,8 +172,8 @@ impl<T, P: Ord, W: Clone, J: Recording, A: Allocator + Copy> Witnessed<T, P, W, 
             => TrySendEvicting(kept_msg, kept_priority))
     }
 
-    /// Receives the first pending pair among those that no other exceeds in priority, also from a
-    /// closed channel.
+    /// Receives the pending pair of greatest priority, and among equals the one accepted first,
+    /// also from a closed channel.
     pub fn try_recv<R: Wait>(
         &self,
         rt: &R,
@@ -184,7 +185,7 @@ impl<T, P: Ord, W: Clone, J: Recording, A: Allocator + Copy> Witnessed<T, P, W, 
         call!(self, rt, pass; try_recv() => TryRecv())
     }
 
-    /// Closes the channel for good, and answers whether it was open. What is pending can still be
+    /// Closes the channel for good, and returns whether it was open. Pending pairs can still be
     /// received.
     pub fn close<R: Wait>(&self, rt: &R, pass: &mut Pass<T, P, W, J>) -> (bool, Wakes<W, A>)
         ensures { Tells P.cmp W.is_clone J.capacity J.is_reserved pass.old
@@ -193,8 +194,8 @@ impl<T, P: Ord, W: Clone, J: Recording, A: Allocator + Copy> Witnessed<T, P, W, 
         call!(self, rt, pass; close() => Close())
     }
 
-    /// Lets both passes see what either has seen, and the history as it is. It takes no lock and
-    /// waits for nobody.
+    /// Afterwards both passes have seen what either had seen, and the history as it is. It takes no
+    /// lock, and does not wait.
     pub fn meet(&self, one: &mut Pass<T, P, W, J>, other: &mut Pass<T, P, W, J>)
         ensures one_number { one.new.number ≡ one.old.number }
         ensures one_count { one.new.count ≡ one.old.count }
@@ -208,9 +209,9 @@ impl<T, P: Ord, W: Clone, J: Recording, A: Allocator + Copy> Witnessed<T, P, W, 
         self.log.meet(one, other);
     }
 
-    /// Ends the channel, once all passes have come back. It gives the core back, and the history of
-    /// all calls, which nothing shows before. So no pass may be lost. Where passes have left, or
-    /// not all parts were given out, `try_end` ends it.
+    /// Ends the channel once all passes have come back, and returns the core, and the history of
+    /// all calls. No pass may be lost: without all of them the whole history is not known. If
+    /// passes have left, or fewer were made than `fresh` allows, use `try_end`.
     pub fn end<R: Wait>(
         self,
         rt: &R,
@@ -235,10 +236,9 @@ impl<T, P: Ord, W: Clone, J: Recording, A: Allocator + Copy> Witnessed<T, P, W, 
         (core, seen)
     }
 
-    /// A new pass, which has made no call. Its number is one that no pass of this channel had, and
-    /// its holder has seen the history as it is. `None` is answered where but one part of the
-    /// ledger is left: that one stays, for the calls of the passes that left. It asks for no
-    /// memory.
+    /// A new pass, which has made no call and has seen the history as it is. No pass of this
+    /// channel had its number. None if as many passes are out as `fresh` allows, less one: one part
+    /// of the ledger stays for the calls of the passes that left. It takes no memory.
     pub fn admit<R: Wait>(&self, rt: &R) -> Option<Pass<T, P, W, J>>
         ensures count { IfSome result (λ pass. pass.count ≡ 0) }
         ensures legal { IfSome result
@@ -247,7 +247,7 @@ impl<T, P: Ord, W: Clone, J: Recording, A: Allocator + Copy> Witnessed<T, P, W, 
         self.kept.lock(rt).journal.admit()
     }
 
-    /// A new pass, as `admit` gives, whose holder has seen all that the holder of this one has.
+    /// As `admit`, but the new pass has also seen all that this one has.
     ///
     /// ```
     /// if let Some(mut guest) = channel.fork(rt, &own) {
@@ -266,14 +266,15 @@ impl<T, P: Ord, W: Clone, J: Recording, A: Allocator + Copy> Witnessed<T, P, W, 
         Some(new)
     }
 
-    /// Takes a pass back whose holder makes no more calls. Its part is free for another pass, and
-    /// its calls stay in the history. It takes the longer the more passes are out.
+    /// Takes back a pass that makes no more calls. Another pass can come in its place. Its calls
+    /// stay in the history. The time is in proportion to the number of passes that are out.
     pub fn leave<R: Wait>(&self, rt: &R, pass: Pass<T, P, W, J>) {
         self.kept.lock(rt).journal.leave(rt, &self.log, pass);
     }
 
-    /// Ends the channel, where these are all passes that are out: then it gives the core back, and
-    /// the history of all calls, with those of the passes that left. Else all come back.
+    /// Ends the channel if these are all passes that are out. Then it returns the core, and the
+    /// history of all calls, also those of the passes that left. Otherwise it returns all that it
+    /// was given.
     ///
     /// ```
     /// match channel.try_end(rt, passes) {

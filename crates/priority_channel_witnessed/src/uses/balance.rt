@@ -8,8 +8,8 @@ use priority_channel_core::channel::PriorityQueueChannel;
 use std::alloc::Allocator;
 use std::sync::Wait;
 
-/// Ends a channel. All pairs that its callers sent, on however many threads, were received,
-/// displaced by a more urgent one, taken out by a test, or are left, each once.
+/// Ends a channel. Each pair that was sent, by any thread, was received, displaced by a pair of
+/// greater priority, or taken out by a test, or is left: one of these, and once.
 pub fn settle<T, P: Ord, W: Clone, J: Recording, A: Allocator + Copy, R: Wait>(
     rt: &R,
     channel: Witnessed<T, P, W, J, A>,
@@ -21,7 +21,7 @@ pub fn settle<T, P: Ord, W: Clone, J: Recording, A: Allocator + Copy, R: Wait>(
     channel.end(rt, passes)
 }
 
-/// The same where passes came and went: the calls of those that left are among the others. Where
+/// The same for a channel whose passes came and left: the calls of those that left count too. If
 /// these are not all passes that are out, the channel and the passes come back.
 pub fn try_settle<T, P: Ord, W: Clone, J: Recording, A: Allocator + Copy, R: Wait>(
     rt: &R,

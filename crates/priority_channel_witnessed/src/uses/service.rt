@@ -1,4 +1,4 @@
-//! A service that takes requests in as long as there is room.
+//! A service that accepts requests as long as there is room.
 ghost use Rattle.std.specs.Prelude.{◌≡◌};
 ghost use Rattle.priority_channel_core.specs.code.Replies.{OnFull};
 ghost use Rattle.priority_channel_witnessed.specs.Uses.{WasFull};
@@ -8,7 +8,7 @@ use priority_channel_core::errors::TrySendError;
 use std::alloc::Allocator;
 use std::sync::Wait;
 
-/// Takes a request in. `Full` is answered only where there was no room.
+/// Accepts a request. `Full` is returned only if there was no room.
 pub fn accept<T, P: Ord, W: Clone + Drop, J: Recording, A: Allocator + Copy, R: Wait>(
     rt: &R,
     requests: &Witnessed<T, P, W, J, A>,

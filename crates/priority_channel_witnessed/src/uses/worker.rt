@@ -1,4 +1,4 @@
-//! A worker that takes the most urgent job.
+//! A worker that takes the job of greatest priority.
 ghost use Rattle.std.specs.Prelude.{◌≡◌, IfOk};
 ghost use Rattle.priority_channel_witnessed.specs.Uses.{WasMostUrgent};
 
@@ -7,7 +7,7 @@ use priority_channel_core::errors::TryRecvError;
 use std::alloc::Allocator;
 use std::sync::Wait;
 
-/// Takes a job. When it was taken, it was the first among the most urgent that were pending.
+/// Takes a job. When it was taken, it was the first of the pending jobs of greatest priority.
 pub fn take<T, P: Ord, W: Clone + Drop, J: Recording, A: Allocator + Copy, R: Wait>(
     rt: &R,
     jobs: &Witnessed<T, P, W, J, A>,

@@ -14,8 +14,8 @@ use std::snapshot::Snapshot;
 use std::sync::Wait;
 
 impl<T: Drop, P: Ord + Drop, W: Clone, J: Recording, A: Allocator + Copy> Witnessed<T, P, W, J, A> {
-    /// Sends the pairs of a vector, in order, as far as there is room, in one step. What was
-    /// accepted stays, and what was not comes back, to be sent again.
+    /// Sends the pairs of a vector, in order, as many as there is room for, in one step. What was
+    /// accepted stays. The rest comes back, and can be sent again.
     ///
     /// ```
     /// let (sent, wakes) = channel.try_sendv(rt, pass, jobs.into_iter().peekable());
@@ -33,9 +33,9 @@ impl<T: Drop, P: Ord + Drop, W: Clone, J: Recording, A: Allocator + Copy> Witnes
         call!(self, rt, pass; try_sendv(msgs) => TrySendv(kept_msgs))
     }
 
-    /// Sends what there is room for, and waits for room with the rest, which is handed back for the
-    /// next poll. What was sent stays sent, also where the answer is `Memory`. Tickets and wakers
-    /// are treated as by `poll_recv`.
+    /// Sends as many pairs as there is room for, and waits for room with the rest, which is handed
+    /// back for the next poll. What was sent stays sent, also if the answer is `Memory`. Tickets
+    /// and wakers are treated as by `poll_recv`.
     pub fn poll_sendv<R: Wait>(
         &self,
         rt: &R,

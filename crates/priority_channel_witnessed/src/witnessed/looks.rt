@@ -1,4 +1,4 @@
-//! Calls that only look.
+//! Queries.
 ghost use Rattle.priority_channel_core.specs.machine.State.{nobody};
 ghost use Rattle.priority_channel_witnessed.specs.Passes.{Tells};
 
@@ -10,7 +10,7 @@ use priority_channel_core::calls::{Answer, Call};
 use std::alloc::Allocator;
 use std::sync::Wait;
 
-// Asks the core, and enters the call.
+// Queries the core, and enters the call.
 macro_rules! look {
     ($channel:ident, $rt:ident, $pass:ident, $ask:ident, $told:ident) => {{
         let kept = &mut *$channel.kept.lock($rt);
@@ -46,7 +46,7 @@ impl<T, P: Ord, W: Clone, J: Recording, A: Allocator + Copy> Witnessed<T, P, W, 
         look!(self, rt, pass, is_full, IsFull)
     }
 
-    /// How many pairs are pending.
+    /// The number of pending pairs.
     pub fn len<R: Wait>(&self, rt: &R, pass: &mut Pass<T, P, W, J>) -> u64
         ensures { Tells P.cmp W.is_clone J.capacity J.is_reserved pass.old
             Call.Len (Answer.Len result) nobody pass.new }
@@ -54,7 +54,8 @@ impl<T, P: Ord, W: Clone, J: Recording, A: Allocator + Copy> Witnessed<T, P, W, 
         look!(self, rt, pass, len, Len)
     }
 
-    /// How many pairs may be pending at a time; None where the capacity is `u64::MAX`.
+    /// The greatest number of pairs that may be pending at a time. None if the capacity is
+    /// `u64::MAX`.
     pub fn capacity<R: Wait>(&self, rt: &R, pass: &mut Pass<T, P, W, J>) -> Option<u64>
         ensures { Tells P.cmp W.is_clone J.capacity J.is_reserved pass.old
             Call.Capacity (Answer.Capacity result) nobody pass.new }
@@ -62,7 +63,7 @@ impl<T, P: Ord, W: Clone, J: Recording, A: Allocator + Copy> Witnessed<T, P, W, 
         look!(self, rt, pass, capacity, Capacity)
     }
 
-    /// How many senders the core counts: one, as passes are not counted.
+    /// The number of senders that the core counts. It is one, since passes are not counted.
     pub fn sender_count<R: Wait>(&self, rt: &R, pass: &mut Pass<T, P, W, J>) -> usize
         ensures { Tells P.cmp W.is_clone J.capacity J.is_reserved pass.old
             Call.SenderCount (Answer.SenderCount result) nobody pass.new }
@@ -70,7 +71,7 @@ impl<T, P: Ord, W: Clone, J: Recording, A: Allocator + Copy> Witnessed<T, P, W, 
         look!(self, rt, pass, sender_count, SenderCount)
     }
 
-    /// How many receivers the core counts: one, as passes are not counted.
+    /// The number of receivers that the core counts. It is one, since passes are not counted.
     pub fn receiver_count<R: Wait>(&self, rt: &R, pass: &mut Pass<T, P, W, J>) -> usize
         ensures { Tells P.cmp W.is_clone J.capacity J.is_reserved pass.old
             Call.ReceiverCount (Answer.ReceiverCount result) nobody pass.new }

@@ -1,4 +1,4 @@
-//! Calls that wait, and the end of a wait.
+//! Polls, which wait under a ticket, and the end of a wait.
 ghost use Rattle.priority_channel_core.specs.machine.State.{nobody};
 ghost use Rattle.priority_channel_witnessed.specs.Passes.{Tells};
 
@@ -14,9 +14,9 @@ use std::snapshot::Snapshot;
 use std::sync::Wait;
 
 impl<T, P: Ord, W: Clone, J: Recording, A: Allocator + Copy> Witnessed<T, P, W, J, A> {
-    /// Receives, or waits for a message under the answered ticket. The first poll gives no ticket,
-    /// and each further one that of the poll before, which stays listed with a clone of the newest
-    /// waker. A ready answer leaves the given ticket in neither waiting list.
+    /// Receives, or waits for a message under the returned ticket. The first poll passes no ticket,
+    /// and each later poll the ticket that the poll before returned: it stays listed, with a clone
+    /// of the newest waker. A ready answer leaves the given ticket in neither waiting list.
     pub fn poll_recv<R: Wait>(
         &self,
         rt: &R,
@@ -30,7 +30,7 @@ impl<T, P: Ord, W: Clone, J: Recording, A: Allocator + Copy> Witnessed<T, P, W, 
         call!(self, rt, pass; poll_recv(ticket, waker) => PollRecv(ticket, Snapshot::of(waker)))
     }
 
-    /// Sends a pair, or waits for room under the answered ticket and hands the pair back for the
+    /// Sends a pair, or waits for room under the returned ticket and hands the pair back for the
     /// next poll. Tickets and wakers are treated as by `poll_recv`.
     pub fn poll_send<R: Wait>(
         &self,
@@ -50,7 +50,7 @@ impl<T, P: Ord, W: Clone, J: Recording, A: Allocator + Copy> Witnessed<T, P, W, 
             => PollSend(kept_msg, kept_priority, ticket, Snapshot::of(waker)))
     }
 
-    /// The waiter of this ticket waits no more. A ticket that is not listed changes nothing.
+    /// Takes this ticket off the waiting lists. A ticket that is not listed changes nothing.
     pub fn give_up<R: Wait>(&self, rt: &R, pass: &mut Pass<T, P, W, J>, ticket: u64)
         ensures { Tells P.cmp W.is_clone J.capacity J.is_reserved pass.old
             (Call.GiveUp ticket) Answer.GiveUp nobody pass.new }

@@ -1,19 +1,19 @@
 //! Calls that wait on their thread, without a limit or for a limited time.
 //!
-//! Such a call is first a try. Where that finds no room, or no message, its thread is listed by a
-//! poll, sleeps, and polls again under its ticket when it is woken, until a poll is ready. Each of
-//! these is a call of the history, and the last one gives the answer; whom each hands out is woken
-//! once the lock is free. At the end of its time a call gives its ticket up and tries once more,
-//! so that `Timeout` comes of a try that found nothing.
+//! The thread first tries. If the try is blocked, a poll lists the thread, which sleeps, and polls
+//! again under its ticket when it is woken, until a poll is ready. Each try and each poll is a call
+//! of the history. The waiters that it lets go on are woken once the lock is free. When its time is
+//! over, the thread gives up its ticket and tries a last time: `Timeout` is returned only if that
+//! try found nothing.
 //!
-//! No wake is lost in this. While there is a message nobody is listed for one: what brings it hands
-//! out all who were. So who gives up takes no wake from another, and also where it has been handed
-//! out already, its last try takes what came, or another has. The same holds of room. The price is
-//! that each message wakes all who wait for one, of whom all but one sleep again.
+//! No wake is lost. While a message is pending, no receiver is listed, since the call that sent it
+//! woke all of them. So a receiver that gives up takes no wake from another. If it had been woken,
+//! its last try takes the message, unless another receiver has taken it. The same holds for room.
+//! The price is that each message wakes all waiting receivers, and all but one sleep again.
 //!
-//! Whom a call hands out cannot be let go, so a body that forgets to wake them does not compile.
-//! That a wake arrives is no part of a contract, nor is the time: both are tested. A thread that
-//! waits takes memory for its waiter and for its place in the list.
+//! The wakers that a call returns cannot be dropped, so a body that forgets to wake them does not
+//! compile. Contracts do not say that a wake arrives, nor how long a wait takes: tests show both. A
+//! thread that waits takes memory for its waiter and for its entry in the list.
 ghost use Rattle.std.specs.Prelude.{◌≡◌, Some, None, Ok, IfOk, IfErr};
 ghost use Rattle.priority_channel_witnessed.specs.Passes.{Tells};
 ghost use Rattle.priority_channel_witnessed.specs.Waits.{ends, without_evidence, recv_result, send_result, ComesTo};
@@ -58,7 +58,7 @@ fn sent_in_time<K, O: Drop>(
 }
 
 impl<T, P: Ord, J: Recording, A: Allocator + Copy> Witnessed<T, P, Waiter<A>, J, A> {
-    // Calls at once, or waits, where the time is not over.
+    // Tries at once, and waits if that is blocked and the time is not over.
     fn wait<C: Attempt<T, P, Waiter<A>, J, A>, R: Wait, U: Until>(
         &self,
         rt: &R,
@@ -83,7 +83,7 @@ impl<T, P: Ord, J: Recording, A: Allocator + Copy> Witnessed<T, P, Waiter<A>, J,
         }
     }
 
-    // A try, where there is no time to wait.
+    // Tries at once, and does not wait.
     fn at_once<C: Attempt<T, P, Waiter<A>, J, A>, R: Wait>(
         &self,
         rt: &R,
@@ -101,7 +101,7 @@ impl<T, P: Ord, J: Recording, A: Allocator + Copy> Witnessed<T, P, Waiter<A>, J,
         }
     }
 
-    // Is listed, and sleeps until it is answered or the time is over.
+    // Lists the thread, which sleeps until the call is answered or the time is over.
     fn wait_parked<C: Attempt<T, P, Waiter<A>, J, A>, R: Wait, U: Until>(
         &self,
         rt: &R,
@@ -131,7 +131,7 @@ impl<T, P: Ord, J: Recording, A: Allocator + Copy> Witnessed<T, P, Waiter<A>, J,
         unreachable!()
     }
 
-    // Waits no more, and tries once more.
+    // Gives up the ticket, and tries a last time.
     fn end_wait<C: Attempt<T, P, Waiter<A>, J, A>, R: Wait, O: Drop>(
         &self,
         rt: &R,
@@ -150,7 +150,7 @@ impl<T, P: Ord, J: Recording, A: Allocator + Copy> Witnessed<T, P, Waiter<A>, J,
         }
     }
 
-    // A try, where it is not listed.
+    // Tries at once, unless the call is listed.
     pub(crate) fn try_first<C: Attempt<T, P, Waiter<A>, J, A>, R: Wait>(
         &self,
         rt: &R,
@@ -175,7 +175,7 @@ impl<T, P: Ord, J: Recording, A: Allocator + Copy> Witnessed<T, P, Waiter<A>, J,
         }
     }
 
-    // The answer where memory for a wait is refused: that of a last try.
+    // Ends a wait for which memory is refused, with the reply of a last try.
     pub(crate) fn refuse_wait<C: Attempt<T, P, Waiter<A>, J, A>, R: Wait>(
         &self,
         rt: &R,
@@ -193,7 +193,7 @@ impl<T, P: Ord, J: Recording, A: Allocator + Copy> Witnessed<T, P, Waiter<A>, J,
         }
     }
 
-    // Waits no more under the ticket.
+    // Takes the ticket, if there is one, off the list.
     fn unlist<C: Attempt<T, P, Waiter<A>, J, A>, R: Wait>(
         &self,
         rt: &R,

@@ -1,4 +1,4 @@
-//! Receiving a pair on a thread that waits for it.
+//! Receiving a pair, with a wait on the thread.
 ghost use Rattle.std.specs.Prelude.{◌≡◌, Ok, None};
 ghost use Rattle.std.specs.Duration.{as_nanos};
 ghost use Rattle.priority_channel_witnessed.specs.Passes.{Tells};
@@ -18,13 +18,12 @@ use std::sync::Wait;
 use std::time::{Clock, Duration, Instant};
 
 impl<T, P: Ord, J: Recording, A: Allocator + Copy> Witnessed<T, P, Waiter<A>, J, A> {
-    /// Receives a pair, and waits for one on this thread, which sleeps meanwhile. Its fault is
-    /// `Closed`, where none can come any more, or `Memory`, where it has to wait and memory for
-    /// that is refused.
+    /// Receives a pair. If none is pending, it waits for one on this thread, which sleeps
+    /// meanwhile. The error is `Closed` if no pair can come any more, or `Memory` if memory for
+    /// waiting is refused.
     ///
-    /// What the pass sees then ends with the call that received the pair, or was refused; where
-    /// there was no memory for a waiter, with the try that found nothing. All its calls before that
-    /// found nothing.
+    /// The history that the pass has then seen ends with the call that received the pair or was
+    /// refused, or, if there was no memory for a waiter, with a try that found nothing.
     ///
     /// ```
     /// let (msg, priority) = channel.recv_blocking(rt, pass)?;
@@ -43,13 +42,12 @@ impl<T, P: Ord, J: Recording, A: Allocator + Copy> Witnessed<T, P, Waiter<A>, J,
         }
     }
 
-    /// As `recv_blocking`, but waits no longer than that: with a limit of zero as `try_recv`, and
-    /// without a limit where that is past the end of the clock's range. A message that comes at the
-    /// last moment is received.
+    /// As `recv_blocking`, but waits no longer than `timeout`. If that is zero, it does not wait.
+    /// There is no limit if the timeout ends past the range of the clock. A message that comes at
+    /// the last moment is received.
     ///
-    /// `Timeout` comes of a try that found nothing, and of a reading of the clock that was not
-    /// before the deadline, or where the clock cannot be read. A call that has waited tries after
-    /// it.
+    /// `Timeout` is returned only if the clock was read at or past the deadline, or cannot be read,
+    /// and a last try found nothing.
     ///
     /// ```
     /// match channel.recv_timeout(rt, pass, Duration::from_millis(5)) {
@@ -77,7 +75,7 @@ impl<T, P: Ord, J: Recording, A: Allocator + Copy> Witnessed<T, P, Waiter<A>, J,
         received_in_time(self.wait(rt, pass, (), &Deadline::after(rt, timeout)))
     }
 
-    /// As `recv_timeout`, but waits no longer than until then.
+    /// As `recv_timeout`, but waits no longer than until `deadline`.
     pub fn recv_deadline<R: Wait + Clock>(
         &self,
         rt: &R,

@@ -1,4 +1,4 @@
-//! Sending a pair on a thread that waits for room.
+//! Sending a pair, with a wait on the thread.
 ghost use Rattle.std.specs.Prelude.{◌≡◌, Ok, None, IfErr, IfSome};
 ghost use Rattle.std.specs.Duration.{as_nanos};
 ghost use Rattle.priority_channel_core.specs.Errors.{rest_of, unsent};
@@ -21,12 +21,12 @@ use std::sync::Wait;
 use std::time::{Clock, Duration, Instant};
 
 impl<T, P: Ord, J: Recording, A: Allocator + Copy> Witnessed<T, P, Waiter<A>, J, A> {
-    /// Sends a pair, and waits for room on this thread, which sleeps meanwhile. Its fault is
-    /// `Closed`, or `Memory` where memory is refused for the pair or for waiting, and gives the
-    /// pair back.
+    /// Sends a pair. If there is no room, it waits for room on this thread, which sleeps meanwhile.
+    /// The error is `Closed`, or `Memory` if memory is refused for the pair or for waiting. It
+    /// gives the pair back.
     ///
-    /// What the pass sees then ends with the call that sent the pair, or was refused; where there
-    /// was no memory for a waiter, with the try that found no room.
+    /// The history that the pass has then seen ends with the call that sent the pair or was
+    /// refused, or, if there was no memory for a waiter, with a try that found no room.
     ///
     /// ```
     /// channel.send_blocking(rt, pass, "Foo", 0)?;
@@ -48,8 +48,8 @@ impl<T, P: Ord, J: Recording, A: Allocator + Copy> Witnessed<T, P, Waiter<A>, J,
         }
     }
 
-    /// As `send_blocking`, but waits no longer than that, with the limits of `recv_timeout`. Memory
-    /// that is refused at the last moment is told as `Memory`.
+    /// As `send_blocking`, but waits no longer than `timeout`, as `recv_timeout` does. If memory
+    /// for the pair is refused at the last try, the error is `Memory`.
     ///
     /// ```
     /// let late = channel.send_timeout(rt, pass, "Foo", 0, Duration::from_millis(5));
@@ -77,7 +77,7 @@ impl<T, P: Ord, J: Recording, A: Allocator + Copy> Witnessed<T, P, Waiter<A>, J,
         sent_in_time(self.wait(rt, pass, (msg, priority), &Deadline::after(rt, timeout)))
     }
 
-    /// As `send_timeout`, but waits no longer than until then.
+    /// As `send_timeout`, but waits no longer than until `deadline`.
     pub fn send_deadline<R: Wait + Clock>(
         &self,
         rt: &R,
@@ -94,7 +94,7 @@ impl<T, P: Ord, J: Recording, A: Allocator + Copy> Witnessed<T, P, Waiter<A>, J,
         sent_in_time(self.wait(rt, pass, (msg, priority), &Deadline::at(rt, deadline)))
     }
 
-    // `try_send`, and wakes whom it hands out.
+    // `try_send`, with the wakes that follow it.
     pub(crate) fn send_now<R: Wait>(
         &self,
         rt: &R,
@@ -112,7 +112,7 @@ impl<T, P: Ord, J: Recording, A: Allocator + Copy> Witnessed<T, P, Waiter<A>, J,
         sent
     }
 
-    // `poll_send`, and wakes whom it hands out.
+    // `poll_send`, with the wakes that follow it.
     pub(crate) fn send_or_list<R: Wait>(
         &self,
         rt: &R,

@@ -1,4 +1,4 @@
-//! Sending many pairs on a thread that waits for room.
+//! Sending many pairs, with a wait on the thread.
 ghost use Rattle.std.specs.Prelude.{◌≡◌, Ok, None};
 ghost use Rattle.std.specs.Duration.{as_nanos};
 ghost use Rattle.priority_channel_witnessed.specs.Items.{list_in};
@@ -21,8 +21,8 @@ use std::time::{Clock, Duration, Instant};
 
 impl<T: Drop, P: Ord + Drop, J: Recording, A: Allocator + Copy> Witnessed<T, P, Waiter<A>, J, A> {
     /// Sends all pairs of a vector, in order, and waits for room on this thread, which sleeps
-    /// meanwhile. Its fault is one of those of `send_blocking` and gives the rest back; what was
-    /// sent stays sent. Others may send between two of its pairs.
+    /// meanwhile. The errors are those of `send_blocking`, and give back the rest. What was sent
+    /// stays sent. Other sends may come between two of its pairs.
     ///
     /// ```
     /// channel.sendv_blocking(rt, pass, jobs.into_iter().peekable())?;
@@ -42,8 +42,8 @@ impl<T: Drop, P: Ord + Drop, J: Recording, A: Allocator + Copy> Witnessed<T, P, 
         }
     }
 
-    /// As `sendv_blocking`, but waits no longer than that, with the limits of `send_timeout`. The
-    /// rest that comes back can be sent again.
+    /// As `sendv_blocking`, but waits no longer than `timeout`, as `send_timeout` does. The rest
+    /// that comes back can be sent again.
     ///
     /// ```
     /// let jobs = jobs.into_iter().peekable();
@@ -72,7 +72,7 @@ impl<T: Drop, P: Ord + Drop, J: Recording, A: Allocator + Copy> Witnessed<T, P, 
         sent_in_time(self.wait(rt, pass, msgs, &Deadline::after(rt, timeout)))
     }
 
-    /// As `sendv_timeout`, but waits no longer than until then.
+    /// As `sendv_timeout`, but waits no longer than until `deadline`.
     pub fn sendv_deadline<R: Wait + Clock>(
         &self,
         rt: &R,

@@ -1,15 +1,8 @@
-use Rattle.std.proofs.Common.{subst}
-use mathlib.Core.List.{IsPrefix}
-use Rattle.priority_channel_chronicle.specs.Log.{entries_in}
-use Rattle.priority_channel_chronicle.proofs.Lines.{entries_front}
+use Rattle.priority_channel_chronicle.proofs.Lines.{seen_front}
 use Rattle.priority_channel_chronicle.proofs.log.Seen.learn.Goals as goal
 
 pub returns-clause-this : goal.returns-clause-this
-returns-clause-this g c =
-    subst (λ l. IsPrefix l (entries_in c.learn.new.self.log)) c.self.view_is
-    (entries_front c.self.inside.token.log c.learn.new.self.log c.learn.ensures.2)
+returns-clause-this g c = seen_front c.self.inside.token.log c.learn.new.self.log c.args.self.now c.self.view_is c.learn.ensures.2
 
 pub returns-clause-that : goal.returns-clause-that
-returns-clause-that g c =
-    subst (λ l. IsPrefix l (entries_in c.learn.new.self.log)) c.other.view_is
-    (entries_front c.other.inside.token.log c.learn.new.self.log c.learn.ensures.3)
+returns-clause-that g c = seen_front c.other.inside.token.log c.learn.new.self.log c.args.other.now c.other.view_is c.learn.ensures.3

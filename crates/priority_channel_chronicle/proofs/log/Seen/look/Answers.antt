@@ -1,7 +1,5 @@
-use Rattle.std.proofs.Common.{sym, ◌∙◌, ap, subst}
-use mathlib.Core.List.{IsPrefix}
-use Rattle.priority_channel_chronicle.specs.Log.{entries_in}
-use Rattle.priority_channel_chronicle.proofs.Lines.{entries_front}
+use Rattle.std.proofs.Common.{sym, ◌∙◌, ap}
+use Rattle.priority_channel_chronicle.proofs.Lines.{seen_front}
 use Rattle.priority_channel_chronicle.proofs.Adding.{looks}
 use Rattle.priority_channel_chronicle.proofs.log.Seen.look.Goals as goal
 
@@ -16,6 +14,4 @@ load-requires g c =
     )
 
 pub returns-clause-seen : goal.returns-clause-seen
-returns-clause-seen g c =
-    subst (λ l. IsPrefix l (entries_in c.load.new.seen.log)) c.self.view_is
-    (entries_front c.self.inside.token.log c.load.new.seen.log c.load.ensures.5)
+returns-clause-seen g c = seen_front c.self.inside.token.log c.load.new.seen.log c.args.self.now c.self.view_is c.load.ensures.5
