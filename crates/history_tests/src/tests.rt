@@ -20,8 +20,8 @@ pub trait Host: Abort + Threads + Wait + Clock + RandomSource + AllocGlobal + Sy
 
 impl<R: Abort + Threads + Wait + Clock + RandomSource + AllocGlobal + Sync> Host for R {}
 
-/// `assert_eq!`, proved once: each one in place takes seconds of the check. In a loop both sides name
-/// the round.
+/// `assert_eq!`, proved once: each one in place takes seconds of the check. In a loop both sides
+/// name the round.
 fn expect_equal<X: PartialEq + Debug + Drop>(rt: &impl Abort, got: X, wanted: X) {
     assert_eq!(rt; got, wanted);
 }

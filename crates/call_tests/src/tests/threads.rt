@@ -3,6 +3,7 @@ use super::Host;
 use std::thread::{self, Threads};
 use std::time::{Clock, Duration};
 
+mod at_once;
 mod clocks;
 mod either;
 mod halts;

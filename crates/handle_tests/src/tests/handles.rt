@@ -37,14 +37,25 @@ fn the_last_handle_closes_beside_weak_ones(rt: HostRuntime) {
     expect_closed_by_last(&rt, rx, &tx);
 }
 
-// Only a receiver's guard does.
+// It goes with the last receiver, and only by a receiver's guard, also one of a closed channel.
 #[test]
-fn a_senders_guard_lets_nothing_go(rt: HostRuntime) {
+fn a_receivers_guard_lets_go_with_the_last_receiver(rt: HostRuntime) {
     let (tx, rx) = bounded(&rt, rt.alloc(), 1).expect(&rt, "a channel");
     expect_equal(&rt, tx.try_send('x', 1u64), Ok(()));
     drop(tx.close_on_drop());
     drop(rx);
     expect_equal(&rt, (tx.len(), tx.is_closed()), (1, true));
+    let (tx, rx) = bounded(&rt, rt.alloc(), 1).expect(&rt, "a channel");
+    expect_equal(&rt, tx.try_send('x', 1u64), Ok(()));
+    drop(rx.clone().expect(&rt, "a receiver").close_on_drop());
+    drop(tx);
+    expect_equal(&rt, rx.try_recv(), Ok(('x', 1)));
+    let (tx, rx) = bounded(&rt, rt.alloc(), 1).expect(&rt, "a channel");
+    expect_equal(&rt, tx.try_send('x', 1u64), Ok(()));
+    expect_equal(&rt, tx.close(), true);
+    drop(rx.close_on_drop());
+    drop(rx);
+    expect_equal(&rt, tx.len(), 0);
 }
 
 // Of each two channels of many, those are the same that are one.

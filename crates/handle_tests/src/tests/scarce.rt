@@ -13,6 +13,7 @@ fn a_batch_takes_what_there_is_place_for(rt: HostRuntime) {
     }
     let mut batch = Vec::with_capacity(&alloc, 3).expect(&rt, "memory");
     batch.push(('z', 0)).expect(&rt, "memory");
+    let mut last = Vec::with_capacity(&alloc, 1).expect(&rt, "memory");
     alloc.refuse_all();
     expect_equal(&rt, rx.try_recv_many(&mut batch, 3), Ok(2));
     let refused = rx.try_recv_many(&mut batch, 3);
@@ -20,7 +21,10 @@ fn a_batch_takes_what_there_is_place_for(rt: HostRuntime) {
     expect_equal(&rt, rx.try_recv_many(&mut batch, 0), Ok(0));
     let wanted = [('z', 0), ('c', 7), ('a', 3)];
     expect_equal(&rt, batch.as_slice(), wanted.as_slice());
-    expect_equal(&rt, rx.try_recv(), Ok(('b', 1)));
+    // It asks for no more than what is pending.
+    let asked = alloc.count();
+    expect_equal(&rt, rx.try_recv_many(&mut last, 9), Ok(1));
+    expect_equal(&rt, (last.pop(), alloc.count()), (Some(('b', 1)), asked));
     // Without a place for a first message there is nothing to wait for.
     let refused = rx.recv_many_timeout(&mut batch, 3, Duration::ZERO);
     expect_equal(&rt, refused, Err(RecvTimeoutError::Memory));

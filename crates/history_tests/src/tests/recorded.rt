@@ -1,6 +1,6 @@
 //! Recorded channels, with one pass and with several.
 //!
-//! A function that uses a channel with a history is generic in its names, and who calls it picks
+//! A function that uses a channel with a history is generic in its names, and its caller picks
 //! them. So the tests of one kind of channel are scenes, and one function plays them all.
 ghost use Rattle.std.specs.Prelude.{◌≡◌, ◌<◌, ◌^◌};
 ghost use Rattle.priority_channel_recorded.specs.Log.{names};

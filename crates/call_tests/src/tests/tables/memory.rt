@@ -22,20 +22,17 @@ const PENDING: [u64; 3] = [0, 3, CAPACITY];
 // Whether the call takes no memory of a reserved channel.
 fn takes_none(call: Call, is_blocked: bool) -> bool {
     match call {
-        Call::RecvMany(_) | Call::Retain(_) | Call::Closed(_, Way::Poll) => false,
+        Call::RecvMany(_) | Call::Retain(_) => false,
         _ => call.way() != Way::Poll || !is_blocked,
     }
 }
 
+// How many are pending, whether the channel is closed, the call, and which request is refused.
+type Round = (u64, bool, Call, u64);
+
 // What a call leaves and answers that was refused memory. A bulk send may have sent a front.
-fn expect_refused<R: Host>(
-    rt: &R,
-    model: &mut Model,
-    round: (u64, Call, u64),
-    reply: Reply,
-    of_call: Input,
-) {
-    let pairs = match round.1 {
+fn expect_refused<R: Host>(rt: &R, model: &mut Model, round: Round, reply: Reply, of_call: Input) {
+    let pairs = match round.2 {
         Call::Send(_) | Call::SendEvicting => of_call.one(),
         Call::Sendv(_) => of_call.pairs,
         _ => input(0, 0, 0).pairs,
@@ -61,14 +58,17 @@ fn refuse<'a, R: Host>(
     rt: &R,
     alloc: &'a Refusing<Global>,
     ends: Ends<u64, u64, R, &'a Refusing<Global>>,
-    round: (u64, Call, u64),
+    round: Round,
 ) -> bool {
-    let (pending, call, n) = round;
+    let (pending, is_closed, call, n) = round;
     let of_call = input(50, 30, 30);
     let mut mirrored = Mirrored::new(rt, alloc, ends, CAPACITY, (1, 1));
     if pending > 0 {
         let filling = input(1, pending, 0);
         mirrored.agree(rt, round, Call::Sendv(Way::Try), filling);
+    }
+    if is_closed {
+        mirrored.agree(rt, round, Call::Close(Side::Receiver), of_call);
     }
     if mirrored.model.waits(call, of_call) {
         return true;
@@ -104,7 +104,7 @@ fn no_call_loses_what_is_refused_memory(rt: HostRuntime) {
         for call in ALL {
             for n in 1..MOST {
                 let ends = bounded(&rt, &alloc, CAPACITY).expect(&rt, "a channel");
-                if refuse(&rt, &alloc, ends, (pending, call, n)) {
+                if refuse(&rt, &alloc, ends, (pending, false, call, n)) {
                     break;
                 }
                 expect_equal_at(&rt, call, n < MOST - 1, true);
@@ -113,20 +113,28 @@ fn no_call_loses_what_is_refused_memory(rt: HostRuntime) {
     }
 }
 
+// Whether a future finds nothing that it could do at once.
+fn is_blocked(call: Call, pending: u64, is_closed: bool) -> bool {
+    match call {
+        _ if is_closed => false,
+        Call::Closed(..) => true,
+        Call::Send(_) | Call::Sendv(_) => pending == CAPACITY,
+        _ => pending == 0,
+    }
+}
+
 // Without a request nothing is refused, so the first round is the last.
 #[test]
 fn a_reserved_channel_takes_memory_for_waiting_alone(rt: HostRuntime) {
     let alloc = Refusing::new(rt.alloc());
     for pending in PENDING {
-        for call in ALL {
-            let is_blocked = match call {
-                Call::Send(_) | Call::Sendv(_) => pending == CAPACITY,
-                _ => pending == 0,
-            };
-            if takes_none(call, is_blocked) {
-                let ends = bounded_reserved(&rt, &alloc, CAPACITY).expect(&rt, "a channel");
-                let round = (pending, call, 1);
-                expect_equal_at(&rt, round, refuse(&rt, &alloc, ends, round), true);
+        for is_closed in [false, true] {
+            for call in ALL {
+                if takes_none(call, is_blocked(call, pending, is_closed)) {
+                    let ends = bounded_reserved(&rt, &alloc, CAPACITY).expect(&rt, "a channel");
+                    let round = (pending, is_closed, call, 1);
+                    expect_equal_at(&rt, round, refuse(&rt, &alloc, ends, round), true);
+                }
             }
         }
     }

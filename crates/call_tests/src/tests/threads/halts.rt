@@ -172,16 +172,16 @@ fn wait_by_a_clock<R: Threaded>(rt: &R, round: Round) -> Duration {
     begun.elapsed(rt).expect(rt, "a clock")
 }
 
-// At the reading before a wait is listed, and at the one after it has looked again. A wait for the
-// close reads before its first look too, and after it was woken. A wait that reads more often sleeps
-// between two readings.
+// At the reading as it begins to wait, at the one before it is listed, and at the one after it has
+// looked again. A wait for the close reads once more, after it was woken. A wait that reads more
+// often sleeps between two readings.
 #[test]
 fn a_thread_finds_what_has_come_in_time(rt: HostRuntime) {
     for call in TIMED {
-        let (first, last) = if is_for_close(call) { (1, 4) } else { (2, 3) };
+        let last = if is_for_close(call) { 4 } else { 3 };
         for place in PLACES {
             if place.is_for(call) {
-                for number in first..=last {
+                for number in 1..=last {
                     for coming in COMING {
                         wait_by_a_clock(&rt, (call, place, coming, number));
                     }

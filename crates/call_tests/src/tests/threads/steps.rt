@@ -60,22 +60,28 @@ fn a_bulk_call_is_one_step(rt: HostRuntime) {
     expect_equal_at(&rt, "calls that were split", odd, (0, 0));
 }
 
-// What comes in one step comes at once, the greatest first, up to the limit.
+// What comes in one step comes at once, the greatest first, up to the limit, and no more is waited
+// for.
 #[test]
 fn a_batch_that_was_waited_for_is_all_of_one_step(rt: HostRuntime) {
-    let (tx, rx) = bounded(&rt, rt.alloc(), 3).expect(&rt, "a channel");
-    let mut batch = Vec::new(rt.alloc());
-    let got = beside(
-        &rt,
-        "a batch that a send has to bring",
-        || rx.recv_many_blocking(&mut batch, 2),
-        || {
-            let_others_wait(&rt);
-            let three = [('a', 1u64), ('b', 2), ('c', 3)];
-            tx.try_sendv(three.into_iter().peekable()).is_ok()
-        },
-    );
-    let came = [('c', 3), ('b', 2)];
-    expect_equal_at(&rt, "a batch", got, (Ok(2), true));
-    expect_equal_at(&rt, "a batch", batch.as_slice(), came.as_slice());
+    for (sent, came) in [
+        (1, [('c', 3)].as_slice()),
+        (3, [('c', 3), ('b', 2)].as_slice()),
+    ] {
+        let (tx, rx) = bounded(&rt, rt.alloc(), 3).expect(&rt, "a channel");
+        let mut batch = Vec::new(rt.alloc());
+        let got = beside(
+            &rt,
+            ("a batch that a send has to bring", sent),
+            || rx.recv_many_blocking(&mut batch, 2),
+            || {
+                let_others_wait(&rt);
+                let three = [('c', 3u64), ('b', 2), ('a', 1)];
+                tx.try_sendv(three.into_iter().take(sent).peekable())
+                    .is_ok()
+            },
+        );
+        expect_equal_at(&rt, sent, got, (Ok(came.len()), true));
+        expect_equal_at(&rt, sent, batch.as_slice(), came);
+    }
 }

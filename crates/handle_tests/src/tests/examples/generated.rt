@@ -245,17 +245,6 @@ fn example_of_receiver_try_iter(rt: HostRuntime) {
 }
 
 #[test]
-fn example_of_kinds_of_channels(rt: HostRuntime) {
-    let (tx, _rx) = bounded(&rt, rt.alloc(), 1).expect(&rt, "bounded");
-    expect_equal(&rt, tx.try_send("Foo", 0), Ok(()));
-    expect_equal(
-        &rt,
-        tx.try_send("Bar", 2),
-        Err(TrySendError::Full(("Bar", 2))),
-    );
-}
-
-#[test]
 fn example_of_order(rt: HostRuntime) {
     let (tx, rx) = unbounded(&rt, rt.alloc()).expect(&rt, "unbounded");
     let jobs = [("tidy up", 1), ("put out the fire", 9)];
@@ -311,27 +300,6 @@ fn example_of_closing(rt: HostRuntime) {
 }
 
 #[test]
-fn example_of_closing_2(rt: HostRuntime) {
-    let (tx, rx) = unbounded::<&str, u64, _, _>(&rt, rt.alloc()).expect(&rt, "unbounded");
-    let weak = tx.downgrade().expect(&rt, "downgrade");
-    let guard = rx.close_on_drop();
-    expect_true(&rt, weak.upgrade().is_some());
-    drop(guard);
-    expect_true(&rt, weak.upgrade().is_none());
-}
-
-#[test]
-fn example_of_blocking_and_not(rt: HostRuntime) {
-    let (tx, rx) = bounded(&rt, rt.alloc(), 1).expect(&rt, "bounded");
-    tx.try_send(3, 0).expect(&rt, "try_send"); // at once, or not at all
-    let receiving = thread::spawn(&rt, move || (rx.recv_blocking(), rx)).expect(&rt, "spawn");
-    tx.send_blocking(4, 2).expect(&rt, "send_blocking"); // once there is room
-    let (received, rx) = receiving.join(&rt);
-    expect_equal(&rt, received, Ok((3, 0)));
-    expect_equal(&rt, rx.try_recv(), Ok((4, 2)));
-}
-
-#[test]
 fn example_of_time_limits(rt: HostRuntime) {
     let (tx, rx) = bounded(&rt, rt.alloc(), 1).expect(&rt, "bounded");
     let limit = Duration::from_millis(5);
@@ -352,16 +320,6 @@ fn example_of_iterating(rt: HostRuntime) {
     }
     expect_equal(&rt, sending.join(&rt), Ok(()));
     expect_equal(&rt, done.as_slice(), [("Foo", 0)].as_slice());
-}
-
-#[test]
-fn example_of_iterating_2(rt: HostRuntime) {
-    let (tx, rx) = unbounded(&rt, rt.alloc()).expect(&rt, "unbounded");
-    tx.try_sendv([("slow", 1), ("fast", 9)].into_iter().peekable())
-        .expect(&rt, "try_sendv");
-    let mut batch = Vec::new(rt.alloc());
-    expect_equal(&rt, rx.recv_many_blocking(&mut batch, 64), Ok(2));
-    expect_equal(&rt, batch.as_slice(), [("fast", 9), ("slow", 1)].as_slice());
 }
 
 #[test]

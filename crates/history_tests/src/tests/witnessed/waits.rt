@@ -32,9 +32,10 @@ impl<R: Clock> Clock for Counting<'_, R> {
     }
 }
 
-/// A receive from an empty channel, and sends into one that is full with a pair. Who waited waits
-/// no more. Then calls without time: each is a try, which asks for no memory, so the request that is
-/// to be refused never comes. Of three pairs by one call one is sent in the end.
+/// A receive from an empty channel, and sends into one that is full with a pair. A waiter whose
+/// time has passed is listed no more. Then calls without time: each is a try, which asks for no
+/// memory, so the request that is to be refused never comes. Of three pairs by one call one is sent
+/// in the end.
 pub(super) fn end_in_time<'a, J: Recording, R: Host>(
     rt: &R,
     alloc: Alloc<'a>,
