@@ -46,7 +46,7 @@ pub fn bounded<T: Drop, P: Ord + Drop, R: Wait + Clone, A: Allocator + Copy>(
 
 /// A channel for at most `cap` pending messages, whose memory is reserved here. Until 2^64 - 1
 /// messages were accepted, no later `try_send` or `try_sendv` fails for lack of memory. A sender or
-/// a receiver that has to wait still asks for memory for its waiter and for its entry in the
+/// a receiver that has to wait still takes memory for its waiter and for its entry in the
 /// waiting list. The error is that memory was refused.
 ///
 /// ```

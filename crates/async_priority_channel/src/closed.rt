@@ -36,7 +36,7 @@ impl<S: Role, T, P: Ord, R: Wait + Clone, A: Allocator + Copy> End<S, T, P, R, A
     }
 
     /// Waits for the close of the channel on this thread, which sleeps meanwhile. It returns at
-    /// once if the channel is closed. Otherwise it asks for memory for its waiter, and for its
+    /// once if the channel is closed. Otherwise it takes memory for its waiter, and for its
     /// entry in the waiting list. The error is that this was refused. The channel is then as it
     /// was.
     ///

@@ -38,7 +38,7 @@ pub trait Role: Copy {
 /// clone of a priority that `peek_priority` makes. If this code makes a call on the channel, or
 /// drops a handle of it, it waits for ever. It should be short, since all other calls wait for it.
 ///
-/// A query tells what was so under the lock. Another thread may have changed it by then.
+/// The answer of a query was true under the lock. Another thread may have changed it by then.
 ///
 /// ```
 /// let (tx, rx) = bounded(&rt, rt.alloc(), 2)?;

@@ -4,8 +4,8 @@
 //!
 //! `bounded`, `bounded_reserved` and `unbounded` make a channel. `Sender` and `Receiver` are its
 //! handles, whose pages list their calls; `WeakSender` and `WeakReceiver` are handles that do not
-//! keep it open. `recorded` has channels that keep a history of all calls, and whose contracts tell
-//! it. The library `priority_channel_witnessed` has channels whose history is told by contracts
+//! keep it open. `recorded` has channels that keep a history of all calls, and whose contracts name
+//! it. The library `priority_channel_witnessed` has channels whose history exists in contracts
 //! alone.
 //!
 //! # Kinds of channels
@@ -14,12 +14,6 @@
 //! While the channel is full, a send waits or is refused. `unbounded` has no limit but memory.
 //! `bounded_reserved` reserves the memory for all of its messages when it is made. Each constructor
 //! is given the permission to wait, which `main` has in `rt`, and an allocator.
-//!
-//! ```
-//! let (tx, _rx) = bounded(&rt, rt.alloc(), 1)?;
-//! assert_eq!(rt; tx.try_send("Foo", 0), Ok(()));
-//! assert_eq!(rt; tx.try_send("Bar", 2), Err(TrySendError::Full(("Bar", 2))));
-//! ```
 //!
 //! # Order
 //!
@@ -96,30 +90,11 @@
 //! `close_on_drop` makes closes its channel however a scope is left, so that no sender or receiver
 //! waits for one that has failed.
 //!
-//! ```
-//! let (tx, rx) = unbounded::<&str, u64, _, _>(&rt, rt.alloc())?;
-//! let weak = tx.downgrade()?;
-//! let guard = rx.close_on_drop();
-//! assert!(rt; weak.upgrade().is_some());
-//! drop(guard);
-//! assert!(rt; weak.upgrade().is_none());
-//! ```
-//!
 //! # Blocking and not
 //!
 //! A call that begins with `try_` returns at once. One that ends in `_blocking` waits on its
 //! thread, which sleeps meanwhile; an executor that runs there is blocked. The error of a send
 //! holds what was not sent.
-//!
-//! ```
-//! let (tx, rx) = bounded(&rt, rt.alloc(), 1)?;
-//! tx.try_send(3, 0)?; // at once, or not at all
-//! let receiving = thread::spawn(&rt, move || (rx.recv_blocking(), rx))?;
-//! tx.send_blocking(4, 2)?; // once there is room
-//! let (received, rx) = receiving.join(&rt);
-//! assert_eq!(rt; received, Ok((3, 0)));
-//! assert_eq!(rt; rx.try_recv(), Ok((4, 2)));
-//! ```
 //!
 //! # Time limits
 //!
@@ -153,14 +128,6 @@
 //!
 //! `sendv` and its variants send many messages, in each step as many as there is room for.
 //! `recv_many` and its variants receive up to a limit.
-//!
-//! ```
-//! let (tx, rx) = unbounded(&rt, rt.alloc())?;
-//! tx.try_sendv([("slow", 1), ("fast", 9)].into_iter().peekable())?;
-//! let mut batch = Vec::new(rt.alloc());
-//! assert_eq!(rt; rx.recv_many_blocking(&mut batch, 64), Ok(2));
-//! assert_eq!(rt; batch.as_slice(), [("fast", 9), ("slow", 1)].as_slice());
-//! ```
 //!
 //! # Futures
 //!

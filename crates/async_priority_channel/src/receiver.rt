@@ -25,11 +25,11 @@ impl Role for Receiving {
 /// |---|---|---|---|---|
 /// | a message | `try_recv` | `recv_blocking` | `recv_timeout`, `recv_deadline` | `recv` |
 /// | many messages | `try_recv_many` | `recv_many_blocking` | | `recv_many` |
-/// | one after another | `try_iter` | `iter`, `for pair in &rx`, `for pair in rx` | | `stream`, `into_stream` |
+/// | one after another | `try_iter` | `iter`, `for pair in rx`, `in &rx` | | `stream`, `into_stream` |
 /// | what a test chooses | `take_where`, `retain` | | | |
 /// | a query | `peek_priority`, `peek_with` | | | |
 ///
-/// `End` has the calls that a sender has too, and tells what a call costs and which of the user's
+/// `End` has the calls that a sender has too, and says what a call costs and which of the user's
 /// code is called under the channel's lock.
 ///
 /// Messages that are pending when the last receiver is dropped stay in memory as long as there is a
@@ -51,7 +51,7 @@ impl<T: Drop, P: Ord + Drop, R: Wait + Clone, A: Allocator + Copy> Receiver<T, P
     /// Receives a message as soon as there is one. This is a future, which does nothing until it is
     /// polled. If it is dropped before it has answered, it takes nothing. The error is `Closed` if
     /// no message can come any more, or `Memory` if memory was refused. That includes the memory
-    /// that keeps its waker, which the first poll that waits asks for.
+    /// that keeps its waker, which the first poll that waits takes.
     ///
     /// ```
     /// let (tx, rx) = unbounded(&rt, rt.alloc())?;

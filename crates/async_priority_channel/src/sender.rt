@@ -31,7 +31,7 @@ impl Role for Sending {
 /// | many messages | `try_sendv` | `sendv_blocking` | `sendv_timeout`, `sendv_deadline` | `sendv` |
 /// | one that may displace another | `try_send_evicting` | | | |
 ///
-/// `End` has the calls that a receiver has too, and tells what a call costs and which of the user's
+/// `End` has the calls that a receiver has too, and says what a call costs and which of the user's
 /// code is called under the channel's lock.
 ///
 /// ```
@@ -82,7 +82,7 @@ impl<T: Drop, P: Ord + Drop, R: Wait + Clone, A: Allocator + Copy> Sender<T, P, 
     /// Sends a message as soon as there is room. This is a future, which does nothing until it is
     /// polled. If it is dropped before it has answered, it sends nothing. The error is `Closed`, or
     /// `Memory` if memory was refused. That includes the memory that keeps its waker, which the
-    /// first poll that waits asks for. Either error gives the message back.
+    /// first poll that waits takes. Either error gives the message back.
     ///
     /// Room that becomes free goes to the send that takes it first, whatever its priority: other
     /// sends may pass one that waits.

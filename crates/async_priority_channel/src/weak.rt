@@ -63,7 +63,7 @@ impl<S: Role, T: Drop, P: Ord + Drop, R: Wait + Clone, A: Allocator + Copy> Weak
 }
 
 impl<S: Role, T, P: Ord, R: Wait + Clone, A: Allocator + Copy> Weak<S, T, P, R, A> {
-    /// Whether the channel is closed, as `End::is_closed` tells.
+    /// As `End::is_closed`.
     pub fn is_closed(&self) -> bool {
         self.handle.look().core().is_closed()
     }

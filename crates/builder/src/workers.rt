@@ -23,7 +23,7 @@ where
     drop(done); // the workers have the other senders: without a worker there is no wait
     for _ in 0..=graph.targets.len() {
         let ready = graph.take_ready(rt.alloc(), State::Started)?;
-        // In one step: who is free finds all of them, and takes the most urgent.
+        // In one step: a free worker finds all of them, and takes the most urgent.
         queue.try_sendv(ready.into_iter().peekable())?;
         if graph.count(State::Started) == 0 {
             break;

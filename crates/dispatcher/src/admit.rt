@@ -1,4 +1,4 @@
-//! Who reads the jobs.
+//! The thread that reads the jobs.
 
 use crate::desk::Intake;
 use crate::job::Job;

@@ -1,12 +1,13 @@
 //! Gives jobs to workers, the most urgent first.
 //!
-//! `dispatcher ROOM WORKERS` reads a job from each line of standard input: `ID PRIORITY TEXT`, where
-//! a greater priority is more urgent. At most ROOM jobs are here at a time, pending and in hand. A
-//! line is not read before there is a place for its job, so whoever writes the lines keeps the rest.
+//! `dispatcher ROOM WORKERS` reads a job from each line of standard input: `ID PRIORITY TEXT`,
+//! where a greater priority is more urgent. At most ROOM jobs are here at a time, pending and in
+//! hand. A line is not read before there is a place for its job, so whoever writes the lines keeps
+//! the rest.
 //!
-//! For each line one is written to standard output: `done ID` or `failed ID` when its job has ended,
-//! and `bad LINE` at once if it is no job. When the input has ended, all jobs that are left are
-//! done. `job` says what a job does.
+//! For each line one is written to standard output: `done ID` or `failed ID` when its job has
+//! ended, and `bad LINE` at once if it is no job. When the input has ended, all jobs that are left
+//! are done. `job` says what a job does.
 #![tactic(auto)]
 
 mod admit;

@@ -1,4 +1,4 @@
-//! Who does the jobs.
+//! The threads that do the jobs.
 
 use crate::desk::Desk;
 use crate::reports::Reports;

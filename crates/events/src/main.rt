@@ -1,6 +1,6 @@
 //! An event loop: one task that answers lines of standard input, does the work that other threads
-//! post when there is no line to answer, and notes the ticks of a timer. It ends once nobody is
-//! left who could post.
+//! post when there is no line to answer, and notes the ticks of a timer. It ends once no
+//! handle is left that could post.
 #![tactic(auto)]
 
 mod board;

@@ -1,4 +1,4 @@
-//! The queue, into which those who take jobs out also send.
+//! The queue, into which the workers that take jobs out also send.
 
 use crate::job::Job;
 use crate::urgency::Urgency;
@@ -8,8 +8,8 @@ use std::sync::Wait;
 use std::sync::atomic::{AtomicU64, Ordering};
 
 /// Each worker may send its job again, so each is a sender too, and the drop of the last sender
-/// can't be the end. Instead the queue counts what is open, and who settles the last of it closes
-/// the queue.
+/// can't be the end. Instead the queue counts what is open, and the thread that settles the last of
+/// it closes the queue.
 ///
 /// It is unbounded: where all workers wait for room in the queue that they empty, none of them will
 /// make any.
@@ -17,7 +17,7 @@ use std::sync::atomic::{AtomicU64, Ordering};
 pub struct Queue<R: Wait + Clone> {
     sender: Sender<Job, Urgency, R>,
     receiver: Receiver<Job, Urgency, R>,
-    // The jobs that are not settled, and one for who still submits some.
+    // The jobs that are not settled, and one for the thread that still submits some.
     open: AtomicU64,
 }
 

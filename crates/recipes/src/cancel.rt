@@ -1,6 +1,6 @@
 //! A message that is not wanted any more: its sender takes it back.
 //!
-//! You need this where those who ask for work may change their minds. `take_where` is a call of a
+//! You need this where those that ask for work may change their minds. `take_where` is a call of a
 //! sender too, which keeps no receiver for it: that would keep the channel open once its workers
 //! have gone. None tells that the message was received before, so it is too late: a worker that may
 //! be stopped in its work needs a flag in the message. Equal messages are told apart by a number.

@@ -3,7 +3,7 @@
 //! You need this where a job may lead to further jobs. Each worker then has a sender, so the queue
 //! does not close of itself; and that nothing is pending is no end either, since whoever is at work
 //! may still send. So count what is open: a job is, from before it is sent until it is settled,
-//! which is after its further jobs were sent. Who settles the last one closes.
+//! which is after its further jobs were sent. The worker that settles the last one closes.
 
 use async_priority_channel::{Receiver, Sender, unbounded};
 use std::alloc::AllocGlobal;

@@ -1,4 +1,4 @@
-//! Who serves the requests.
+//! The thread that serves the requests.
 
 use crate::request::{Answer, Queue, Tick};
 use async_priority_channel::Receiver;

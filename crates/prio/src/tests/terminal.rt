@@ -13,7 +13,7 @@ fn show(screen: &RefCell<Vec<u8>>, bytes: &[u8]) -> io::Result<()> {
     Ok(())
 }
 
-// Somebody who types a line at a time.
+// A keyboard at which a line is typed at a time.
 #[derive(Drop)]
 struct Keyboard<'a> {
     script: &'a [u8],
