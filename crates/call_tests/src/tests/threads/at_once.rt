@@ -6,7 +6,7 @@ use async_priority_channel::{RecvError, RecvFault, TryRecvManyError, bounded};
 use std::sync::atomic::{AtomicUsize, Ordering};
 use std::thread;
 
-const ROUNDS: u64 = 1_000;
+const ROUNDS: u64 = 400;
 
 // How many threads close a channel.
 const CLOSES: usize = 16;
@@ -83,11 +83,9 @@ fn close_by_many<R: Threaded>(rt: &R, round: u64) {
 
 #[test]
 fn one_of_many_closes_the_channel(rt: HostRuntime) {
-    within(&rt, "many closes at once", || {
-        for round in 0..ROUNDS / 10 {
-            close_by_many(&rt, round);
-        }
-    });
+    for round in 0..ROUNDS / 4 {
+        within(&rt, ("many closes at once", round), || close_by_many(&rt, round));
+    }
 }
 
 // The last sender is dropped while a weak handle makes another. That one is of an open channel, or
@@ -111,10 +109,10 @@ fn receive_beside_a_send<R: Threaded>(rt: &R, round: u64) {
 
 #[test]
 fn one_of_two_calls_comes_first(rt: HostRuntime) {
-    within(&rt, "two calls at once", || {
-        for round in 0..ROUNDS {
+    for round in 0..ROUNDS {
+        within(&rt, ("two calls at once", round), || {
             upgrade_beside_a_drop(&rt, round);
             receive_beside_a_send(&rt, round);
-        }
-    });
+        });
+    }
 }
