@@ -1,13 +1,11 @@
 -- What the moves preserve of a binary heap.
-use Rattle.std.proofs.Common.{◌≡◌, ℕ, ◌+◌, ◌*◌, ◌/◌, ◌<◌, ◌≤◌, List, length, get_or, set, sym, subst, arith}
+use Rattle.std.proofs.Common.{◌≡◌, ℕ, ◌+◌, ◌*◌, ◌/◌, ◌<◌, ◌≤◌, List, length, get_or, set, sym, subst, arith, length-set, get_or-set_other, swap}
 use Rattle.std.proofs.HeapSift as heap
 use Rattle.std.proofs.Permutation.{which, swap_places}
-use Rattle.std.proofs.lemmas.List.{length-set, get_or-set_other}
 use Rattle.std.specs.BinaryHeap.{IsHeap, lt_by_cmp}
 use Rattle.std.specs.BinaryHeap.Sift.{SiftsUp, IsHeapWithHole, IsGreaterChild}
 use Rattle.std.specs.Slice.Heapsort.{IsHeapWithin}
 use Rattle.std.specs.Cmp.{IsTotalOrder}
-use Rattle.std.specs.List.{swap}
 use Rattle.std.specs.declared.cmp.Ordering.{Ordering}
 
 module _ {X : Type 0} (R : X → X → Ordering) (o : IsTotalOrder R) where

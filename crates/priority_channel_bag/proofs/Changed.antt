@@ -1,18 +1,13 @@
 -- One item gets another priority, and keeps its number.
-use Rattle.std.proofs.Common.{◌≡◌, ℕ, ◌<◌, ◌≤◌, Bool, false, List, [], ◌∷◌, ◌++◌, map, refl, sym, ap, ◌∙◌, arith}
+use Rattle.std.proofs.Common.{◌≡◌, ℕ, ◌<◌, ◌≤◌, Bool, false, List, [], ◌∷◌, ◌++◌, map, refl, sym, ap, ◌∙◌, arith, IsPermutation}
 use Rattle.std.proofs.lemmas.Bool.{eqb-false}
 use Rattle.std.proofs.lemmas.List.{map-append}
 use Rattle.std.proofs.lemmas.List.Elements.{All-from_recursion, recursion_from_All}
 use Rattle.std.proofs.lemmas.List.Sorted.{IsPermutation-trans, IsPermutation-sym, IsPermutation-to_front}
 use Rattle.std.proofs.Permutation.{every_shuffled}
 use Rattle.std.specs.List.{All, AllByRecursion, IsDistinct}
-use Rattle.std.specs.List.Sorted.{IsPermutation}
-use Rattle.std.specs.declared.cmp.Ordering.{Ordering}
-use Rattle.priority_channel_bag.specs.declared.item.Item.{Item}
-use Rattle.priority_channel_bag.specs.Least.{Changes, PassesFirst}
-use Rattle.priority_channel_bag.specs.Heap.{in_order_of_numbers, pair_of, by_key, same_number, item_cmp, IsOrdered, IsKept}
+use Rattle.priority_channel_bag.specs.Prelude.{Item, Changes, PassesFirst, in_order_of_numbers, pair_of, by_key, same_number, item_cmp, IsOrdered, IsKept, Ordering}
 use Rattle.priority_channel_bag.proofs.ByKey as keys
-use Rattle.priority_channel_bag.proofs.ByKey.{every_weaker}
 use Rattle.priority_channel_bag.proofs.Kept.{every_part, every_both, of_each, kept}
 
 module _ {T P : Type 0} (xs zs others : List (Item T P)) (x : Item T P) (priority : P) (apart : IsDistinct same_number xs)

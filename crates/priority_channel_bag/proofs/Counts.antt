@@ -1,7 +1,6 @@
 -- How many items of a list pass, in whatever order they stand.
 use Rattle.std.proofs.Common.{ℕ, inl, inr, List, [], ◌∷◌, map, arith}
-use Rattle.priority_channel_bag.specs.Least.{Counts}
-use Rattle.priority_channel_bag.specs.Heap.{put_in, by_key}
+use Rattle.priority_channel_bag.specs.Prelude.{Counts, put_in, by_key}
 
 module _ {X : Type 0} (passes fails : X → Type 0) where
   swapped : (x y : X) (xs : List X) (n : ℕ) → Counts passes fails (x ∷ y ∷ xs) n → Counts passes fails (y ∷ x ∷ xs) n

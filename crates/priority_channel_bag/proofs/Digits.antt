@@ -4,7 +4,7 @@ use Rattle.std.specs.Int.Digits.{digits_of}
 use Rattle.std.proofs.lemmas.Bool.{cases_lt}
 use Rattle.std.proofs.lemmas.Nat.{mul-le}
 use Rattle.std.proofs.lemmas.Int.Digits.{length-digits_of_step, length-digits_of-le, number_lt, all_below_base_digits_of, number_digits_of}
-use Rattle.priority_channel_bag.specs.Digits.{digits}
+use Rattle.priority_channel_bag.specs.Prelude.{digits}
 
 pub lt-digits : (n : ℕ) → n < 2 ^ digits n
 unfolding digits

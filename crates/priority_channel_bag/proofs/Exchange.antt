@@ -1,9 +1,8 @@
 -- Two elements of a list are swapped, one on each side of a cut.
-use Rattle.std.proofs.Common.{◌≡◌, ℕ, ◌<◌, List, [], ◌∷◌, ◌++◌, length, length-append, slice_index_or, slice_set, sym, ap, ◌∙◌, arith}
+use Rattle.std.proofs.Common.{◌≡◌, ℕ, ◌<◌, List, [], ◌∷◌, ◌++◌, length, length-append, slice_index_or, slice_set, sym, ap, ◌∙◌, arith, swap}
 use Rattle.std.proofs.Math.ListN.{get_or-append}
 use Rattle.std.proofs.lemmas.List.{get_or_at, get_or_default, set_at, set-append_left, length-set}
-use Rattle.std.specs.List.{swap}
-use Rattle.priority_channel_bag.specs.declared.item.Item.{Item}
+use Rattle.priority_channel_bag.specs.Prelude.{Item}
 
 pub exchanged :
     {X : Type 0} (xs front back : List X) (low high : ℕ) (x y : X)

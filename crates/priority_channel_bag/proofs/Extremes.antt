@@ -5,10 +5,8 @@ use Rattle.std.proofs.lemmas.List.Elements.{recursion_from_All}
 use Rattle.std.specs.Cmp.{IsTotalOrder}
 use Rattle.std.specs.List.{AllByRecursion}
 use Rattle.std.specs.Ordering.{is_lt, is_gt, ordering_reverse}
-use Rattle.std.specs.declared.cmp.Ordering.{Ordering}
 use Rattle.std.specs.declared.cmp.Ordering.TheVariants.{Less, Greater}
-use Rattle.priority_channel_bag.specs.Greatest.{TakesGreatest}
-use Rattle.priority_channel_bag.specs.Least.{TakesLeast}
+use Rattle.priority_channel_bag.specs.Prelude.{TakesGreatest, TakesLeast, Ordering}
 
 -- An element that is recognized by what is before it and what is behind it. No two elements are
 -- recognized in this way.

@@ -1,6 +1,5 @@
 -- Which item has the least number among those that pass.
-use Rattle.std.proofs.Common.{◌≡◌, ℕ, ◌+◌, ◌<◌, ◌≤◌, List, Bool, true, false, length, get_or, arith}
-use Rattle.std.specs.Prelude.{Option, Some, IfSome, IfNone}
+use Rattle.std.proofs.Common.{◌≡◌, ℕ, ◌+◌, ◌<◌, ◌≤◌, List, Bool, true, false, length, get_or, arith, Option, Some, IfSome, IfNone}
 use Rattle.std.proofs.Permutation.{which}
 
 module _ {X : Type 0} (passes fails : X → Type 0) (key : X → ℕ) (xs : List X) where

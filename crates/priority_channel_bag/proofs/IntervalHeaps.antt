@@ -1,14 +1,12 @@
 -- What the moves preserve of an interval heap.
-use Rattle.std.proofs.Common.{◌≡◌, ℕ, zero, suc, ◌+◌, ◌-◌, ◌*◌, ◌/◌, ◌%◌, ◌<◌, ◌≤◌, ◌≢◌, Bool, true, false, List, length, get_or, set, get_or-set_other, min, arith}
+use Rattle.std.proofs.Common.{◌≡◌, ℕ, zero, suc, ◌+◌, ◌-◌, ◌*◌, ◌/◌, ◌%◌, ◌<◌, ◌≤◌, ◌≢◌, Bool, true, false, List, length, get_or, set, get_or-set_other, min, arith, length-set}
 use Rattle.std.proofs.Permutation.{which}
-use Rattle.std.proofs.lemmas.List.{length-set}
 use Rattle.std.proofs.HeapSift as heap
 use Rattle.std.specs.BinaryHeap.{lt_by_cmp}
 use Rattle.std.specs.BinaryHeap.Sift.{ComparesAt}
 use Rattle.std.specs.Cmp.{IsTotalOrder, IsStrictWeakOrder}
 use Rattle.std.specs.List.{SwappedAt}
-use Rattle.std.specs.declared.cmp.Ordering.{Ordering}
-use Rattle.priority_channel_bag.specs.IntervalHeap.{IsOver, own_low, high, low, IsIntervalHeapWithin, IsIntervalHeap, IsLeastAt, InOrderBut, AtMostTooGreat, AtMostTooSmall}
+use Rattle.priority_channel_bag.specs.Prelude.{IsOver, own_low, high, low, IsIntervalHeapWithin, IsIntervalHeap, IsLeastAt, InOrderBut, AtMostTooGreat, AtMostTooSmall, Ordering}
 
 pub ruleset over = (own_low, high, low)
 

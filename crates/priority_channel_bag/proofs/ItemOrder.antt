@@ -1,13 +1,10 @@
 -- The order of items.
-use Rattle.std.proofs.Common.{◌≡◌, ℕ, ◌<◌, Bool, List, length, get_or, sym, ap, ◌∙◌}
+use Rattle.std.proofs.Common.{◌≡◌, ℕ, ◌<◌, Bool, List, length, get_or, sym, ap, ◌∙◌, is_lt}
 use Rattle.std.proofs.lemmas.Cmp.{on_total, then_total, back_total, nat_cmp_total}
 use Rattle.std.proofs.lemmas.List.Elements.{pair_read}
 use Rattle.std.specs.BinaryHeap.Sift.{ComparesAt}
 use Rattle.std.specs.Cmp.{IsTotalOrder}
-use Rattle.std.specs.Ordering.{is_lt}
-use Rattle.std.specs.declared.cmp.Ordering.{Ordering}
-use Rattle.priority_channel_bag.specs.declared.item.Item.{Item}
-use Rattle.priority_channel_bag.specs.Heap.{item_cmp}
+use Rattle.priority_channel_bag.specs.Prelude.{Item, item_cmp, Ordering}
 
 pub item_total : {T P : Type 0} {cmp : P → P → Ordering} → IsTotalOrder cmp → IsTotalOrder (item_cmp {T = T} cmp)
 item_total {T} {P} o = then_total (on_total (λ (x : Item T P). x.priority) o) (back_total (on_total (λ (x : Item T P). x.number) nat_cmp_total))

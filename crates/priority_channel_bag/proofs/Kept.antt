@@ -1,5 +1,5 @@
 -- The items that a bag keeps.
-use Rattle.std.proofs.Common.{◌≡◌, ℕ, ◌+◌, ◌<◌, ◌≤◌, Bool, true, false, List, [], ◌∷◌, ◌++◌, length, get_or, map, take, drop, refl, sym, ap, subst, ◌∙◌, arith}
+use Rattle.std.proofs.Common.{◌≡◌, ℕ, ◌+◌, ◌<◌, ◌≤◌, Bool, true, false, List, [], ◌∷◌, ◌++◌, length, get_or, map, take, drop, refl, sym, ap, subst, ◌∙◌, arith, IsPermutation, is_lt, is_gt}
 use Rattle.std.proofs.lemmas.Bool.Decides.{nat_tests}
 use Rattle.std.proofs.lemmas.List.{length-map, map-append, nil_from_length}
 use Rattle.std.proofs.lemmas.List.Elements.{All-nil, All-push, All-weaker, All-tail, All-map, All-from_recursion, recursion_from_All}
@@ -9,14 +9,8 @@ use Rattle.std.proofs.Math.Seq.{take-append_seam}
 use Rattle.std.proofs.HeapSift as heap
 use Rattle.std.specs.Cmp.{IsTotalOrder}
 use Rattle.std.specs.List.{All, AllByRecursion, IsDistinct, swap_remove}
-use Rattle.std.specs.List.Sorted.{IsPermutation}
-use Rattle.std.specs.Ordering.{is_lt, is_gt}
-use Rattle.std.specs.declared.cmp.Ordering.{Ordering}
 use Rattle.std.specs.declared.cmp.Ordering.TheVariants.{Less, Greater}
-use Rattle.priority_channel_bag.specs.declared.item.Item.{Item}
-use Rattle.priority_channel_bag.specs.Greatest.{TakesGreatest}
-use Rattle.priority_channel_bag.specs.Least.{TakesLeast, NoneBelow, TakesOne, TakesAll}
-use Rattle.priority_channel_bag.specs.Heap.{in_order_of_numbers, pair_of, by_key, same_number, item_cmp, IsOrdered, IsKept}
+use Rattle.priority_channel_bag.specs.Prelude.{Item, TakesGreatest, TakesLeast, NoneBelow, TakesOne, TakesAll, in_order_of_numbers, pair_of, by_key, same_number, item_cmp, IsOrdered, IsKept, Ordering}
 use Rattle.priority_channel_bag.proofs.ByKey as keys
 use Rattle.priority_channel_bag.proofs.ByKey.{every_weaker}
 use Rattle.priority_channel_bag.proofs.ItemOrder.{item_total}

@@ -1,5 +1,5 @@
 -- What both kinds of heap preserve.
-use Rattle.std.proofs.Common.{◌≡◌, ℕ, suc, ◌+◌, ◌-◌, ◌<◌, ◌≤◌, ◌≢◌, Bool, true, false, List, [], ◌∷◌, ◌++◌, length, length-append, get_or, set, take, drop, refl, sym, ap, subst, ◌∙◌, arith}
+use Rattle.std.proofs.Common.{◌≡◌, ℕ, suc, ◌+◌, ◌-◌, ◌<◌, ◌≤◌, ◌≢◌, Bool, true, false, List, [], ◌∷◌, ◌++◌, length, length-append, get_or, set, take, drop, refl, sym, ap, subst, ◌∙◌, arith, IsPermutation}
 use Rattle.std.proofs.HeapSift as heap
 use Rattle.std.proofs.Permutation.{which, every_of}
 use Rattle.std.proofs.lemmas.List.{length-set, length-take, length-take-le, take-append-drop, get_or_append_left, set_split, get_or_default, get_or-take, get_or-set_same, get_or-set_other}
@@ -8,10 +8,7 @@ use Rattle.std.specs.BinaryHeap.{IsHeap, lt_by_cmp}
 use Rattle.std.specs.BinaryHeap.Sift.{SiftsUp}
 use Rattle.std.specs.Cmp.{IsTotalOrder}
 use Rattle.std.specs.List.{AllByRecursion, remove, swap_remove}
-use Rattle.std.specs.List.Sorted.{IsPermutation}
-use Rattle.std.specs.declared.cmp.Ordering.{Ordering}
-use Rattle.priority_channel_bag.specs.Heap.{IsOrdered, MendsAt}
-use Rattle.priority_channel_bag.specs.IntervalHeap.{IsIntervalHeap, IsIntervalHeapWithin, IsLeastAt}
+use Rattle.priority_channel_bag.specs.Prelude.{IsOrdered, MendsAt, IsIntervalHeap, IsIntervalHeapWithin, IsLeastAt, Ordering}
 use Rattle.priority_channel_bag.proofs.BinaryHeaps as binary
 use Rattle.priority_channel_bag.proofs.IntervalHeaps as interval
 

@@ -4,3 +4,4 @@ pub mod Least
 pub mod IntervalHeap
 pub mod Heap
 pub mod Bag
+pub mod Prelude

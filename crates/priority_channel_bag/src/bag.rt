@@ -3,10 +3,7 @@
 //! The small calls of the hot path are forced inline. Otherwise their results would be written to
 //! memory and read back at once.
 ghost use Rattle.std.specs.Prelude.{◌≡◌, List, ◌↔◌, ◌+◌, ◌*◌, ◌<◌, ◌≤◌, ◌^◌, true, false, [], ◌∷◌, ◌++◌, length, All, IfOk, IfErr, IfSome, IfNone, OnOk, OnErr, IsTrue, MatchOption, vec_capacity};
-ghost use Rattle.priority_channel_bag.specs.Digits.{digits};
-ghost use Rattle.priority_channel_bag.specs.Greatest.{TakesGreatest};
-ghost use Rattle.priority_channel_bag.specs.Least.{Changes, Counts, NoneBelow, Displaces, PassesFirst, TakesOne, TakesAll, Tells};
-ghost use Rattle.priority_channel_bag.specs.Bag.{search_for_least};
+ghost use Rattle.priority_channel_bag.specs.Prelude.{digits, TakesGreatest, Changes, Counts, NoneBelow, Displaces, PassesFirst, TakesOne, TakesAll, Tells, search_for_least};
 
 use crate::by_test::{count, divide, find, find_first};
 use crate::comparisons::Comparisons;
@@ -42,8 +39,7 @@ pub struct Bag<T, P: Ord, A: Allocator = Global> {
 
 impl<T, P: Ord, A: Allocator> Model for Bag<T, P, A> {
     ghost use Rattle.std.specs.Prelude.{vec_capacity};
-    ghost use Rattle.priority_channel_bag.specs.Bag.{Contents};
-    ghost use Rattle.priority_channel_bag.specs.Heap.{in_order_of_numbers, IsKept};
+    ghost use Rattle.priority_channel_bag.specs.Prelude.{Contents, in_order_of_numbers, IsKept};
 
     ghost Value = { Contents T P };
 

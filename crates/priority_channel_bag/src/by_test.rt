@@ -1,9 +1,6 @@
 //! Finding the pairs that a test of the caller chooses.
-ghost use Rattle.std.specs.Prelude.{◌≡◌, ℕ, true, false, List, ◌++◌, ◌+◌, ◌<◌, ◌≤◌, length, map, slice_index_or, All, IfNone, IfSome, vec_capacity};
-ghost use Rattle.std.specs.List.Sorted.{IsPermutation};
-ghost use Rattle.priority_channel_bag.specs.Heap.{pair_of};
-ghost use Rattle.priority_channel_bag.specs.Least.{Counts, Tells};
-ghost use Rattle.priority_channel_bag.specs.declared.item.Item.{Item};
+ghost use Rattle.std.specs.Prelude.{◌≡◌, ℕ, true, false, List, ◌++◌, ◌+◌, ◌<◌, ◌≤◌, length, map, slice_index_or, All, IfNone, IfSome, vec_capacity, IsPermutation};
+ghost use Rattle.priority_channel_bag.specs.Prelude.{pair_of, Counts, Tells, Item};
 
 use crate::item::Item;
 use std::alloc::Allocator;

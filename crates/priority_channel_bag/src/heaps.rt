@@ -3,11 +3,8 @@
 //! A pair of lesser priority than all others makes one comparison when it enters a binary heap. In
 //! an interval heap it rises to the top of the lows. A new pair of equal priority is such a lesser
 //! pair. So a bag is a binary heap until its least item is asked for.
-ghost use Rattle.std.specs.Prelude.{◌≡◌, List, ◌+◌, ◌-◌, ◌*◌, ◌<◌, ◌≤◌, [], ◌∷◌, ◌++◌, length, take, slice_index_or, vec_capacity};
-ghost use Rattle.std.specs.List.Sorted.{IsPermutation};
-ghost use Rattle.priority_channel_bag.specs.Digits.{digits};
-ghost use Rattle.priority_channel_bag.specs.Heap.{item_cmp, IsOrdered, MendsAt};
-ghost use Rattle.priority_channel_bag.specs.declared.item.Item.{Item};
+ghost use Rattle.std.specs.Prelude.{◌≡◌, List, ◌+◌, ◌-◌, ◌*◌, ◌<◌, ◌≤◌, [], ◌∷◌, ◌++◌, length, take, slice_index_or, vec_capacity, IsPermutation};
+ghost use Rattle.priority_channel_bag.specs.Prelude.{digits, item_cmp, IsOrdered, MendsAt, Item};
 
 use crate::comparisons::Comparisons;
 use crate::interval_heap;

@@ -4,11 +4,8 @@
 //!
 //! Like a binary heap, it takes no memory of its own, and the number of comparisons of a call grows
 //! with the logarithm of the length.
-ghost use Rattle.std.specs.Prelude.{◌≡◌, ◌+◌, ◌-◌, ◌*◌, ◌<◌, ◌≤◌, true, [], length, IfSome, MatchOption};
-ghost use Rattle.std.specs.List.Sorted.{IsPermutation};
-ghost use Rattle.priority_channel_bag.specs.Digits.{digits};
-ghost use Rattle.priority_channel_bag.specs.Heap.{item_cmp, MendsAt};
-ghost use Rattle.priority_channel_bag.specs.IntervalHeap.{IsIntervalHeap, IsIntervalHeapWithin, IsLeastAt};
+ghost use Rattle.std.specs.Prelude.{◌≡◌, ◌+◌, ◌-◌, ◌*◌, ◌<◌, ◌≤◌, true, [], length, IfSome, MatchOption, IsPermutation};
+ghost use Rattle.priority_channel_bag.specs.Prelude.{digits, item_cmp, MendsAt, IsIntervalHeap, IsIntervalHeapWithin, IsLeastAt};
 
 use crate::comparisons::Comparisons;
 use crate::interval_heap::sift::{fall, settle_at};

@@ -1,6 +1,5 @@
 //! A message with its priority and the number under which it was accepted.
-ghost use Rattle.std.specs.Prelude.{◌==◌};
-ghost use Rattle.std.proofs.Common.{rules};
+ghost use Rattle.std.proofs.Common.{rules, ◌==◌};
 ghost use Rattle.std.specs.Cmp.{partial_order_from_own_ties};
 ghost use Rattle.std.specs.Cmp.Rules.{comparing};
 ghost use Rattle.std.specs.Ordering.{on, as_partial_cmp, eq_of_both};
@@ -31,7 +30,7 @@ impl<T, P: Ord> Eq for Item<T, P> {
 }
 
 impl<T, P: Ord> PartialOrd for Item<T, P> {
-    ghost use Rattle.priority_channel_bag.specs.Heap.{item_cmp};
+    ghost use Rattle.priority_channel_bag.specs.Prelude.{item_cmp};
 
     ghost partial_cmp = { as_partial_cmp (item_cmp P.cmp) };
 
@@ -44,7 +43,7 @@ impl<T, P: Ord> PartialOrd for Item<T, P> {
 }
 
 impl<T, P: Ord> Ord for Item<T, P> {
-    ghost use Rattle.priority_channel_bag.specs.Heap.{item_cmp};
+    ghost use Rattle.priority_channel_bag.specs.Prelude.{item_cmp};
 
     ghost cmp = { item_cmp P.cmp };
 

@@ -1,8 +1,6 @@
 //! Consequences of the definitions alone.
 ghost use Rattle.std.specs.Prelude.{◌≡◌, ◌-◌, ◌<◌, ◌≤◌, ◌^◌, ℕ, List};
-ghost use Rattle.priority_channel_bag.specs.Digits.{digits};
-ghost use Rattle.priority_channel_bag.specs.Greatest.{TakesGreatest};
-ghost use Rattle.priority_channel_bag.specs.Least.{TakesLeast};
+ghost use Rattle.priority_channel_bag.specs.Prelude.{digits, TakesGreatest, TakesLeast};
 
 /// A list of pairs has at most one greatest pair (the first among equals), and one rest without it.
 /// So the pending pairs decide which pair a receive gives.

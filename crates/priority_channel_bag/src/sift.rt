@@ -1,11 +1,8 @@
 //! The two ways in which an item moves through a binary heap. The parent of the item at i is at (i
 //! - 1) / 2.
-ghost use Rattle.std.specs.Prelude.{◌≡◌, ◌+◌, ◌*◌, ◌<◌, ◌≤◌, false, length};
-ghost use Rattle.std.specs.List.Sorted.{IsPermutation};
-ghost use Rattle.std.specs.List.{swap};
+ghost use Rattle.std.specs.Prelude.{◌≡◌, ◌+◌, ◌*◌, ◌<◌, ◌≤◌, false, length, IsPermutation, swap};
 ghost use Rattle.std.specs.BinaryHeap.Sift.{SiftsUp, IsGreaterChild};
-ghost use Rattle.priority_channel_bag.specs.Digits.{digits};
-ghost use Rattle.priority_channel_bag.specs.Heap.{item_cmp, MendsAt};
+ghost use Rattle.priority_channel_bag.specs.Prelude.{digits, item_cmp, MendsAt};
 
 use crate::comparisons::Comparisons;
 use crate::item::Item;

@@ -1,11 +1,8 @@
 //! How an item moves through an interval heap. It goes down one side, along the greater or the
 //! lesser child. Then it goes up again from the bottom, on the side to which it belongs.
-ghost use Rattle.std.specs.Prelude.{◌≡◌, ℕ, ◌+◌, ◌-◌, ◌*◌, ◌/◌, ◌%◌, ◌<◌, ◌≤◌, ◌≢◌, false, length, min};
+ghost use Rattle.std.specs.Prelude.{◌≡◌, ℕ, ◌+◌, ◌-◌, ◌*◌, ◌/◌, ◌%◌, ◌<◌, ◌≤◌, ◌≢◌, false, length, min, IsPermutation};
 ghost use Rattle.std.specs.BinaryHeap.Sift.{ComparesAt};
-ghost use Rattle.std.specs.List.Sorted.{IsPermutation};
-ghost use Rattle.priority_channel_bag.specs.Digits.{digits};
-ghost use Rattle.priority_channel_bag.specs.Heap.{item_cmp};
-ghost use Rattle.priority_channel_bag.specs.IntervalHeap.{IsOver, IsIntervalHeap, InOrderBut, FallsTo, AtMostTooGreat, AtMostTooSmall};
+ghost use Rattle.priority_channel_bag.specs.Prelude.{digits, item_cmp, IsOver, IsIntervalHeap, InOrderBut, FallsTo, AtMostTooGreat, AtMostTooSmall};
 
 use crate::comparisons::Comparisons;
 use crate::item::Item;

@@ -1,8 +1,6 @@
 use Rattle.std.proofs.Common.{◌≡◌, ◌+◌, true, false, ◌∷◌, drop, sym, ap, subst, ◌∙◌, arith, refl, inl, inr}
 use Rattle.std.proofs.lemmas.List.{drop_all, drop_more}
-use Rattle.priority_channel_bag.specs.Heap.{pair_of}
-use Rattle.priority_channel_bag.specs.Least.{Counts, Tells}
-use Rattle.priority_channel_bag.specs.declared.item.Item.{Item}
+use Rattle.priority_channel_bag.specs.Prelude.{pair_of, Counts, Tells, Item}
 use Rattle.priority_channel_bag.proofs.by_test.count.Goals as goal
 use Rattle.priority_channel_bag.proofs.by_test.count.Goals.{then-test, else-test}
 

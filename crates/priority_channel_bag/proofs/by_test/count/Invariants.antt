@@ -1,7 +1,5 @@
 use Rattle.std.proofs.Common.{◌≤◌, ◌+◌, ℕ, true, false, drop}
-use Rattle.priority_channel_bag.specs.Heap.{pair_of}
-use Rattle.priority_channel_bag.specs.Least.{Counts, Tells}
-use Rattle.priority_channel_bag.specs.declared.item.Item.{Item}
+use Rattle.priority_channel_bag.specs.Prelude.{pair_of, Counts, Tells, Item}
 use Rattle.priority_channel_bag.proofs.by_test.count.Given as goal
 
 abbrev pub invariant-loop-at : goal.invariant-loop-at

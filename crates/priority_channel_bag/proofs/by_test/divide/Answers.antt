@@ -1,12 +1,9 @@
-use Rattle.std.proofs.Common.{◌≡◌, ◌-◌, ◌<◌, true, false, [], ◌∷◌, ◌++◌, length, length-append, map, slice_index_or, sym, ap, subst, ◌∙◌, arith, refl, inl, inr}
+use Rattle.std.proofs.Common.{◌≡◌, ◌-◌, ◌<◌, true, false, [], ◌∷◌, ◌++◌, length, length-append, map, slice_index_or, sym, ap, subst, ◌∙◌, arith, refl, inl, inr, IsPermutation}
 use Rattle.std.proofs.lemmas.List.{append-nil, append_assoc, get_or_default, length-map, map-append}
 use Rattle.std.proofs.lemmas.List.Elements.{All-nil, All-push}
 use Rattle.std.proofs.lemmas.List.Sorted.{length_permutation, IsPermutation-refl, IsPermutation-trans, IsPermutation-append_right, IsPermutation-swap_remove}
 use Rattle.std.proofs.Permutation.{which}
-use Rattle.std.specs.List.Sorted.{IsPermutation}
-use Rattle.priority_channel_bag.specs.declared.item.Item.{Item}
-use Rattle.priority_channel_bag.specs.Heap.{pair_of}
-use Rattle.priority_channel_bag.specs.Least.{Tells}
+use Rattle.priority_channel_bag.specs.Prelude.{Item, pair_of, Tells}
 use Rattle.priority_channel_bag.proofs.by_test.divide.Goals as goal
 
 pub loop-at-init : goal.loop-at-init

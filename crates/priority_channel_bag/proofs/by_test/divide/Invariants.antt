@@ -1,9 +1,5 @@
-use Rattle.std.proofs.Common.{◌≡◌, ◌<◌, ◌≤◌, ℕ, true, false, List, ◌++◌, length, map, slice_index_or, vec_capacity}
-use Rattle.std.specs.List.{All}
-use Rattle.std.specs.List.Sorted.{IsPermutation}
-use Rattle.priority_channel_bag.specs.Heap.{pair_of}
-use Rattle.priority_channel_bag.specs.Least.{Tells}
-use Rattle.priority_channel_bag.specs.declared.item.Item.{Item}
+use Rattle.std.proofs.Common.{◌≡◌, ◌<◌, ◌≤◌, ℕ, true, false, List, ◌++◌, length, map, slice_index_or, vec_capacity, All, IsPermutation}
+use Rattle.priority_channel_bag.specs.Prelude.{pair_of, Tells, Item}
 use Rattle.priority_channel_bag.proofs.by_test.divide.Given as goal
 
 abbrev pub invariant-loop-at : goal.invariant-loop-at

@@ -1,8 +1,7 @@
 use Rattle.std.proofs.Common.{true, false, slice_index_or, sym, ap, subst, ◌∙◌, arith, refl, inl, inr}
 use Rattle.std.proofs.lemmas.List.{get_or_default}
 use Rattle.std.proofs.Permutation.{which}
-use Rattle.priority_channel_bag.specs.Heap.{pair_of}
-use Rattle.priority_channel_bag.specs.Least.{Tells}
+use Rattle.priority_channel_bag.specs.Prelude.{pair_of, Tells}
 use Rattle.priority_channel_bag.proofs.by_test.find.Goals as goal
 
 pub returns-then-test-clause-found : goal.returns-then-test-clause-found

@@ -1,8 +1,6 @@
 use Rattle.std.proofs.Common.{◌+◌, true, false, sym, subst, ◌∙◌, arith, refl}
 use Rattle.std.proofs.lemmas.List.{get_or_default}
-use Rattle.priority_channel_bag.specs.Heap.{pair_of}
-use Rattle.priority_channel_bag.specs.Least.{Tells}
-use Rattle.priority_channel_bag.specs.declared.item.Item.{Item}
+use Rattle.priority_channel_bag.specs.Prelude.{pair_of, Tells, Item}
 use Rattle.priority_channel_bag.proofs.Firsts.{FoundWithin, found_now, failed_now, passed_by, of_all}
 use Rattle.priority_channel_bag.proofs.by_test.find_first.Goals as goal
 use Rattle.priority_channel_bag.proofs.by_test.find_first.Goals.{then-is_before+then-test, else-is_before, else-is_before-via-then-is_before+else-test, else-is_before-via-else-is_before}

@@ -1,6 +1,5 @@
 use Rattle.std.proofs.Common.{true, false}
-use Rattle.priority_channel_bag.specs.Heap.{pair_of}
-use Rattle.priority_channel_bag.specs.Least.{Tells}
+use Rattle.priority_channel_bag.specs.Prelude.{pair_of, Tells}
 use Rattle.priority_channel_bag.proofs.Firsts.{FoundWithin}
 use Rattle.priority_channel_bag.proofs.by_test.find_first.Given as goal
 

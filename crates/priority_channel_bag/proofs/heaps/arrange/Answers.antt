@@ -1,8 +1,6 @@
-use Rattle.std.proofs.Common.{◌≡◌, ◌+◌, ◌*◌, ◌≤◌, length, take, arith, refl, ap}
-use Rattle.std.proofs.lemmas.List.{length-take-le}
+use Rattle.std.proofs.Common.{◌≡◌, ◌+◌, ◌*◌, ◌≤◌, length, take, arith, refl, ap, length-take-le}
 use Rattle.std.proofs.lemmas.List.Sorted.{IsPermutation-refl, length_permutation}
-use Rattle.priority_channel_bag.specs.Digits.{digits}
-use Rattle.priority_channel_bag.specs.Heap.{item_cmp}
+use Rattle.priority_channel_bag.specs.Prelude.{digits, item_cmp}
 use Rattle.priority_channel_bag.proofs.ItemOrder.{item_total}
 use Rattle.priority_channel_bag.proofs.Digits.{one_more_costs}
 use Rattle.priority_channel_bag.proofs.Ordered.{none_yet, one_more, one_more_moves, all_settled}

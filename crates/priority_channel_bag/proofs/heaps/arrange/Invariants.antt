@@ -1,7 +1,5 @@
-use Rattle.std.proofs.Common.{◌≡◌, ◌+◌, ◌*◌, ◌≤◌, length, take}
-use Rattle.std.specs.List.Sorted.{IsPermutation}
-use Rattle.priority_channel_bag.specs.Digits.{digits}
-use Rattle.priority_channel_bag.specs.Heap.{item_cmp, IsOrdered}
+use Rattle.std.proofs.Common.{◌≡◌, ◌+◌, ◌*◌, ◌≤◌, length, take, IsPermutation}
+use Rattle.priority_channel_bag.specs.Prelude.{digits, item_cmp, IsOrdered}
 use Rattle.priority_channel_bag.proofs.heaps.arrange.Given as goal
 
 abbrev pub invariant-loop-last : goal.invariant-loop-last

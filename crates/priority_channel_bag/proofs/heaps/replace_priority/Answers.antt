@@ -1,9 +1,7 @@
-use Rattle.std.proofs.Common.{◌++◌, ◌∷◌, [], get_or, refl, subst}
-use Rattle.priority_channel_bag.specs.Heap.{item_cmp}
+use Rattle.std.proofs.Common.{◌++◌, ◌∷◌, [], get_or, refl, subst, remove, IsPermutation}
+use Rattle.priority_channel_bag.specs.Prelude.{item_cmp}
 use Rattle.std.proofs.lemmas.List.{get_or_default}
 use Rattle.std.proofs.lemmas.List.Sorted.{IsPermutation-remove}
-use Rattle.std.specs.List.{remove}
-use Rattle.std.specs.List.Sorted.{IsPermutation}
 use Rattle.priority_channel_bag.proofs.ItemOrder.{item_total}
 use Rattle.priority_channel_bag.proofs.Ordered.{comes_in, replaced}
 use Rattle.priority_channel_bag.proofs.heaps.replace_priority.Goals as goal

@@ -1,5 +1,5 @@
 use Rattle.std.proofs.Common.{refl}
-use Rattle.priority_channel_bag.specs.Digits.{digits}
+use Rattle.priority_channel_bag.specs.Prelude.{digits}
 use Rattle.priority_channel_bag.proofs.Digits.{lt-digits, digits-least}
 use Rattle.priority_channel_bag.proofs.laws.digits_law.Goals as goal
 

@@ -1,7 +1,7 @@
 use Rattle.std.proofs.Common.{◌-◌, ◌/◌, true, false, arith, refl}
 use Rattle.std.proofs.lemmas.List.Sorted.{IsPermutation-refl, IsPermutation-trans}
 use Rattle.std.proofs.HeapSift as heap
-use Rattle.priority_channel_bag.specs.Heap.{item_cmp}
+use Rattle.priority_channel_bag.specs.Prelude.{item_cmp}
 use Rattle.priority_channel_bag.proofs.Digits.{digits_parent}
 use Rattle.priority_channel_bag.proofs.ItemOrder.{item_total, compared}
 use Rattle.priority_channel_bag.proofs.sift.rise.Goals as goal

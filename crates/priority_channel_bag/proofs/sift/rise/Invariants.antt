@@ -1,8 +1,6 @@
-use Rattle.std.proofs.Common.{◌≡◌, ◌+◌, ◌≤◌, length}
-use Rattle.std.specs.List.Sorted.{IsPermutation}
+use Rattle.std.proofs.Common.{◌≡◌, ◌+◌, ◌≤◌, length, IsPermutation}
 use Rattle.std.proofs.HeapSift as heap
-use Rattle.priority_channel_bag.specs.Digits.{digits}
-use Rattle.priority_channel_bag.specs.Heap.{item_cmp}
+use Rattle.priority_channel_bag.specs.Prelude.{digits, item_cmp}
 use Rattle.priority_channel_bag.proofs.ItemOrder.{item_total}
 use Rattle.priority_channel_bag.proofs.sift.rise.Given as goal
 

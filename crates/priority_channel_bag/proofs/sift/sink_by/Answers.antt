@@ -1,6 +1,6 @@
 use Rattle.std.proofs.Common.{◌+◌, length, arith, refl, ap}
 use Rattle.std.proofs.lemmas.List.Sorted.{IsPermutation-refl, IsPermutation-trans, length_permutation}
-use Rattle.priority_channel_bag.specs.Digits.{digits}
+use Rattle.priority_channel_bag.specs.Prelude.{digits}
 use Rattle.priority_channel_bag.proofs.BinaryHeaps.{opens, falls, closes}
 use Rattle.priority_channel_bag.proofs.Digits.{digits_child, digits-mono}
 use Rattle.priority_channel_bag.proofs.ItemOrder.{item_total}

@@ -1,10 +1,7 @@
-use Rattle.std.proofs.Common.{◌≡◌, ◌+◌, ◌-◌, ◌<◌, ◌≤◌, length, set}
+use Rattle.std.proofs.Common.{◌≡◌, ◌+◌, ◌-◌, ◌<◌, ◌≤◌, length, set, IsPermutation}
 use Rattle.std.specs.BinaryHeap.{IsHeap, lt_by_cmp}
 use Rattle.std.specs.BinaryHeap.Sift.{IsHeapWithHole}
-use Rattle.std.specs.List.Sorted.{IsPermutation}
-use Rattle.priority_channel_bag.specs.Digits.{digits}
-use Rattle.priority_channel_bag.specs.Heap.{item_cmp}
-use Rattle.priority_channel_bag.specs.declared.item.Item.{Item}
+use Rattle.priority_channel_bag.specs.Prelude.{digits, item_cmp, Item}
 use Rattle.priority_channel_bag.proofs.sift.sink_by.Given as goal
 
 abbrev pub invariant-loop-at : goal.invariant-loop-at

@@ -1,11 +1,7 @@
-use Rattle.std.proofs.Common.{◌≡◌, ℕ, ◌<◌, ◌∷◌, List, length, length-append, true, false, get_or, arith, sym, ap, subst, ◌∙◌}
+use Rattle.std.proofs.Common.{◌≡◌, ℕ, ◌<◌, ◌∷◌, List, length, length-append, true, false, get_or, arith, sym, ap, subst, ◌∙◌, All, IsPermutation}
 use Rattle.std.proofs.lemmas.List.{get_or_default}
 use Rattle.std.proofs.lemmas.List.Sorted.{length_permutation}
-use Rattle.std.specs.List.{All}
-use Rattle.std.specs.List.Sorted.{IsPermutation}
-use Rattle.priority_channel_bag.specs.declared.item.Item.{Item}
-use Rattle.priority_channel_bag.specs.Heap.{IsKept, IsOrdered, in_order_of_numbers, item_cmp, pair_of}
-use Rattle.priority_channel_bag.specs.Least.{Tells}
+use Rattle.priority_channel_bag.specs.Prelude.{Item, IsKept, IsOrdered, in_order_of_numbers, item_cmp, pair_of, Tells}
 use Rattle.priority_channel_bag.proofs.Changed.{kept_changed, changes_first}
 use Rattle.priority_channel_bag.proofs.Kept.{of_pairs, written_back}
 use Rattle.priority_channel_bag.proofs.bag.Bag.change_priority.Goals as goal

@@ -1,7 +1,5 @@
 use Rattle.std.proofs.Common.{true, false, List, subst}
-use Rattle.priority_channel_bag.specs.Heap.{pair_of, by_key}
-use Rattle.priority_channel_bag.specs.Least.{Counts, Tells}
-use Rattle.priority_channel_bag.specs.declared.item.Item.{Item}
+use Rattle.priority_channel_bag.specs.Prelude.{pair_of, by_key, Counts, Tells, Item}
 use Rattle.priority_channel_bag.proofs.Counts.{counts_by_key, counts_map}
 use Rattle.priority_channel_bag.proofs.bag.Bag.count_where.Goals as goal
 

@@ -1,12 +1,8 @@
-use Rattle.std.proofs.Common.{◌≡◌, ◌<◌, ◌+◌, [], ◌∷◌, length, length-append, true, false, get_or, arith, refl, sym, ap, subst, ◌∙◌}
+use Rattle.std.proofs.Common.{◌≡◌, ◌<◌, ◌+◌, [], ◌∷◌, length, length-append, true, false, get_or, arith, refl, sym, ap, subst, ◌∙◌, IsPermutation, is_lt}
 use Rattle.std.proofs.lemmas.List.{get_or_default}
 use Rattle.std.proofs.lemmas.List.Elements.{All-nil}
 use Rattle.std.proofs.lemmas.List.Sorted.{length_permutation}
-use Rattle.std.specs.List.Sorted.{IsPermutation}
-use Rattle.std.specs.Ordering.{is_lt}
-use Rattle.priority_channel_bag.specs.Bag.{Contents}
-use Rattle.priority_channel_bag.specs.Heap.{IsKept, IsOrdered, in_order_of_numbers, item_cmp}
-use Rattle.priority_channel_bag.specs.Least.{NoneBelow, Displaces}
+use Rattle.priority_channel_bag.specs.Prelude.{Contents, IsKept, IsOrdered, in_order_of_numbers, item_cmp, NoneBelow, Displaces}
 use Rattle.priority_channel_bag.proofs.Kept.{in_order_none, kept_with, pending_with, apart_left, numbered_left, takes_least, none_below, less_from_test, written_back}
 use Rattle.priority_channel_bag.proofs.Ordered.{none_less}
 use Rattle.priority_channel_bag.proofs.bag.Bag.displace.Goals as goal

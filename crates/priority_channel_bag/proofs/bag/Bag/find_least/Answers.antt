@@ -1,6 +1,5 @@
-use Rattle.std.proofs.Common.{true, refl, sym, subst}
-use Rattle.std.specs.List.Sorted.{IsPermutation}
-use Rattle.priority_channel_bag.specs.Heap.{IsKept}
+use Rattle.std.proofs.Common.{true, refl, sym, subst, IsPermutation}
+use Rattle.priority_channel_bag.specs.Prelude.{IsKept}
 use Rattle.priority_channel_bag.proofs.Kept.{kept_moved, pending_moved, arranged_back}
 use Rattle.priority_channel_bag.proofs.bag.Bag.find_least.Goals as goal
 

@@ -1,4 +1,4 @@
-use Rattle.priority_channel_bag.specs.Heap.{item_cmp}
+use Rattle.priority_channel_bag.specs.Prelude.{item_cmp}
 use Rattle.priority_channel_bag.proofs.ItemOrder.{item_total}
 use Rattle.priority_channel_bag.proofs.Kept.{kept_without, takes_greatest}
 use Rattle.priority_channel_bag.proofs.Ordered.{greatest_first}

@@ -1,5 +1,5 @@
 use Rattle.std.proofs.Common.{[], ◌∷◌, ◌++◌, refl, ap, ◌∙◌}
-use Rattle.priority_channel_bag.specs.Bag.{Contents}
+use Rattle.priority_channel_bag.specs.Prelude.{Contents}
 use Rattle.priority_channel_bag.proofs.Kept.{kept_with, pending_with}
 use Rattle.priority_channel_bag.proofs.bag.Bag.push.Goals as goal
 

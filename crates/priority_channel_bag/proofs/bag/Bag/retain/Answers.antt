@@ -1,12 +1,7 @@
-use Rattle.std.proofs.Common.{◌≡◌, ◌*◌, ◌++◌, length, map, true, false, arith, sym, ap, subst}
+use Rattle.std.proofs.Common.{◌≡◌, ◌*◌, ◌++◌, length, map, true, false, arith, sym, ap, subst, IsPermutation}
 use Rattle.std.proofs.lemmas.List.Elements.{All-map}
 use Rattle.std.proofs.lemmas.List.Sorted.{All-permutation, IsPermutation-trans, IsPermutation-append_right, length_permutation}
-use Rattle.std.specs.List.Sorted.{IsPermutation}
-use Rattle.priority_channel_bag.specs.declared.item.Item.{Item}
-use Rattle.priority_channel_bag.specs.Bag.{Contents}
-use Rattle.priority_channel_bag.specs.Digits.{digits}
-use Rattle.priority_channel_bag.specs.Heap.{IsKept, in_order_of_numbers, pair_of}
-use Rattle.priority_channel_bag.specs.Least.{Tells}
+use Rattle.priority_channel_bag.specs.Prelude.{Item, Contents, digits, IsKept, in_order_of_numbers, pair_of, Tells}
 use Rattle.priority_channel_bag.proofs.Kept.{length_in_order, kept_rest, takes_all, of_pairs, arranged_back}
 use Rattle.priority_channel_bag.proofs.bag.Bag.retain.Goals as goal
 

@@ -1,8 +1,5 @@
-use Rattle.std.proofs.Common.{◌<◌, List, length, false, true, get_or, slice_index_or, sym, ap, subst, ◌∙◌}
-use Rattle.std.specs.List.{All}
-use Rattle.priority_channel_bag.specs.declared.item.Item.{Item}
-use Rattle.priority_channel_bag.specs.Heap.{pair_of}
-use Rattle.priority_channel_bag.specs.Least.{Tells}
+use Rattle.std.proofs.Common.{◌<◌, List, length, false, true, get_or, slice_index_or, sym, ap, subst, ◌∙◌, All}
+use Rattle.priority_channel_bag.specs.Prelude.{Item, pair_of, Tells}
 use Rattle.priority_channel_bag.proofs.Kept.{kept_without, takes_one, of_pairs}
 use Rattle.priority_channel_bag.proofs.bag.Bag.take_where.Goals as goal
 

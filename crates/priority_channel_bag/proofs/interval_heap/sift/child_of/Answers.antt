@@ -1,5 +1,5 @@
 use Rattle.std.proofs.Common.{arith}
-use Rattle.priority_channel_bag.specs.Heap.{item_cmp}
+use Rattle.priority_channel_bag.specs.Prelude.{item_cmp}
 use Rattle.priority_channel_bag.proofs.ItemOrder.{item_total}
 use Rattle.priority_channel_bag.proofs.IntervalHeaps.{falls_high, falls_low}
 use Rattle.priority_channel_bag.proofs.interval_heap.sift.child_of.Goals as goal

@@ -1,8 +1,5 @@
-use Rattle.std.proofs.Common.{◌≡◌, ◌+◌, ◌-◌, ◌/◌, ◌<◌, ◌≤◌, length}
-use Rattle.std.specs.List.Sorted.{IsPermutation}
-use Rattle.priority_channel_bag.specs.Digits.{digits}
-use Rattle.priority_channel_bag.specs.Heap.{item_cmp}
-use Rattle.priority_channel_bag.specs.IntervalHeap.{InOrderBut}
+use Rattle.std.proofs.Common.{◌≡◌, ◌+◌, ◌-◌, ◌/◌, ◌<◌, ◌≤◌, length, IsPermutation}
+use Rattle.priority_channel_bag.specs.Prelude.{digits, item_cmp, InOrderBut}
 use Rattle.priority_channel_bag.proofs.interval_heap.sift.fall.Given as goal
 
 abbrev pub invariant-loop-at : goal.invariant-loop-at

@@ -1,6 +1,6 @@
 use Rattle.std.proofs.Common.{◌+◌, ◌/◌, true, false, arith}
 use Rattle.std.proofs.lemmas.List.Sorted.{IsPermutation-trans}
-use Rattle.priority_channel_bag.specs.Heap.{item_cmp}
+use Rattle.priority_channel_bag.specs.Prelude.{item_cmp}
 use Rattle.priority_channel_bag.proofs.Digits.{digits-mono}
 use Rattle.priority_channel_bag.proofs.ItemOrder.{item_total, compared}
 use Rattle.priority_channel_bag.proofs.IntervalHeaps.{goes_low, stays_high}

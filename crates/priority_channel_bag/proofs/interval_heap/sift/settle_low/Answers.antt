@@ -1,10 +1,9 @@
 use Rattle.std.proofs.Common.{◌+◌, ◌-◌, ◌/◌, true, false, arith}
 use Rattle.std.proofs.lemmas.List.Sorted.{IsPermutation-trans}
-use Rattle.priority_channel_bag.specs.Heap.{item_cmp}
+use Rattle.priority_channel_bag.specs.Prelude.{item_cmp, own_low, high}
 use Rattle.priority_channel_bag.proofs.Digits.{digits-mono}
 use Rattle.priority_channel_bag.proofs.ItemOrder.{item_total, compared}
 use Rattle.priority_channel_bag.proofs.IntervalHeaps.{goes_high, stays_low}
-use Rattle.priority_channel_bag.specs.IntervalHeap.{own_low, high}
 use Rattle.priority_channel_bag.proofs.interval_heap.sift.settle_low.Goals as goal
 
 pub returns-then-is_lt-clause-moves : goal.returns-then-is_lt-clause-moves

@@ -1,7 +1,7 @@
 use Rattle.std.proofs.Common.{◌+◌, ◌*◌, length, true, false, arith, refl, subst, add-zero}
 use Rattle.std.specs.BinaryHeap.Sift.{IsGreaterChild}
 use Rattle.std.proofs.HeapSift as heap
-use Rattle.priority_channel_bag.specs.Heap.{item_cmp}
+use Rattle.priority_channel_bag.specs.Prelude.{item_cmp}
 use Rattle.priority_channel_bag.proofs.ItemOrder.{item_total, compared}
 use Rattle.priority_channel_bag.proofs.sift.ByBranchChoice.greater_child.Goals as goal
 

@@ -1,6 +1,6 @@
 use Rattle.std.proofs.Common.{◌+◌, ◌*◌, arith, refl}
 use Rattle.std.proofs.HeapSift as heap
-use Rattle.priority_channel_bag.specs.Heap.{item_cmp}
+use Rattle.priority_channel_bag.specs.Prelude.{item_cmp}
 use Rattle.priority_channel_bag.proofs.ItemOrder.{item_total, compared}
 use Rattle.priority_channel_bag.proofs.sift.WithoutBranchChoice.greater_child.Goals as goal
 
