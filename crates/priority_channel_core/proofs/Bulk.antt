@@ -1,30 +1,20 @@
 -- A bulk send of the code as a step, for every list that its iterator has.
-use Rattle.std.proofs.lemmas.List.{append-nil}
-use Rattle.std.proofs.Common.{◌≡◌, ℕ, ◌+◌, ◌-◌, ◌<◌, ◌≤◌, ◌^◌, ◌⊎◌, true, false, List, refl, arith, inr, ◌∙◌}
-use Rattle.std.specs.Prelude.{Result, Ok, Err, Option}
-use Rattle.std.specs.declared.cmp.Ordering.{Ordering}
+use Rattle.std.proofs.Common.{◌≡◌, ℕ, ◌+◌, ◌-◌, ◌<◌, ◌≤◌, ◌^◌, ◌⊎◌, true, false, List, refl, arith, inr, ◌∙◌, append-nil, Ok, Err, Option}
 use Rattle.std.specs.declared.iter.Ahead.{Ahead}
 use Rattle.priority_channel_core.specs.declared.calls.Call.TheVariants as call
 use Rattle.priority_channel_core.specs.declared.calls.Answer.TheVariants as answer
-use Rattle.priority_channel_core.specs.declared.errors.TrySendError.{TrySendError}
-use Rattle.priority_channel_core.specs.declared.errors.TrySendError.TheVariants.{Full, Closed, Memory}
-use Rattle.priority_channel_core.specs.machine.State.{State, Handed, nobody, room}
-use Rattle.priority_channel_core.specs.machine.Good.{IsGood}
-use Rattle.priority_channel_core.specs.machine.Sends.{Sends}
-use Rattle.priority_channel_core.specs.code.Lists.{HasList}
-use Rattle.priority_channel_core.specs.code.Front.{HasMore, HasEnded, SendsFront}
-use Rattle.priority_channel_core.specs.code.Calls.{SameReply, Performs}
+use Rattle.priority_channel_core.specs.Prelude.{Full, Closed, Memory, State, Handed, nobody, room, IsGood, Sends, HasList, HasMore, HasEnded, SendsFront, SameReply, Performs, Ordering, SendReply}
 use Rattle.priority_channel_core.proofs.Sends.{refuses_full}
 
 -- a reply is right for every list that m holds
 pub record Replies {T P W M : Type 0} (holds : M → List (T × P) → Type 0) (old : State T P W) (m : M)
-    (reply : Result (Unit {0}) (TrySendError M)) (handed : Handed W) (new : State T P W) : Type 0 where
+    (reply : SendReply M) (handed : Handed W) (new : State T P W) : Type 0 where
   pub at : (pairs : List (T × P)) → holds m pairs
-      → (told : Result (Unit {0}) (TrySendError (List (T × P)))) × SameReply holds reply told × Sends old pairs told handed new
+      → (told : SendReply (List (T × P))) × SameReply holds reply told × Sends old pairs told handed new
 
 module _ {T P W M : Type 0} (holds : M → List (T × P) → Type 0) where
   pub performs_sendv : (cmp : P → P → Ordering) (is_clone : W → W → Type 0) (old new : State T P W) (m : M)
-      (reply : Result (Unit {0}) (TrySendError M)) (handed : Handed W) → IsGood new → Replies holds old m reply handed new
+      (reply : SendReply M) (handed : Handed W) → IsGood new → Replies holds old m reply handed new
       → Performs holds cmp is_clone old (call.TrySendv m) (answer.TrySendv reply) handed new
   performs_sendv cmp is_clone old new m reply handed good replies = record {
     at = λ meant same.

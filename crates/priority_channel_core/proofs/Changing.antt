@@ -1,15 +1,9 @@
 -- What a change of priority is in the channel.
-use Rattle.std.proofs.Common.{◌≡◌, ℕ, Bool, length, length-append, refl, arith}
-use Rattle.std.specs.Prelude.{Result, Ok, Err, IfOk, IfErr, OnErr}
-use Rattle.std.specs.declared.cmp.Ordering.{Ordering}
-use Rattle.priority_channel_bag.specs.Bag.{Contents}
-use Rattle.priority_channel_bag.specs.Least.{Changes, PassesFirst}
-use Rattle.priority_channel_core.specs.Word.{Word}
+use Rattle.std.proofs.Common.{◌≡◌, ℕ, Bool, length, length-append, refl, arith, Result, Ok, Err, IfOk, IfErr, OnErr}
+use Rattle.priority_channel_bag.specs.Prelude.{Contents, Changes, PassesFirst}
+use Rattle.priority_channel_core.specs.Prelude.{Word, State, nobody, Step, state_of, IsSound, Ordering}
 use Rattle.priority_channel_core.specs.declared.calls.Call.TheVariants as call
 use Rattle.priority_channel_core.specs.declared.calls.Answer.TheVariants as answer
-use Rattle.priority_channel_core.specs.machine.State.{State, nobody}
-use Rattle.priority_channel_core.specs.machine.Step.{Step}
-use Rattle.priority_channel_core.specs.code.Channel.{state_of, IsSound}
 
 module _ {T P W : Type 0} (cmp : P → P → Ordering) (is_clone : W → W → Type 0) (bag after : Contents T P) (word : Word W) (capacity : ℕ) (is_reserved : Bool)
     (senders receivers : ℕ) (sound : IsSound bag word (state_of bag word capacity is_reserved senders receivers)) where

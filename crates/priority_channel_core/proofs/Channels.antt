@@ -1,14 +1,9 @@
 -- The parts of a channel, after the loop of a bulk send has added a prefix to the bag and the word
 -- has risen.
 use Rattle.std.proofs.lemmas.Bool.Decides.{nat_tests}
-use Rattle.std.proofs.Common.{◌≡◌, ℕ, ◌+◌, ◌-◌, ◌<◌, ◌≤◌, ◌^◌, ◌⊎◌, Bool, false, List, [], ◌++◌, length, refl, arith, length-append}
-use Rattle.std.specs.Prelude.{◌==◌, if◌then◌else◌}
-use Rattle.priority_channel_core.specs.machine.State.{State, Handed, nobody}
-use Rattle.priority_channel_core.specs.machine.Sends.{AddsFront}
-use Rattle.priority_channel_bag.specs.Bag.{Contents}
-use Rattle.priority_channel_core.specs.Word.{Word}
-use Rattle.priority_channel_core.specs.Waiters.{HasOwnTickets}
-use Rattle.priority_channel_core.specs.code.Channel.{state_of, IsSound}
+use Rattle.std.proofs.Common.{◌≡◌, ℕ, ◌+◌, ◌-◌, ◌<◌, ◌≤◌, ◌^◌, ◌⊎◌, Bool, false, List, [], ◌++◌, length, refl, arith, length-append, ◌==◌, if◌then◌else◌}
+use Rattle.priority_channel_core.specs.Prelude.{State, Handed, nobody, AddsFront, Word, HasOwnTickets, state_of, IsSound}
+use Rattle.priority_channel_bag.specs.Prelude.{Contents}
 
 module _ {T P W : Type 0} (bag bag' : Contents T P) (word word' : Word W) (handed : Handed W) (capacity : ℕ) (is_reserved : Bool)
     (senders receivers n : ℕ) (front : List (T × P)) (long : length front ≡ n)

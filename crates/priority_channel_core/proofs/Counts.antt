@@ -2,7 +2,7 @@
 use Rattle.std.proofs.Common.{◌≡◌, ℕ, inl, inr, Bool, false, cond, List, [], ◌∷◌, arith}
 use Rattle.std.specs.List.{list_any}
 use Rattle.std.proofs.lemmas.List.Sums.{sum_by-cons}
-use Rattle.priority_channel_core.specs.code.Allowed.{count_after, ChangesCount, DropsFindHandles, AllowsSide}
+use Rattle.priority_channel_core.specs.Prelude.{count_after, ChangesCount, DropsFindHandles, AllowsSide}
 
 module _ {C : Type 0} (is_clone is_drop : C → Bool) where
   none_dropped : (count : ℕ) (calls : List C) → list_any is_drop calls ≡ false → DropsFindHandles is_clone is_drop count calls

@@ -1,16 +1,9 @@
 -- What a displacement is in the channel, and what it is to take out a pair that a test chooses.
-use Rattle.std.proofs.Common.{◌≡◌, ◌+◌, ◌<◌, ◌^◌, false, List, ◌∷◌, length, length-append, refl, arith, Some, Ok}
+use Rattle.std.proofs.Common.{◌≡◌, ◌+◌, ◌<◌, ◌^◌, false, List, ◌∷◌, length, length-append, refl, arith, Some, Ok, is_lt}
 use Rattle.std.proofs.lemmas.List.Elements.{recursion_from_All}
-use Rattle.std.specs.Ordering.{is_lt}
-use Rattle.std.specs.declared.cmp.Ordering.{Ordering}
 use Rattle.priority_channel_bag.proofs.Kept.{every_part}
-use Rattle.priority_channel_bag.specs.Least.{TakesOne, NoneBelow, Displaces}
-use Rattle.priority_channel_core.specs.machine.State.{State, Handed, nobody, room}
-use Rattle.priority_channel_core.specs.machine.Good.{IsGood}
-use Rattle.priority_channel_core.specs.machine.Evicts.{Evicts}
-use Rattle.priority_channel_core.specs.machine.OtherCalls.{Frees}
-use Rattle.priority_channel_core.specs.Waiters.{HasOwnTickets}
-use Rattle.priority_channel_core.specs.code.Room.{SomeBelow}
+use Rattle.priority_channel_bag.specs.Prelude.{TakesOne, NoneBelow, Displaces}
+use Rattle.priority_channel_core.specs.Prelude.{State, Handed, nobody, room, IsGood, Evicts, Frees, HasOwnTickets, SomeBelow, Ordering}
 
 pub none_or_some : {T P : Type 0} (cmp : P → P → Ordering) (pending : List (T × P)) (priority : P) → SomeBelow cmp pending priority → NoneBelow cmp pending priority → ⊥
 none_or_some {T} {P} cmp pending priority some none =
@@ -40,5 +33,4 @@ module _ {T P W : Type 0} (cmp : P → P → Ordering) (old new : State T P W) (
       )
 
 pub good_frees : {T P W : Type 0} (old new : State T P W) (handed : Handed W) → Frees old handed new → (pair : T × P) → TakesOne old.pending pair new.pending → IsGood old → HasOwnTickets new.waiters → IsGood new
-good_frees old new handed frees pair taken good tickets =
-    grind (arith, length-append)
+good_frees old new handed frees pair taken good tickets = grind (arith, length-append)

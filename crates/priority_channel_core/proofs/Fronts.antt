@@ -3,11 +3,9 @@ use Rattle.std.proofs.lemmas.List.{nil_from_length}
 use Rattle.std.proofs.Common.{◌≡◌, ℕ, ◌+◌, ◌<◌, ◌≤◌, List, [], ◌∷◌, ◌++◌, length, sym, ap, ◌∙◌, arith, append_assoc, length-append, Option, Some, Bool, true, false, IsTrue, ◌↔◌}
 use Rattle.std.specs.Iterator.Adapters.{peekable_steps}
 use Rattle.std.specs.declared.iter.Ahead.{Ahead}
-use Rattle.priority_channel_bag.specs.Bag.{Contents}
-use Rattle.priority_channel_core.specs.code.Lists.{HasList}
-use Rattle.priority_channel_core.specs.machine.State.{State, Handed}
-use Rattle.priority_channel_core.specs.code.Front.{Takes, HasMore, HasEnded, MovesFront, SendsFront, StopsFor, sent_before}
-use Rattle.priority_channel_core.specs.declared.channel.bulk.Stop.{Stop}
+use Rattle.priority_channel_bag.specs.Prelude.{Contents}
+use Rattle.priority_channel_core.specs.Prelude.{HasList, State, Handed, HasMore, HasEnded, MovesFront, SendsFront, StopsFor, sent_before, Stop}
+use Rattle.priority_channel_core.specs.code.Front.{Takes}
 use Rattle.priority_channel_core.proofs.Lists.{list_at_some}
 
 module _ {S X : Type 0} {steps : S → Option X → S → Type 0} where

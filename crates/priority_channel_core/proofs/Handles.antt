@@ -1,8 +1,6 @@
 -- The calls of a run that are left may be made.
 use Rattle.std.proofs.Common.{List, ◌∷◌, arith}
-use Rattle.priority_channel_core.specs.declared.calls.Call.{Call}
-use Rattle.priority_channel_core.specs.machine.State.{State}
-use Rattle.priority_channel_core.specs.code.Allowed.{IsAllowed, ChangesHandles, AllowsRun}
+use Rattle.priority_channel_core.specs.Prelude.{Call, State, IsAllowed, ChangesHandles, AllowsRun}
 use Rattle.priority_channel_core.proofs.Counts.{AllowsSide-more}
 
 module _ {T P W M F : Type 0} where

@@ -1,10 +1,9 @@
 -- What is known of the list of a `Peekable` at a call of `next`, and at a `peek`.
-use Rattle.std.proofs.Common.{◌≡◌, ◌<◌, ◌↔◌, IsTrue, is_some, List, [], ◌∷◌, ◌++◌, length, refl, sym, ap, arith, Option, Some, None, Bor}
-use Rattle.std.specs.Option.{option_copied}
+use Rattle.std.proofs.Common.{◌≡◌, ◌<◌, ◌↔◌, IsTrue, is_some, List, [], ◌∷◌, ◌++◌, length, refl, sym, ap, arith, Option, Some, None, Bor, option_copied}
 use Rattle.std.specs.Iterator.Adapters.{peekable_source, peekable_peeked, peekable_steps, PeeksNext}
 use Rattle.std.specs.Iterator.{AlwaysYields}
 use Rattle.std.specs.declared.iter.Ahead.{Ahead}
-use Rattle.priority_channel_core.specs.code.Lists.{HasList}
+use Rattle.priority_channel_core.specs.Prelude.{HasList}
 
 module _ {S A : Type 0} (steps : S → Option A → S → Type 0) where
   step-after_peek : (s t : Ahead S A) → PeeksNext steps s t → (r : Option A) (j : Ahead S A) → peekable_steps steps t r j → peekable_steps steps s r j

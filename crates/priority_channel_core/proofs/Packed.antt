@@ -2,7 +2,7 @@
 use Rattle.std.proofs.Common.{◌≡◌, ℕ, ◌%◌, ◌^◌, true, ◌∙◌, arith, bit_or}
 use Rattle.std.proofs.lemmas.Nat.{le_or_r, or_mod, or_disjoint, and_le_r}
 use Rattle.std.proofs.lemmas.Bool.Decides.{nat_tests}
-use Rattle.priority_channel_core.specs.Word.{closed_bit, count_below}
+use Rattle.priority_channel_core.specs.Prelude.{closed_bit, count_below}
 
 pub closed_bit-set : (n : ℕ) → closed_bit (bit_or n (2 ^ 63)) ≡ true
 closed_bit-set n = let h = le_or_r n (2 ^ 63) in grind (arith, nat_tests)

@@ -1,40 +1,18 @@
 -- Polls, by what their try left and how they ended.
 use Rattle.priority_channel_bag.proofs.Digits.{digits-mono}
-use Rattle.std.proofs.Common.{◌≡◌, ℕ, ◌*◌, ◌≤◌, true, List, length, refl, arith}
-use Rattle.std.specs.Prelude.{Result, Ok, Err, Option, None, Some, IfSome, IfErr}
-use Rattle.std.specs.declared.cmp.Ordering.{Ordering}
+use Rattle.std.proofs.Common.{◌≡◌, ℕ, ◌*◌, ◌≤◌, true, List, length, refl, arith, Ok, Err, Option, None, Some, IfSome, IfErr}
 use Rattle.priority_channel_core.specs.declared.calls.Call.TheVariants as call
 use Rattle.priority_channel_core.specs.declared.calls.Answer.TheVariants as answer
-use Rattle.priority_channel_core.specs.declared.calls.CorePoll.{CorePoll}
-use Rattle.priority_channel_core.specs.declared.calls.CorePoll.TheVariants.{Ready, Pending}
-use Rattle.priority_channel_core.specs.declared.side.Side.{Side}
-use Rattle.priority_channel_core.specs.declared.side.Side.TheVariants.{Room}
-use Rattle.priority_channel_core.specs.declared.errors.TrySendError.{TrySendError}
-use Rattle.priority_channel_core.specs.declared.errors.TrySendError.TheVariants.{Full, Closed, Memory}
-use Rattle.priority_channel_core.specs.declared.errors.SendFault.{SendFault}
+use Rattle.priority_channel_core.specs.Prelude.{Ready, Pending, Side, Room, Full, Closed, Memory, rest_of, is_given_listed, unlist, search_bound, State, Handed, IsGood, AddsFront, Sends, Receives, send_answer, recv_answer, Ends, CountedState, ComparesAtMost, IsBlocked, kept_by, waits_under, PollsFront, SameReply, SamePoll, Performs, Ordering, SendReply, RecvReply, SendPoll, RecvPoll}
 use Rattle.priority_channel_core.specs.declared.errors.SendFault.TheVariants as send
-use Rattle.priority_channel_core.specs.declared.errors.TryRecvError.{TryRecvError}
-use Rattle.priority_channel_core.specs.declared.errors.RecvFault.{RecvFault}
-use Rattle.priority_channel_core.specs.Errors.{rest_of}
-use Rattle.priority_channel_bag.specs.Digits.{digits}
-use Rattle.priority_channel_core.specs.Waiting.{is_given_listed}
-use Rattle.priority_channel_core.specs.Waiters.{unlist, search_bound}
-use Rattle.priority_channel_core.specs.machine.State.{State, Handed}
-use Rattle.priority_channel_core.specs.machine.Good.{IsGood}
-use Rattle.priority_channel_core.specs.machine.Sends.{AddsFront, Sends}
-use Rattle.priority_channel_core.specs.machine.OtherCalls.{Receives}
-use Rattle.priority_channel_core.specs.machine.Polls.{send_answer, recv_answer, Ends}
-use Rattle.priority_channel_core.specs.code.Channel.{CountedState, ComparesAtMost, IsBlocked}
-use Rattle.priority_channel_core.specs.code.Replies.{kept_by, waits_under}
-use Rattle.priority_channel_core.specs.code.Front.{PollsFront}
-use Rattle.priority_channel_core.specs.code.Calls.{SameReply, SamePoll, Performs}
+use Rattle.priority_channel_bag.specs.Prelude.{digits}
 
 -- what holds of each answer to a poll of a send, with the reply and the ticket that it is made from
-pub send_answers : {K : Type 0} (Q : Result (Unit {0}) (TrySendError K) → Option ℕ → CorePoll (Result (Unit {0}) (SendFault K)) K → Type 0)
+pub send_answers : {K : Type 0} (Q : SendReply K → Option ℕ → SendPoll K → Type 0)
     → ((done : Unit {0}) → Q (Ok done) None (Ready (Ok done))) → ((rest : K) → Q (Err (Closed rest)) None (Ready (Err (send.Closed (record { 0 = rest })))))
     → ((rest : K) → Q (Err (Memory rest)) None (Ready (Err (send.Memory rest)))) → ((rest : K) → Q (Err (Full rest)) None (Ready (Err (send.Memory rest))))
     → ((rest : K) (ticket : ℕ) → Q (Err (Full rest)) (Some ticket) (Pending rest ticket))
-    → (reply : Result (Unit {0}) (TrySendError K)) (listed : Option ℕ) (poll : CorePoll (Result (Unit {0}) (SendFault K)) K) → send_answer reply listed ≡ Some poll → Q reply listed poll
+    → (reply : SendReply K) (listed : Option ℕ) (poll : SendPoll K) → send_answer reply listed ≡ Some poll → Q reply listed poll
 send_answers Q done closed memory refused waits (Ok sent) None poll h = let e : poll ≡ Ready (Ok sent) = cc in rw e (done sent)
 send_answers Q done closed memory refused waits (Err (Closed rest)) None poll h = let e : poll ≡ Ready (Err (send.Closed (record { 0 = rest }))) = cc in rw e (closed rest)
 send_answers Q done closed memory refused waits (Err (Memory rest)) None poll h = let e : poll ≡ Ready (Err (send.Memory rest)) = cc in rw e (memory rest)
@@ -43,15 +21,15 @@ send_answers Q done closed memory refused waits (Err (Full rest)) (Some ticket) 
 send_answers Q done closed memory refused waits reply (Some ticket) poll h = absurd (cc)
 
 -- a caller that is answered no longer waits, and a caller that waits has a ticket
-pub send_waits_under : {K : Type 0} (reply : Result (Unit {0}) (TrySendError K)) (listed : Option ℕ) (poll : CorePoll (Result (Unit {0}) (SendFault K)) K)
+pub send_waits_under : {K : Type 0} (reply : SendReply K) (listed : Option ℕ) (poll : SendPoll K)
     → send_answer reply listed ≡ Some poll → listed ≡ waits_under poll
 send_waits_under reply listed poll h = grind arith
 
-pub recv_waits_under : {A : Type 0} (reply : Result A TryRecvError) (listed : Option ℕ) (poll : CorePoll (Result A RecvFault) (Unit {0}))
+pub recv_waits_under : {A : Type 0} (reply : RecvReply A) (listed : Option ℕ) (poll : RecvPoll A)
     → recv_answer reply listed ≡ Some poll → listed ≡ waits_under poll
 recv_waits_under reply listed poll h = grind arith
 
-pub kept_callable : {M : Type 0} (can : M → Type 0) (reply : Result (Unit {0}) (TrySendError M)) (listed : Option ℕ) (poll : CorePoll (Result (Unit {0}) (SendFault M)) M)
+pub kept_callable : {M : Type 0} (can : M → Type 0) (reply : SendReply M) (listed : Option ℕ) (poll : SendPoll M)
     → IfErr reply (λ error. can (rest_of error)) → send_answer reply listed ≡ Some poll → IfSome (kept_by poll) can
 kept_callable can reply listed poll h is = grind arith
 
@@ -64,7 +42,7 @@ pub sent_searches_less : {T P W : Type 0} (old mid : State T P W) (front : List 
     → search_bound mid.waiters ≤ search_bound old.waiters
 sent_searches_less old mid front handed adds = grind (arith, digits-mono)
 
-pub received_searches_less : {T P W : Type 0} (cmp : P → P → Ordering) (old mid : State T P W) (reply : Result (T × P) TryRecvError) (handed : Handed W)
+pub received_searches_less : {T P W : Type 0} (cmp : P → P → Ordering) (old mid : State T P W) (reply : RecvReply (T × P)) (handed : Handed W)
     → Receives cmp old reply handed mid → search_bound mid.waiters ≤ search_bound old.waiters
 received_searches_less cmp old mid reply handed received = grind (arith, digits-mono)
 
@@ -85,9 +63,9 @@ module _ {T P W : Type 0} (is_clone : W → W → Type 0) (old mid new : Counted
 
 module _ {T P M : Type 0} (holds : M → List (T × P) → Type 0) where
   -- the same reply and the same ticket make the same answer
-  pub same_answer : (reply : Result (Unit {0}) (TrySendError M)) (told : Result (Unit {0}) (TrySendError (List (T × P)))) (listed : Option ℕ)
-      (poll : CorePoll (Result (Unit {0}) (SendFault M)) M) → SameReply holds reply told → send_answer reply listed ≡ Some poll
-      → (p : CorePoll (Result (Unit {0}) (SendFault (List (T × P)))) (List (T × P))) × (send_answer told listed ≡ Some p) × SamePoll holds poll p
+  pub same_answer : (reply : SendReply M) (told : SendReply (List (T × P))) (listed : Option ℕ)
+      (poll : SendPoll M) → SameReply holds reply told → send_answer reply listed ≡ Some poll
+      → (p : SendPoll (List (T × P))) × (send_answer told listed ≡ Some p) × SamePoll holds poll p
   same_answer (Ok done) told None poll same is = (Ready (Ok tt), grind arith, grind arith)
   same_answer (Err (Closed rest)) told None poll same is = (Ready (Err (send.Closed (record { 0 = same.0 }))), grind arith, grind arith)
   same_answer (Err (Memory rest)) told None poll same is = (Ready (Err (send.Memory same.0)), grind arith, grind arith)
@@ -98,7 +76,7 @@ module _ {T P M : Type 0} (holds : M → List (T × P) → Type 0) where
   -- a try of a bulk send and then the end of its poll are a poll, for every list that the iterator
   -- has
   pub performs_poll : {W : Type 0} (is_clone : W → W → Type 0) (cmp : P → P → Ordering) (old mid new : State T P W) (handed : Handed W) (m : M) (given listed : Option ℕ) (waker : W)
-      (reply : Result (Unit {0}) (TrySendError M)) (poll : CorePoll (Result (Unit {0}) (SendFault M)) M)
+      (reply : SendReply M) (poll : SendPoll M)
       → Performs holds cmp is_clone old (call.TrySendv m) (answer.TrySendv reply) handed mid
       → send_answer reply listed ≡ Some poll → Ends is_clone Room given waker listed mid new → IsGood new
       → Performs holds cmp is_clone old (call.PollSendv m given waker) (answer.PollSendv poll) handed new

@@ -1,22 +1,12 @@
 -- Runs of the code's calls, one more call at a time.
 use Rattle.std.proofs.lemmas.Slice.Zip.{all_zipped_more}
-use Rattle.std.proofs.Common.{◌≡◌, ℕ, ◌+◌, List, [], ◌∷◌, ◌++◌, length, map, drop, refl, ap, ◌∙◌, append_assoc, drop-drop, arith}
-use Rattle.std.specs.Prelude.{Bool, true, Option, IfSome, IfOk, is_ok, OnOk}
-use Rattle.std.specs.declared.result.Result.{Result}
+use Rattle.std.proofs.Common.{◌≡◌, ℕ, ◌+◌, List, [], ◌∷◌, ◌++◌, length, map, drop, refl, ap, ◌∙◌, append_assoc, drop-drop, arith, Bool, true, Option, IfSome, IfOk, is_ok, OnOk, Result}
 use Rattle.std.specs.List.{AllZip}
 use Rattle.std.proofs.lemmas.List.{map-append}
-use Rattle.std.specs.declared.cmp.Ordering.{Ordering}
-use Rattle.priority_channel_bag.specs.Least.{Changes, PassesFirst}
-use Rattle.priority_channel_core.specs.declared.calls.Call.{Call}
+use Rattle.priority_channel_bag.specs.Prelude.{Changes, PassesFirst}
+use Rattle.priority_channel_core.specs.Prelude.{Call, Answer, State, Handed, Step, Calls, Answers, Operation, Run, Response, AtSomePlace, SameButPlace, SameCall, SameOperation, Makes, Performs, RunsFront, MeetsTest, AllMeetTests, SameAnswer, Ordering}
 use Rattle.priority_channel_core.specs.declared.calls.Call.TheVariants.{TakeWhere, ChangePriority}
-use Rattle.priority_channel_core.specs.declared.calls.Answer.{Answer}
 use Rattle.priority_channel_core.specs.declared.calls.Answer.TheVariants as answer
-use Rattle.priority_channel_core.specs.machine.State.{State, Handed}
-use Rattle.priority_channel_core.specs.machine.Step.{Step, Calls, Answers}
-use Rattle.priority_channel_core.specs.machine.Run.{Operation, Run}
-use Rattle.priority_channel_core.specs.code.Calls.{Response, AtSomePlace, SameButPlace, SameCall, SameOperation, Makes, Performs, RunsFront}
-use Rattle.priority_channel_core.specs.code.Tests.{MeetsTest, AllMeetTests}
-use Rattle.priority_channel_core.specs.code.Answers.{SameAnswer}
 
 pub zip_push : {A B : Type 0} (R : A → B → Type 0) (xs : List A) (ys : List B) (x : A) (y : B) → AllZip R xs ys → R x y → AllZip R (xs ++ x ∷ []) (ys ++ y ∷ [])
 zip_push R xs ys x y a r = all_zipped_more R xs ys x y a r

@@ -1,17 +1,12 @@
 -- Adding a prefix of a list, as a send of the list.
-use Rattle.std.proofs.Common.{◌≡◌, ◌+◌, ◌<◌, ◌^◌, ◌⊎◌, false, List, [], length, refl, sym, arith, inl}
-use Rattle.std.specs.Prelude.{Result, Ok, Err}
-use Rattle.std.proofs.lemmas.List.{append-nil}
-use Rattle.priority_channel_core.specs.declared.errors.TrySendError.TheVariants.{Full, Closed, Memory}
-use Rattle.priority_channel_core.specs.declared.errors.TrySendError.{TrySendError}
-use Rattle.priority_channel_core.specs.machine.State.{State, Handed, nobody, room}
-use Rattle.priority_channel_core.specs.machine.Sends.{AddsFront, Sends}
+use Rattle.std.proofs.Common.{◌≡◌, ◌+◌, ◌<◌, ◌^◌, ◌⊎◌, false, List, [], length, refl, sym, arith, inl, Ok, Err, append-nil}
+use Rattle.priority_channel_core.specs.Prelude.{Full, Closed, Memory, State, Handed, nobody, room, AddsFront, Sends, SendReply}
 
 module _ {T P W : Type 0} where
   pub adds_none : (s : State T P W) → AddsFront s [] nobody s
   adds_none s = record { handed_is = refl; new_is = grind (arith, append-nil) }
 
-  pub sends_front : (old new : State T P W) (pairs : List (T × P)) (reply : Result (Unit {0}) (TrySendError (List (T × P)))) (handed : Handed W)
+  pub sends_front : (old new : State T P W) (pairs : List (T × P)) (reply : SendReply (List (T × P))) (handed : Handed W)
       → Sends old pairs reply handed new → (front : List (T × P)) × AddsFront old front handed new
   sends_front old new pairs (Ok done) handed sends = (pairs, sends.2.1)
   sends_front old new pairs (Err (Closed rest)) handed sends = ([], rw (sends.2.0, sends.2.1) (adds_none old))

@@ -1,17 +1,10 @@
 -- What takings in a row do in the channel.
 use Rattle.std.proofs.Common.{◌≡◌, ℕ, ◌+◌, ◌==◌, if◌then◌else◌, List, [], ◌∷◌, length, length-append, map, refl, sym, ap, subst, arith, Some}
 use Rattle.std.proofs.lemmas.Bool.Decides.{nat_tests}
-use Rattle.std.specs.declared.cmp.Ordering.{Ordering}
-use Rattle.priority_channel_bag.specs.Least.{TakesOne, TakesAll}
-use Rattle.priority_channel_core.specs.Waiters.{HasOwnTickets}
+use Rattle.priority_channel_bag.specs.Prelude.{TakesOne, TakesAll}
+use Rattle.priority_channel_core.specs.Prelude.{HasOwnTickets, State, Handed, nobody, IsGood, Frees, Step, Run, Placed, in_turn, takes, TakesInTurn, Ordering}
 use Rattle.priority_channel_core.specs.declared.calls.Call.TheVariants as call
 use Rattle.priority_channel_core.specs.declared.calls.Answer.TheVariants as answer
-use Rattle.priority_channel_core.specs.machine.State.{State, Handed, nobody}
-use Rattle.priority_channel_core.specs.machine.Good.{IsGood}
-use Rattle.priority_channel_core.specs.machine.OtherCalls.{Frees}
-use Rattle.priority_channel_core.specs.machine.Step.{Step}
-use Rattle.priority_channel_core.specs.machine.Run.{Run}
-use Rattle.priority_channel_core.specs.code.Many.{Placed, in_turn, takes, TakesInTurn}
 use Rattle.priority_channel_core.proofs.Evicting.{good_frees}
 
 module _ {T P : Type 0} where

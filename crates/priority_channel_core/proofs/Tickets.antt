@@ -1,14 +1,11 @@
 -- If a waiter is listed or a ticket is taken off, each ticket remains one of the word's own, and in
 -- one list only.
 use Rattle.std.proofs.lemmas.Bool.Decides.{nat_tests}
-use Rattle.std.proofs.Common.{◌≡◌, ℕ, ◌+◌, ◌<◌, ◌≤◌, ◌≢◌, false, not, List, [], ◌∷◌, ◌++◌, map, sym, subst, arith}
-use Rattle.std.specs.Prelude.{◌==◌, if◌then◌else◌, Option, Some, None, IfSome, IfNone}
-use Rattle.std.specs.List.{All}
+use Rattle.std.proofs.Common.{◌≡◌, ℕ, ◌+◌, ◌<◌, ◌≤◌, ◌≢◌, false, not, List, [], ◌∷◌, ◌++◌, map, sym, subst, arith, ◌==◌, if◌then◌else◌, Option, Some, None, IfSome, IfNone, All}
 use Rattle.std.proofs.lemmas.Bool.{ne_eqb}
 use Rattle.std.proofs.lemmas.List.Elements.{All-filter, All-map, All-push, All-weaker}
 use Rattle.std.proofs.lemmas.List.Folds.{list_any_none}
-use Rattle.priority_channel_core.specs.Waiting.{IsRising, is_listed, without, with_waker, without_given, listing, fresh, Listing, IsListing}
-use Rattle.priority_channel_core.specs.Waiters.{HasOwnTickets}
+use Rattle.priority_channel_core.specs.Prelude.{IsRising, is_listed, without, with_waker, without_given, listing, fresh, Listing, IsListing, HasOwnTickets}
 use Rattle.priority_channel_core.proofs.Waiting.{all_from_unlisted, rising-with_waker, rising-without}
 use Rattle.std.proofs.lemmas.List.Quantifiers.{all_pairs_push}
 

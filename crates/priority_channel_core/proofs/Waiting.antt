@@ -1,15 +1,13 @@
 -- A ticket in a waiting list whose tickets rise.
-use Rattle.std.proofs.Common.{◌≡◌, ℕ, zero, suc, ◌+◌, ◌<◌, ◌≤◌, ◌≢◌, Bool, true, false, not, List, [], ◌∷◌, length, get_or, set, refl, sym, ap, ◌∙◌, arith, eq-eqb}
-use Rattle.std.specs.Prelude.{◌==◌, ◌++◌, if◌then◌else◌, Option, Some, None, option_to_list}
+use Rattle.std.proofs.Common.{◌≡◌, ℕ, zero, suc, ◌+◌, ◌<◌, ◌≤◌, ◌≢◌, Bool, true, false, not, List, [], ◌∷◌, length, get_or, set, refl, sym, ap, ◌∙◌, arith, eq-eqb, ◌==◌, ◌++◌, if◌then◌else◌, Option, Some, None, option_to_list}
 use Rattle.std.specs.List.{All, AllWithin, HoldsAt, filter, remove}
 use Rattle.std.proofs.lemmas.List.{same_lists, length-set, length-map, get_or-set_same, get_or-set_other, get_or-map}
 use Rattle.std.proofs.lemmas.List.Elements.{All-head, All-tail}
 use Rattle.std.proofs.lemmas.List.Folds.{list_any_none, list_any_at}
 use Rattle.std.proofs.lemmas.List.Kept.{AllPairs-filter}
 use Rattle.std.proofs.lemmas.Bool.Decides.{nat_tests}
-use Rattle.std.specs.declared.cmp.Ordering.{Ordering}
 use Rattle.std.specs.Ordering.{MatchOrdering, nat_cmp}
-use Rattle.priority_channel_core.specs.Waiting.{IsRising, is_listed, without, with_waker, listing}
+use Rattle.priority_channel_core.specs.Prelude.{IsRising, is_listed, without, with_waker, listing, Ordering}
 
 -- the meaning of a comparison of two numbers
 pub ranked : (o : Ordering) (x y : ℕ) → o ≡ nat_cmp x y → MatchOrdering o (x < y) (x ≡ y) (y < x)
@@ -21,8 +19,7 @@ filter_kept p (x ∷ xs) h = rw (All-head (λ y. p y ≡ true) x xs h) (ap (λ l
 
 module _ {W : Type 0} where
   pub below_rising : (xs : List (ℕ × W)) (t i : ℕ) → IsRising xs → i < length xs → HoldsAt (λ a. a.0 < t) xs i → AllWithin (λ a. a.0 < t) xs 0 (i + 1)
-  below_rising xs t i rising lt here =
-      grind arith
+  below_rising xs t i rising lt here = grind arith
 
   pub above_rising : (xs : List (ℕ × W)) (t i : ℕ) → IsRising xs → HoldsAt (λ a. t < a.0) xs i → AllWithin (λ a. t < a.0) xs i (length xs)
   above_rising xs t i rising here = grind arith
@@ -64,8 +61,7 @@ module _ {W : Type 0} where
   all_from_unlisted xs t none = grind (arith, list_any_at)
 
   pub without_unlisted : (xs : List (ℕ × W)) (t : ℕ) → is_listed t xs ≡ false → without t xs ≡ xs
-  without_unlisted xs t none =
-      filter_kept (λ a. not (a.0 == t)) xs (grind (arith, list_any_at))
+  without_unlisted xs t none = filter_kept (λ a. not (a.0 == t)) xs (grind (arith, list_any_at))
 
   pub listing_renewed : (xs : List (ℕ × W)) (t next : ℕ) (w : W) → is_listed t xs ≡ true
       → listing (Some t) w xs next ≡ record { ticket = t; waiters = with_waker t w xs; next_ticket = next }

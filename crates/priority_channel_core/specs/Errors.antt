@@ -1,14 +1,9 @@
 -- What the errors of sends and receives hold and print.
 use Rattle.std.specs.Prelude.{ℕ, List, codes}
-use Rattle.priority_channel_core.specs.declared.errors.TrySendError.{TrySendError}
-use Rattle.priority_channel_core.specs.declared.errors.TrySendError.TheVariants.{Full, Closed, Memory}
-use Rattle.priority_channel_core.specs.declared.errors.TryRecvError.{TryRecvError}
+use Rattle.priority_channel_core.specs.Types.{TrySendError, Full, Closed, Memory, TryRecvError, TryRecvManyError, SendFault, RecvFault}
 use Rattle.priority_channel_core.specs.declared.errors.TryRecvError.TheVariants as recv_error
-use Rattle.priority_channel_core.specs.declared.errors.TryRecvManyError.{TryRecvManyError}
 use Rattle.priority_channel_core.specs.declared.errors.TryRecvManyError.TheVariants as many_error
-use Rattle.priority_channel_core.specs.declared.errors.SendFault.{SendFault}
 use Rattle.priority_channel_core.specs.declared.errors.SendFault.TheVariants as send_fault
-use Rattle.priority_channel_core.specs.declared.errors.RecvFault.{RecvFault}
 use Rattle.priority_channel_core.specs.declared.errors.RecvFault.TheVariants as recv_fault
 
 module _ {A : Type 0} where

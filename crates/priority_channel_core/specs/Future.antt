@@ -1,11 +1,8 @@
 -- Futures: the task of each, and how far it has come.
 use Rattle.std.specs.Prelude.{◌≡◌, ℕ, List, Option, Some, None}
-use Rattle.std.specs.declared.cmp.Ordering.{Ordering}
-use Rattle.priority_channel_core.specs.declared.calls.Call.{Call}
+use Rattle.priority_channel_core.specs.Types.{Call, Answer, Pending, Ordering}
 use Rattle.priority_channel_core.specs.declared.calls.Call.TheVariants.{PollSend, PollSendv, PollRecv, GiveUp}
-use Rattle.priority_channel_core.specs.declared.calls.Answer.{Answer}
 use Rattle.priority_channel_core.specs.declared.calls.Answer.TheVariants as answer
-use Rattle.priority_channel_core.specs.declared.calls.CorePoll.TheVariants.{Pending}
 use Rattle.priority_channel_core.specs.machine.State.{State, nobody}
 use Rattle.priority_channel_core.specs.machine.Step.{Step}
 

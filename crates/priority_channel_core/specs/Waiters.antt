@@ -1,9 +1,7 @@
 -- The waiters on both sides of a channel.
-use Rattle.std.specs.Prelude.{◌≡◌, true, false, ℕ, ◌+◌, ◌<◌, List, [], length, Option, Some, None}
-use Rattle.std.specs.List.{All}
-use Rattle.priority_channel_bag.specs.Digits.{digits}
-use Rattle.priority_channel_core.specs.declared.side.Side.{Side}
-use Rattle.priority_channel_core.specs.declared.side.Side.TheVariants.{Room, Message}
+use Rattle.std.specs.Prelude.{◌≡◌, true, false, ℕ, ◌+◌, ◌<◌, List, [], length, Option, Some, None, All}
+use Rattle.priority_channel_bag.specs.Prelude.{digits}
+use Rattle.priority_channel_core.specs.Types.{Side, Room, Message}
 use Rattle.priority_channel_core.specs.Waiting.{Listing, IsRising, is_listed, without_given, listing}
 
 pub record Waiters (W : Type 0) : Type 0 where

@@ -5,9 +5,7 @@
 //! memory and read back at once.
 ghost use Rattle.std.specs.Prelude.{◌≡◌, ◌+◌, ◌-◌, ◌<◌, ◌≤◌, ◌^◌, ◌==◌, if◌then◌else◌, [], IsSome, true, false, Some};
 ghost use Rattle.priority_channel_core.specs.Word.{nobody};
-ghost use Rattle.priority_channel_core.specs.Waiting.{is_given_listed};
-ghost use Rattle.priority_channel_core.specs.Waiters.{HasOwnTickets, no_waiters, on_side, unlist, Enlists, search_bound};
-ghost use Rattle.priority_channel_core.specs.Word.{closed_bit, count_below};
+ghost use Rattle.priority_channel_core.specs.Prelude.{is_given_listed, HasOwnTickets, no_waiters, on_side, unlist, Enlists, search_bound, closed_bit, count_below};
 
 use crate::side::Side;
 use crate::waiting_list::WaitingList;
@@ -81,8 +79,7 @@ pub struct AwaitableAtomicCounterAndBit<W, A: Allocator = Global> {
 }
 
 impl<W, A: Allocator> Model for AwaitableAtomicCounterAndBit<W, A> {
-    ghost use Rattle.priority_channel_core.specs.Waiters.{HasOwnTickets};
-    ghost use Rattle.priority_channel_core.specs.Word.{CountedWord, closed_bit, count_below};
+    ghost use Rattle.priority_channel_core.specs.Prelude.{HasOwnTickets, CountedWord, closed_bit, count_below};
 
     ghost Value = { CountedWord W };
 

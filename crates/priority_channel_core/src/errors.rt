@@ -25,7 +25,7 @@ pub enum TrySendError<T> {
 }
 
 impl<T> TrySendError<T> {
-    ghost use Rattle.priority_channel_core.specs.Errors.{rest_of};
+    ghost use Rattle.priority_channel_core.specs.Prelude.{rest_of};
 
     /// Returns what was to be sent.
     pub fn into_inner(self) -> T
@@ -61,7 +61,7 @@ impl<T> TrySendError<T> {
 }
 
 impl<T> fmt::Display for TrySendError<T> {
-    ghost use Rattle.priority_channel_core.specs.Errors.{try_send_error_text};
+    ghost use Rattle.priority_channel_core.specs.Prelude.{try_send_error_text};
 
     ghost output = { λ error. Some (try_send_error_text error) };
 
@@ -75,7 +75,7 @@ impl<T> fmt::Display for TrySendError<T> {
 }
 
 impl<T> fmt::Debug for TrySendError<T> {
-    ghost use Rattle.priority_channel_core.specs.Errors.{try_send_error_debug};
+    ghost use Rattle.priority_channel_core.specs.Prelude.{try_send_error_debug};
 
     ghost debug_output = { λ error. Some (try_send_error_debug error) };
 
@@ -91,7 +91,7 @@ impl<T> fmt::Debug for TrySendError<T> {
 impl<T: Drop> Error for TrySendError<T> {}
 
 impl<T> From<SendError<T>> for TrySendError<T> {
-    ghost use Rattle.priority_channel_core.specs.declared.errors.TrySendError.{TrySendError};
+    ghost use Rattle.priority_channel_core.specs.Prelude.{TrySendError};
 
     ghost from_gives = { λ closed error. error ≡ TrySendError.Closed closed.0 };
 
@@ -101,7 +101,7 @@ impl<T> From<SendError<T>> for TrySendError<T> {
 }
 
 impl<T> From<SendFault<T>> for TrySendError<T> {
-    ghost use Rattle.priority_channel_core.specs.Errors.{refusal_for};
+    ghost use Rattle.priority_channel_core.specs.Prelude.{refusal_for};
 
     ghost from_gives = { λ fault error. error ≡ refusal_for fault };
 
@@ -139,7 +139,7 @@ impl TryRecvError {
 }
 
 impl fmt::Display for TryRecvError {
-    ghost use Rattle.priority_channel_core.specs.Errors.{try_recv_error_text};
+    ghost use Rattle.priority_channel_core.specs.Prelude.{try_recv_error_text};
 
     ghost output = { λ error. Some (try_recv_error_text error) };
 
@@ -154,7 +154,7 @@ impl fmt::Display for TryRecvError {
 impl Error for TryRecvError {}
 
 impl From<RecvError> for TryRecvError {
-    ghost use Rattle.priority_channel_core.specs.declared.errors.TryRecvError.{TryRecvError};
+    ghost use Rattle.priority_channel_core.specs.Prelude.{TryRecvError};
 
     ghost from_gives = { λ _ error. error ≡ TryRecvError.Closed };
 
@@ -198,7 +198,7 @@ impl TryRecvManyError {
 }
 
 impl fmt::Display for TryRecvManyError {
-    ghost use Rattle.priority_channel_core.specs.Errors.{try_recv_many_error_text};
+    ghost use Rattle.priority_channel_core.specs.Prelude.{try_recv_many_error_text};
 
     ghost output = { λ error. Some (try_recv_many_error_text error) };
 
@@ -214,7 +214,7 @@ impl fmt::Display for TryRecvManyError {
 impl Error for TryRecvManyError {}
 
 impl From<TryRecvError> for TryRecvManyError {
-    ghost use Rattle.priority_channel_core.specs.Errors.{batch_error_for};
+    ghost use Rattle.priority_channel_core.specs.Prelude.{batch_error_for};
 
     ghost from_gives = { λ error many. many ≡ batch_error_for error };
 
@@ -281,7 +281,7 @@ pub enum SendFault<T> {
 }
 
 impl<T> SendFault<T> {
-    ghost use Rattle.priority_channel_core.specs.Errors.{unsent};
+    ghost use Rattle.priority_channel_core.specs.Prelude.{unsent};
 
     /// Returns what was not sent.
     pub fn into_inner(self) -> T
@@ -308,7 +308,7 @@ impl<T> SendFault<T> {
 }
 
 impl<T> fmt::Display for SendFault<T> {
-    ghost use Rattle.priority_channel_core.specs.Errors.{send_fault_text};
+    ghost use Rattle.priority_channel_core.specs.Prelude.{send_fault_text};
 
     ghost output = { λ fault. Some (send_fault_text fault) };
 
@@ -321,7 +321,7 @@ impl<T> fmt::Display for SendFault<T> {
 }
 
 impl<T> fmt::Debug for SendFault<T> {
-    ghost use Rattle.priority_channel_core.specs.Errors.{send_fault_debug};
+    ghost use Rattle.priority_channel_core.specs.Prelude.{send_fault_debug};
 
     ghost debug_output = { λ fault. Some (send_fault_debug fault) };
 
@@ -336,7 +336,7 @@ impl<T> fmt::Debug for SendFault<T> {
 impl<T: Drop> Error for SendFault<T> {}
 
 impl<T> From<SendError<T>> for SendFault<T> {
-    ghost use Rattle.priority_channel_core.specs.declared.errors.SendFault.{SendFault};
+    ghost use Rattle.priority_channel_core.specs.Prelude.{SendFault};
 
     ghost from_gives = { λ closed fault. fault ≡ SendFault.Closed closed };
 
@@ -371,7 +371,7 @@ impl RecvFault {
 }
 
 impl fmt::Display for RecvFault {
-    ghost use Rattle.priority_channel_core.specs.Errors.{recv_fault_text};
+    ghost use Rattle.priority_channel_core.specs.Prelude.{recv_fault_text};
 
     ghost output = { λ fault. Some (recv_fault_text fault) };
 
@@ -386,7 +386,7 @@ impl fmt::Display for RecvFault {
 impl Error for RecvFault {}
 
 impl From<RecvError> for RecvFault {
-    ghost use Rattle.priority_channel_core.specs.declared.errors.RecvFault.{RecvFault};
+    ghost use Rattle.priority_channel_core.specs.Prelude.{RecvFault};
 
     ghost from_gives = { λ closed fault. fault ≡ RecvFault.Closed closed };
 

@@ -3,7 +3,7 @@ ghost use Rattle.std.specs.Prelude.{◌≡◌, List, None};
 ghost use Rattle.std.specs.Iterator.{AlwaysYields};
 ghost use Rattle.std.specs.Iterator.Adapters.{peekable_peeked, peekable_source};
 ghost use Rattle.std.specs.declared.iter.Ahead.{Ahead};
-ghost use Rattle.priority_channel_core.specs.code.Lists.{HasList};
+ghost use Rattle.priority_channel_core.specs.Prelude.{HasList};
 
 pub use priority_channel_bag::laws::{digits_law, one_greatest_law, one_least_law};
 

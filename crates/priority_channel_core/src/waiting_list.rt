@@ -1,8 +1,7 @@
 //! The list of the waiters on one side.
-ghost use Rattle.std.specs.Prelude.{◌≡◌, ℕ, ◌+◌, ◌<◌, ◌≤◌, false, IfSome, IsSome, true, IfNone, None, List, [], ◌++◌, length, option_to_list, ◌^◌};
-ghost use Rattle.std.specs.List.{All, HoldsAt};
-ghost use Rattle.priority_channel_bag.specs.Digits.{digits};
-ghost use Rattle.priority_channel_core.specs.Waiting.{is_listed, is_given_listed, without, with_waker, without_given, IsListing};
+ghost use Rattle.std.specs.Prelude.{◌≡◌, ℕ, ◌+◌, ◌<◌, ◌≤◌, false, IfSome, IsSome, true, IfNone, None, List, [], ◌++◌, length, option_to_list, ◌^◌, All, HoldsAt};
+ghost use Rattle.priority_channel_bag.specs.Prelude.{digits};
+ghost use Rattle.priority_channel_core.specs.Prelude.{is_listed, is_given_listed, without, with_waker, without_given, IsListing};
 
 mod entries;
 
@@ -20,7 +19,7 @@ pub struct WaitingList<W, A: Allocator = Global> {
 
 impl<W, A: Allocator> Model for WaitingList<W, A> {
     ghost use Rattle.std.specs.Prelude.{ℕ, List};
-    ghost use Rattle.priority_channel_core.specs.Waiting.{IsRising};
+    ghost use Rattle.priority_channel_core.specs.Prelude.{IsRising};
 
     ghost Value = { List (ℕ × W) };
 

@@ -1,7 +1,7 @@
 -- Which calls may be made: a drop must find a handle to drop.
 use Rattle.std.specs.Prelude.{◌≡◌, ℕ, ◌+◌, ◌-◌, ◌<◌, ◌≤◌, ◌^◌, ◌⊎◌, Bool, true, false, if◌then◌else◌, List, [], ◌∷◌, ⊤, count_by}
 use Rattle.std.specs.List.{list_any}
-use Rattle.priority_channel_core.specs.declared.calls.Call.{Call}
+use Rattle.priority_channel_core.specs.Types.{Call}
 use Rattle.priority_channel_core.specs.declared.calls.Call.TheVariants.{CloneSender, CloneReceiver, DropSender, DropReceiver}
 use Rattle.priority_channel_core.specs.machine.State.{State}
 

@@ -1,12 +1,7 @@
 -- The answers of the code, where a bulk send gives back what holds a list.
-use Rattle.std.specs.Prelude.{◌≡◌, List, Result, Ok, Err}
-use Rattle.priority_channel_core.specs.declared.calls.Answer.{Answer}
+use Rattle.std.specs.Prelude.{◌≡◌, List, Ok, Err}
+use Rattle.priority_channel_core.specs.Types.{Answer, Ready, Pending, Closed, Full, Memory, SendReply, SendPoll}
 use Rattle.priority_channel_core.specs.declared.calls.Answer.TheVariants.{TrySend, TrySendv, TrySendEvicting, TryRecv, TakeWhere, ChangePriority, Close, IsClosed, IsEmpty, IsFull, Len, Capacity, SenderCount, ReceiverCount, CloneSender, CloneReceiver, DropSender, DropReceiver, PollSend, PollSendv, PollRecv, GiveUp}
-use Rattle.priority_channel_core.specs.declared.calls.CorePoll.{CorePoll}
-use Rattle.priority_channel_core.specs.declared.calls.CorePoll.TheVariants.{Ready, Pending}
-use Rattle.priority_channel_core.specs.declared.errors.TrySendError.{TrySendError}
-use Rattle.priority_channel_core.specs.declared.errors.TrySendError.TheVariants.{Closed, Full, Memory}
-use Rattle.priority_channel_core.specs.declared.errors.SendFault.{SendFault}
 use Rattle.priority_channel_core.specs.declared.errors.SendFault.TheVariants as fault
 use Rattle.priority_channel_core.specs.machine.Step.{Answers}
 
@@ -19,15 +14,13 @@ IsMade {A} R make whole = (part : A) × (whole ≡ make part) × R part
 
 -- `holds m list`: m holds the list
 module _ {T P M : Type 0} (holds : M → List (T × P) → Type 0) where
-  abbrev pub SameReply : Result (Unit {0}) (TrySendError M)
-      → Result (Unit {0}) (TrySendError (List (T × P))) → Type 0
+  abbrev pub SameReply : SendReply M → SendReply (List (T × P)) → Type 0
   SameReply (Ok done) = Is (Ok tt)
   SameReply (Err (Closed m)) = IsMade (holds m) (λ rest. Err (Closed rest))
   SameReply (Err (Full m)) = IsMade (holds m) (λ rest. Err (Full rest))
   SameReply (Err (Memory m)) = IsMade (holds m) (λ rest. Err (Memory rest))
 
-  abbrev pub SamePoll : CorePoll (Result (Unit {0}) (SendFault M)) M
-      → CorePoll (Result (Unit {0}) (SendFault (List (T × P)))) (List (T × P)) → Type 0
+  abbrev pub SamePoll : SendPoll M → SendPoll (List (T × P)) → Type 0
   SamePoll (Ready (Ok done)) = Is (Ready (Ok tt))
   SamePoll (Ready (Err (fault.Closed e))) =
       IsMade (holds e.0) (λ rest. Ready (Err (fault.Closed (record { 0 = rest }))))

@@ -2,10 +2,8 @@
 -- priority are given a test.
 use Rattle.std.specs.Prelude.{◌≡◌, ℕ, List, ◌++◌, map, ⊤}
 use Rattle.std.specs.List.{AllZip}
-use Rattle.std.specs.declared.cmp.Ordering.{Ordering}
-use Rattle.priority_channel_core.specs.declared.calls.Call.{Call}
+use Rattle.priority_channel_core.specs.Types.{Call, Answer, Ordering}
 use Rattle.priority_channel_core.specs.declared.calls.Call.TheVariants.{TrySend, TrySendv, TrySendEvicting, TryRecv, TakeWhere, ChangePriority, Close, IsClosed, IsEmpty, IsFull, Len, Capacity, SenderCount, ReceiverCount, CloneSender, CloneReceiver, DropSender, DropReceiver, PollSend, PollSendv, PollRecv, GiveUp}
-use Rattle.priority_channel_core.specs.declared.calls.Answer.{Answer}
 use Rattle.priority_channel_core.specs.machine.State.{State, Handed}
 use Rattle.priority_channel_core.specs.machine.Step.{Step, Calls, Answers}
 use Rattle.priority_channel_core.specs.machine.Run.{Operation, Run}
@@ -39,8 +37,7 @@ module _ {T P W M F : Type 0} (holds : M → List (T × P) → Type 0) where
   -- a call that is given a test is one at any place
   abbrev pub SameCall : Call T P W M F → Calls T P W → Type 0
   SameCall (TrySendv msgs) = IsMade (holds msgs) TrySendv
-  SameCall (PollSendv msgs given waker) =
-      IsMade (holds msgs) (λ pairs. PollSendv pairs given waker)
+  SameCall (PollSendv msgs given waker) = IsMade (holds msgs) (λ pairs. PollSendv pairs given waker)
   SameCall (TrySend msg priority) = Is (TrySend msg priority)
   SameCall (TrySendEvicting msg priority) = Is (TrySendEvicting msg priority)
   SameCall TryRecv = Is TryRecv

@@ -1,11 +1,9 @@
 -- What callers see of a channel, and how its parts agree.
 use Rattle.std.specs.Prelude.{◌≡◌, ℕ, ◌+◌, ◌*◌, ◌≤◌, Bool, true, false, if◌then◌else◌, [], length}
-use Rattle.priority_channel_bag.specs.Digits.{digits}
-use Rattle.priority_channel_core.specs.declared.side.Side.{Side}
-use Rattle.priority_channel_core.specs.declared.side.Side.TheVariants.{Room, Message}
+use Rattle.priority_channel_bag.specs.Prelude.{digits, Contents}
+use Rattle.priority_channel_core.specs.Types.{Side, Room, Message}
 use Rattle.priority_channel_core.specs.machine.State.{State, room}
 use Rattle.priority_channel_core.specs.machine.Good.{IsGood}
-use Rattle.priority_channel_bag.specs.Bag.{Contents}
 use Rattle.priority_channel_core.specs.Word.{Word}
 
 pub record CountedState (T P W : Type 0) : Type 0 where

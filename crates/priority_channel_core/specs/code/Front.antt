@@ -6,8 +6,8 @@ use Rattle.priority_channel_core.specs.declared.channel.bulk.Stop.TheVariants.{E
 use Rattle.priority_channel_core.specs.machine.State.{State, Handed}
 use Rattle.priority_channel_core.specs.machine.Sends.{AddsFront}
 use Rattle.priority_channel_core.specs.machine.Polls.{Ends}
-use Rattle.priority_channel_core.specs.declared.side.Side.TheVariants.{Room}
-use Rattle.priority_channel_bag.specs.Bag.{Contents}
+use Rattle.priority_channel_core.specs.Types.{Room}
+use Rattle.priority_channel_bag.specs.Prelude.{Contents}
 use Rattle.priority_channel_core.specs.code.Lists.{HasList}
 
 abbrev pub sent_before : Stop → ℕ
@@ -36,16 +36,14 @@ module _ {S X : Type 0} (steps : S → Option X → S → Type 0) where
 module _ {S T P : Type 0} (steps : S → Option (T × P) → S → Type 0) where
   -- `count` pairs were moved from the iterator
   pub record MovesFront (old : Contents T P) (msgs : Ahead S (T × P)) (count : ℕ)
-      (new : Contents T P)
-      (left : Ahead S (T × P)) : Type 0 where
+      (new : Contents T P) (left : Ahead S (T × P)) : Type 0 where
     pub front : List (T × P)
     pub long : length front ≡ count
     pub takes : Takes steps msgs front left
     pub pending : new.pending ≡ old.pending ++ front
 
   pub record SendsFront {W : Type 0} (old : State T P W) (msgs : Ahead S (T × P)) (count : ℕ)
-      (handed : Handed W)
-      (new : State T P W) (left : Ahead S (T × P)) : Type 0 where
+      (handed : Handed W) (new : State T P W) (left : Ahead S (T × P)) : Type 0 where
     pub front : List (T × P)
     pub long : length front ≡ count
     pub takes : Takes steps msgs front left

@@ -1,9 +1,8 @@
 -- What a test told of the pair that was taken out, or whose priority was changed.
 use Rattle.std.specs.Prelude.{◌≡◌, List, take, length, Some, Ok}
 use Rattle.std.specs.List.{AllZip}
-use Rattle.priority_channel_core.specs.declared.calls.Call.{Call}
+use Rattle.priority_channel_core.specs.Types.{Call, Answer}
 use Rattle.priority_channel_core.specs.declared.calls.Call.TheVariants.{TakeWhere, ChangePriority}
-use Rattle.priority_channel_core.specs.declared.calls.Answer.{Answer}
 use Rattle.priority_channel_core.specs.declared.calls.Answer.TheVariants as answer
 use Rattle.priority_channel_core.specs.code.Calls.{Response}
 

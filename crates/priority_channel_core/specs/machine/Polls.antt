@@ -1,22 +1,15 @@
 -- Polls: a try, and a ticket in a waiting list if the channel was full or empty.
-use Rattle.std.specs.Prelude.{◌≡◌, ℕ, Option, Some, None, Result, Ok, Err}
-use Rattle.priority_channel_core.specs.declared.calls.CorePoll.{CorePoll}
-use Rattle.priority_channel_core.specs.declared.calls.CorePoll.TheVariants.{Ready, Pending}
-use Rattle.priority_channel_core.specs.declared.side.Side.{Side}
-use Rattle.priority_channel_core.specs.declared.errors.TrySendError.{TrySendError}
+use Rattle.std.specs.Prelude.{◌≡◌, ℕ, Option, Some, None, Ok, Err}
+use Rattle.priority_channel_core.specs.Types.{Ready, Pending, Side, SendReply, RecvReply, SendPoll, RecvPoll}
 use Rattle.priority_channel_core.specs.declared.errors.TrySendError.TheVariants as try_send
-use Rattle.priority_channel_core.specs.declared.errors.TryRecvError.{TryRecvError}
 use Rattle.priority_channel_core.specs.declared.errors.TryRecvError.TheVariants as try_recv
-use Rattle.priority_channel_core.specs.declared.errors.SendFault.{SendFault}
 use Rattle.priority_channel_core.specs.declared.errors.SendFault.TheVariants as send
-use Rattle.priority_channel_core.specs.declared.errors.RecvFault.{RecvFault}
 use Rattle.priority_channel_core.specs.declared.errors.RecvFault.TheVariants as recv
 use Rattle.priority_channel_core.specs.Waiters.{Enlists}
 use Rattle.priority_channel_core.specs.machine.State.{State, Handed}
 
 -- The answer to the poll. Only Full waits, or is Memory if the listing was refused.
-abbrev pub send_answer : {K : Type 0} → Result (Unit {0}) (TrySendError K) → Option ℕ
-    → Option (CorePoll (Result (Unit {0}) (SendFault K)) K)
+abbrev pub send_answer : {K : Type 0} → SendReply K → Option ℕ → Option (SendPoll K)
 send_answer (Err (try_send.Full rest)) (Some ticket) = Some (Pending rest ticket)
 send_answer (Err (try_send.Full rest)) None = Some (Ready (Err (send.Memory rest)))
 send_answer (Err (try_send.Memory rest)) None = Some (Ready (Err (send.Memory rest)))
@@ -26,8 +19,7 @@ send_answer (Ok done) None = Some (Ready (Ok done))
 send_answer reply (Some ticket) = None
 
 -- a receive waits if the channel was empty
-abbrev pub recv_answer : {A : Type 0} → Result A TryRecvError → Option ℕ
-    → Option (CorePoll (Result A RecvFault) (Unit {0}))
+abbrev pub recv_answer : {A : Type 0} → RecvReply A → Option ℕ → Option (RecvPoll A)
 recv_answer (Err try_recv.Empty) (Some ticket) = Some (Pending tt ticket)
 recv_answer (Err try_recv.Empty) None = Some (Ready (Err recv.Memory))
 recv_answer (Err try_recv.Closed) None = Some (Ready (Err (recv.Closed (record {}))))
@@ -43,8 +35,7 @@ module _ {T P W : Type 0} (is_clone : W → W → Type 0) where
 
   pub record Polls {R A : Type 0} (tries : R → Handed W → State T P W → Type 0)
       (answer_by : R → Option ℕ → Option A) (side : Side) (given : Option ℕ) (waker : W)
-      (answer : A)
-      (handed : Handed W) (new : State T P W) : Type 0 where
+      (answer : A) (handed : Handed W) (new : State T P W) : Type 0 where
     pub reply : R
     pub ticket : Option ℕ
     pub mid : State T P W

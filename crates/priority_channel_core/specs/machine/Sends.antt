@@ -1,12 +1,10 @@
 -- Sending a list of pairs.
-use Rattle.std.specs.Prelude.{◌≡◌, ◌+◌, ◌-◌, ◌<◌, ◌≤◌, ◌^◌, ◌⊎◌, true, false, ◌==◌, if◌then◌else◌, List, [], ◌∷◌, ◌++◌, length, Result, Ok, Err}
-use Rattle.priority_channel_core.specs.declared.errors.TrySendError.{TrySendError}
-use Rattle.priority_channel_core.specs.declared.errors.TrySendError.TheVariants.{Full, Closed, Memory}
+use Rattle.std.specs.Prelude.{◌≡◌, ◌+◌, ◌-◌, ◌<◌, ◌≤◌, ◌^◌, ◌⊎◌, true, false, ◌==◌, if◌then◌else◌, List, [], ◌∷◌, ◌++◌, length, Ok, Err}
+use Rattle.priority_channel_core.specs.Types.{Full, Closed, Memory, SendReply}
 use Rattle.priority_channel_core.specs.machine.State.{State, Handed, nobody, room}
 
 -- the reply to a send of one pair, as one to a send of a list
-abbrev pub as_list : {A : Type 0} → Result (Unit {0}) (TrySendError A)
-    → Result (Unit {0}) (TrySendError (List A))
+abbrev pub as_list : {A : Type 0} → SendReply A → SendReply (List A)
 as_list (Ok done) = Ok done
 as_list (Err (Closed pair)) = Err (Closed (pair ∷ []))
 as_list (Err (Full pair)) = Err (Full (pair ∷ []))
@@ -33,8 +31,7 @@ module _ {T P W : Type 0} (old : State T P W) where
   Accepts front handed new = (old.is_closed ≡ false) × AddsFront front handed new
 
   -- `rest` was not accepted, and comes back
-  abbrev pub Sends : List (T × P) → Result (Unit {0}) (TrySendError (List (T × P)))
-      → Handed W → State T P W → Type 0
+  abbrev pub Sends : List (T × P) → SendReply (List (T × P)) → Handed W → State T P W → Type 0
   Sends pairs (Ok done) handed new =
       (0 < room old) × (length pairs ≤ room old) × Accepts pairs handed new
   Sends pairs (Err (Closed rest)) handed new =

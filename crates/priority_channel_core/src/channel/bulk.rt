@@ -1,9 +1,8 @@
 //! Sending many pairs in one step.
 ghost use Rattle.std.specs.Prelude.{◌≡◌, ◌+◌, ◌*◌, ◌-◌, ◌<◌, ◌≤◌, ◌^◌, ◌↔◌, ◌⊎◌, List, length, Err, IfErr, IsTrue, true, false, Option, Some, is_some};
 ghost use Rattle.std.specs.Iterator.Adapters.{peekable_can, peekable_peeked};
-ghost use Rattle.priority_channel_bag.specs.Digits.{digits};
-ghost use Rattle.priority_channel_core.specs.code.Lists.{HasList};
-ghost use Rattle.priority_channel_core.specs.code.Front.{MovesFront, SendsFront, StopsFor, sent_before};
+ghost use Rattle.priority_channel_bag.specs.Prelude.{digits};
+ghost use Rattle.priority_channel_core.specs.Prelude.{HasList, MovesFront, SendsFront, StopsFor, sent_before};
 
 use crate::awaitable_atomics::Wakes;
 use crate::bag::Bag;
@@ -88,13 +87,7 @@ fn send_front<T: Drop, P: Ord + Drop, A: Allocator, I: Iterator<Item = (T, P)>>(
 }
 
 impl<T: Drop, P: Ord + Drop, W: Clone, A: Allocator + Copy> PriorityQueueChannel<T, P, W, A> {
-    ghost use Rattle.priority_channel_core.specs.machine.State.{room as room_of};
-    ghost use Rattle.priority_channel_core.specs.machine.Good.{IsGood};
-    ghost use Rattle.priority_channel_core.specs.Errors.{rest_of};
-    ghost use Rattle.priority_channel_core.specs.machine.Sends.{AddsFront};
-    ghost use Rattle.priority_channel_core.specs.code.Replies.{OnFull, OnMemory};
-    ghost use Rattle.priority_channel_core.specs.code.Calls.{Performs};
-    ghost use Rattle.priority_channel_core.specs.code.Channel.{ComparesAtMost};
+    ghost use Rattle.priority_channel_core.specs.Prelude.{room as room_of, IsGood, rest_of, AddsFront, OnFull, OnMemory, Performs, ComparesAtMost};
 
     // Sends a prefix of the list, of at least one pair if there is one, and wakes the waiting
     // receivers.

@@ -1,16 +1,14 @@
 //! Changing the priority of a pending pair that a test chooses.
 ghost use Rattle.std.specs.Prelude.{◌≡◌, ℕ, ◌*◌, true, false, length, All, IfOk, OnErr};
-ghost use Rattle.priority_channel_bag.specs.Digits.{digits};
+ghost use Rattle.priority_channel_bag.specs.Prelude.{digits};
 
 use crate::calls::{Answer, Call};
 use crate::channel::PriorityQueueChannel;
 use std::alloc::Allocator;
 
 impl<T, P: Ord, W: Clone, A: Allocator + Copy> PriorityQueueChannel<T, P, W, A> {
-    ghost use Rattle.priority_channel_core.specs.machine.State.{nobody};
-    ghost use Rattle.priority_channel_core.specs.machine.Step.{Step};
-    ghost use Rattle.priority_channel_bag.specs.Least.{Changes, PassesFirst, Tells};
-    ghost use Rattle.priority_channel_core.specs.code.Channel.{ComparesAtMost};
+    ghost use Rattle.priority_channel_core.specs.Prelude.{nobody, Step, ComparesAtMost};
+    ghost use Rattle.priority_channel_bag.specs.Prelude.{Changes, PassesFirst, Tells};
 
     /// Gives another priority to the first pending pair, in the order of acceptance, for which the
     /// test returns true, also in a closed channel. It returns the priority that the pair had. The

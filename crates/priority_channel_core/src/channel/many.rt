@@ -1,7 +1,7 @@
 //! Receiving many pairs under one hold of the lock that guards the channel.
 ghost use Rattle.std.specs.Prelude.{◌≡◌, ◌↔◌, ◌+◌, ◌*◌, ◌<◌, ◌≤◌, List, ◌++◌, [], length, min, IfOk, IfErr, OnErr, IsOk, Err, vec_capacity};
-ghost use Rattle.priority_channel_bag.specs.Digits.{digits};
-ghost use Rattle.priority_channel_core.specs.code.Many.{ReceivesInTurn};
+ghost use Rattle.priority_channel_bag.specs.Prelude.{digits};
+ghost use Rattle.priority_channel_core.specs.Prelude.{ReceivesInTurn};
 
 use crate::awaitable_atomics::Wakes;
 use crate::calls::{Answer, Call};
@@ -10,10 +10,7 @@ use crate::errors::TryRecvError;
 use std::alloc::Allocator;
 
 impl<T, P: Ord, W: Clone, A: Allocator + Copy> PriorityQueueChannel<T, P, W, A> {
-    ghost use Rattle.priority_channel_core.specs.machine.State.{nobody};
-    ghost use Rattle.priority_channel_core.specs.machine.Good.{IsGood};
-    ghost use Rattle.priority_channel_core.specs.machine.Step.{Step};
-    ghost use Rattle.priority_channel_core.specs.code.Channel.{ComparesAtMost};
+    ghost use Rattle.priority_channel_core.specs.Prelude.{nobody, IsGood, Step, ComparesAtMost};
 
     /// Receives up to `limit` pairs, the greatest first, like that many receives in a row, and
     /// returns how many came. The error is that of one receive, and is returned if nothing is

@@ -3,14 +3,8 @@
 ghost use Rattle.std.specs.Prelude.{◌≡◌, ◌≢◌, ◌⊎◌, ◌+◌, ◌-◌, ◌*◌, ◌^◌, ℕ, List, [], length, false, true, Option, Some, IfSome, IsSome, Result, Err};
 ghost use Rattle.std.specs.Iterator.Adapters.{peekable_can};
 ghost use Rattle.std.specs.declared.iter.Ahead.{Ahead};
-ghost use Rattle.priority_channel_bag.specs.Digits.{digits};
-ghost use Rattle.priority_channel_core.specs.Waiting.{is_given_listed};
-ghost use Rattle.priority_channel_core.specs.Waiters.{on_side, unlist, search_bound};
-ghost use Rattle.priority_channel_core.specs.machine.Polls.{send_answer, recv_answer, Ends};
-ghost use Rattle.priority_channel_core.specs.code.Channel.{IsBlocked};
-ghost use Rattle.priority_channel_core.specs.code.Replies.{OnFull, OnMemoryFault, kept_by};
-ghost use Rattle.priority_channel_core.specs.code.Lists.{HasList};
-ghost use Rattle.priority_channel_core.specs.code.Front.{PollsFront};
+ghost use Rattle.priority_channel_bag.specs.Prelude.{digits};
+ghost use Rattle.priority_channel_core.specs.Prelude.{is_given_listed, on_side, unlist, search_bound, send_answer, recv_answer, Ends, IsBlocked, OnFull, OnMemoryFault, kept_by, HasList, PollsFront};
 
 use crate::awaitable_atomics::Wakes;
 use crate::calls::{Answer, Call, CorePoll};
@@ -21,10 +15,7 @@ use std::alloc::Allocator;
 use std::iter::Peekable;
 
 impl<T, P: Ord, W: Clone, A: Allocator + Copy> PriorityQueueChannel<T, P, W, A> {
-    ghost use Rattle.priority_channel_core.specs.machine.State.{nobody};
-    ghost use Rattle.priority_channel_core.specs.machine.Good.{IsGood};
-    ghost use Rattle.priority_channel_core.specs.machine.Step.{Step};
-    ghost use Rattle.priority_channel_core.specs.code.Channel.{ComparesAtMost};
+    ghost use Rattle.priority_channel_core.specs.Prelude.{nobody, IsGood, Step, ComparesAtMost};
 
     /// Takes this ticket off the waiting lists. A ticket that is not listed changes nothing. It
     /// takes no memory.
@@ -175,10 +166,7 @@ impl<T, P: Ord, W: Clone, A: Allocator + Copy> PriorityQueueChannel<T, P, W, A> 
 }
 
 impl<T: Drop, P: Ord + Drop, W: Clone, A: Allocator + Copy> PriorityQueueChannel<T, P, W, A> {
-    ghost use Rattle.priority_channel_core.specs.machine.State.{room};
-    ghost use Rattle.priority_channel_core.specs.machine.Good.{IsGood};
-    ghost use Rattle.priority_channel_core.specs.code.Calls.{Performs};
-    ghost use Rattle.priority_channel_core.specs.code.Channel.{ComparesAtMost};
+    ghost use Rattle.priority_channel_core.specs.Prelude.{room, IsGood, Performs, ComparesAtMost};
 
     /// Sends as many pairs as there is room for, and waits for room with the rest, which is handed
     /// back for the next poll. What was sent stays sent, also if the answer is `Memory`. Tickets

@@ -1,13 +1,8 @@
 //! Many calls, one after another.
 ghost use Rattle.std.specs.Prelude.{◌≡◌, true, All, length, drop};
-ghost use Rattle.priority_channel_core.specs.machine.State.{nobody};
-ghost use Rattle.priority_channel_core.specs.machine.Good.{IsGood};
+ghost use Rattle.priority_channel_core.specs.Prelude.{nobody, IsGood, HasList, MayCall, Makes, RunsFront, IsAllowed, AllowsRun, ChangesHandles, MeetsTest, AllMeetTests};
 ghost use Rattle.std.specs.Iterator.Adapters.{peekable_can};
-ghost use Rattle.priority_channel_core.specs.code.Lists.{HasList};
-ghost use Rattle.priority_channel_core.specs.code.Calls.{MayCall, Makes, RunsFront};
-ghost use Rattle.priority_channel_core.specs.code.Allowed.{IsAllowed, AllowsRun, ChangesHandles};
-ghost use Rattle.priority_channel_core.specs.code.Tests.{MeetsTest, AllMeetTests};
-ghost use Rattle.priority_channel_bag.specs.Least.{Tells};
+ghost use Rattle.priority_channel_bag.specs.Prelude.{Tells};
 
 use crate::awaitable_atomics::Wakes;
 use crate::calls::{Answer, Call};
@@ -25,7 +20,7 @@ pub struct Response<T, P, W, M, A: Allocator = Global> {
 }
 
 impl<T, P, W, M, A: Allocator> Model for Response<T, P, W, M, A> {
-    ghost use Rattle.priority_channel_core.specs.code.Calls.{Response};
+    ghost use Rattle.priority_channel_core.specs.Prelude.{Response};
 
     ghost Value = { Response T P W M };
 

@@ -1,7 +1,6 @@
 //! The entries of a waiting list. Their tickets are visible in this file alone, so a search for a
 //! ticket must count its comparisons.
-ghost use Rattle.std.specs.Prelude.{◌≡◌, ◌+◌, ◌<◌, OnErr, OnOk, IfNone, [], ◌∷◌, ◌++◌, length, set, option_to_list};
-ghost use Rattle.std.specs.List.{HoldsAt, remove};
+ghost use Rattle.std.specs.Prelude.{◌≡◌, ◌+◌, ◌<◌, OnErr, OnOk, IfNone, [], ◌∷◌, ◌++◌, length, set, option_to_list, HoldsAt, remove};
 ghost use Rattle.std.specs.Ordering.{nat_cmp};
 
 use priority_channel_bag::comparisons::Comparisons;

@@ -1,5 +1,5 @@
 use Rattle.std.proofs.Common.{refl, sym, ◌∙◌}
-use Rattle.priority_channel_bag.specs.Least.{Tells}
+use Rattle.priority_channel_bag.specs.Prelude.{Tells}
 use Rattle.priority_channel_bag.proofs.Extremes.{one_greatest}
 use Rattle.priority_channel_core.proofs.Lists.{has_item}
 use Rattle.priority_channel_core.proofs.channel.PriorityQueueChannel.greatest_passes.Goals as goal

@@ -1,6 +1,5 @@
-use Rattle.std.proofs.Common.{[], ◌∷◌, rules}
-use Rattle.std.specs.Prelude.{Err}
-use Rattle.priority_channel_core.specs.declared.errors.TrySendError.TheVariants.{Full}
+use Rattle.std.proofs.Common.{[], ◌∷◌, rules, Err}
+use Rattle.priority_channel_core.specs.Prelude.{Full}
 use Rattle.priority_channel_core.proofs.Sends.{refuses_full}
 use Rattle.priority_channel_core.proofs.channel.PriorityQueueChannel.list.Goals as goal
 

@@ -1,6 +1,5 @@
-use Rattle.std.proofs.Common.{refl}
-use Rattle.std.specs.Prelude.{true}
-use Rattle.priority_channel_bag.specs.Least.{Tells}
+use Rattle.std.proofs.Common.{refl, true}
+use Rattle.priority_channel_bag.specs.Prelude.{Tells}
 use Rattle.priority_channel_core.specs.declared.calls.Answer.TheVariants as answer
 use Rattle.priority_channel_core.proofs.Runs.{taking_meets, change_meets}
 use Rattle.priority_channel_core.proofs.channel.PriorityQueueChannel.make.Goals as goal

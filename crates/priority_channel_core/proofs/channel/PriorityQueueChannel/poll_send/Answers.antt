@@ -1,5 +1,5 @@
 use Rattle.std.proofs.Common.{[], ◌∷◌, arith}
-use Rattle.priority_channel_core.specs.machine.Sends.{as_list}
+use Rattle.priority_channel_core.specs.Prelude.{as_list}
 use Rattle.priority_channel_core.proofs.Sends.{sends_front}
 use Rattle.priority_channel_core.proofs.Polls.{poll_costs}
 use Rattle.priority_channel_core.proofs.channel.PriorityQueueChannel.poll_send.Goals as goal

@@ -1,5 +1,5 @@
 use Rattle.std.specs.Iterator.Adapters.{peekable_can}
-use Rattle.priority_channel_core.specs.code.Lists.{HasList}
+use Rattle.priority_channel_core.specs.Prelude.{HasList}
 use Rattle.priority_channel_core.proofs.Polls.{performs_poll, kept_callable, polls_front, listed_for_room}
 use Rattle.priority_channel_core.proofs.channel.PriorityQueueChannel.poll_sendv.Goals as goal
 

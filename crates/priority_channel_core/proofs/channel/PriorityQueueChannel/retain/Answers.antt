@@ -1,5 +1,5 @@
 use Rattle.std.proofs.Common.{◌≡◌, ◌-◌, length, ap, arith, rules}
-use Rattle.priority_channel_core.specs.code.Channel.{state_of}
+use Rattle.priority_channel_core.specs.Prelude.{state_of}
 use Rattle.priority_channel_core.proofs.Taking.{all_length, takes_in_turn}
 use Rattle.priority_channel_core.proofs.channel.PriorityQueueChannel.retain.Goals as goal
 

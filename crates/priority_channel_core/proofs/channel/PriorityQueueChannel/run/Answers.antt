@@ -2,8 +2,8 @@ use Rattle.std.proofs.Common.{arith, true, length, length-append}
 use Rattle.std.specs.Iterator.Adapters.{peekable_can}
 use Rattle.std.proofs.lemmas.List.{reverse-append, reverse-reverse}
 use Rattle.std.proofs.lemmas.List.Elements.{All-head, All-tail}
-use Rattle.priority_channel_bag.specs.Least.{Tells}
-use Rattle.priority_channel_core.specs.code.Calls.{MayCall}
+use Rattle.priority_channel_bag.specs.Prelude.{Tells}
+use Rattle.priority_channel_core.specs.Prelude.{MayCall}
 use Rattle.priority_channel_core.proofs.Handles.{AllowsRun-first, AllowsRun-more}
 use Rattle.priority_channel_core.proofs.Runs.{RunsFront-none, RunsFront-more, meets_more, at_ok, drop-past}
 use Rattle.priority_channel_core.proofs.channel.PriorityQueueChannel.run.Goals as goal

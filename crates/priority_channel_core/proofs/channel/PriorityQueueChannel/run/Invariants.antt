@@ -1,11 +1,7 @@
-use Rattle.std.proofs.Common.{◌≡◌, true, vec_len, reverse, length, drop}
-use Rattle.std.specs.List.{All}
+use Rattle.std.proofs.Common.{◌≡◌, true, vec_len, reverse, length, drop, All}
 use Rattle.std.specs.Iterator.Adapters.{peekable_can}
-use Rattle.priority_channel_core.specs.code.Lists.{HasList}
-use Rattle.priority_channel_core.specs.code.Allowed.{AllowsRun}
-use Rattle.priority_channel_core.specs.code.Calls.{MayCall, RunsFront}
-use Rattle.priority_channel_core.specs.code.Tests.{AllMeetTests}
-use Rattle.priority_channel_bag.specs.Least.{Tells}
+use Rattle.priority_channel_core.specs.Prelude.{HasList, AllowsRun, MayCall, RunsFront, AllMeetTests}
+use Rattle.priority_channel_bag.specs.Prelude.{Tells}
 use Rattle.priority_channel_core.proofs.channel.PriorityQueueChannel.run.Given as goal
 
 -- the calls are kept in reverse, so that the next call is at the end

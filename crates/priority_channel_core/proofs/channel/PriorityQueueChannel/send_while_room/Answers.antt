@@ -1,5 +1,5 @@
 use Rattle.std.proofs.Common.{◌≡◌, ℕ, ◌<◌, ◌⊎◌, ◌+◌, ◌-◌, ◌≤◌, ◌^◌, false, length, rules}
-use Rattle.priority_channel_core.specs.code.Front.{sent_before}
+use Rattle.priority_channel_core.specs.Prelude.{sent_before}
 use Rattle.priority_channel_core.proofs.Channels.{sound_adds, refused_in_channel}
 use Rattle.priority_channel_core.proofs.Fronts.{sent_within, stops_for}
 use Rattle.priority_channel_core.proofs.channel.PriorityQueueChannel.send_while_room.Goals as goal

@@ -1,6 +1,5 @@
 use Rattle.std.proofs.Common.{length, arith, refl, rules}
-use Rattle.priority_channel_core.specs.machine.OtherCalls.{Frees}
-use Rattle.priority_channel_core.specs.code.Channel.{state_of}
+use Rattle.priority_channel_core.specs.Prelude.{Frees, state_of}
 use Rattle.priority_channel_core.proofs.Evicting.{good_frees}
 use Rattle.priority_channel_core.proofs.channel.PriorityQueueChannel.take_where.Goals as goal
 

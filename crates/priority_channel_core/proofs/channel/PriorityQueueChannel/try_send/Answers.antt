@@ -1,6 +1,5 @@
 use Rattle.std.proofs.Common.{◌≡◌, ◌+◌, ◌<◌, ◌^◌, ◌⊎◌, false, [], ◌∷◌, length, refl, ap, rules, arith, length-append}
-use Rattle.priority_channel_core.specs.machine.State.{room}
-use Rattle.priority_channel_core.specs.code.Channel.{state_of}
+use Rattle.priority_channel_core.specs.Prelude.{room, state_of}
 use Rattle.priority_channel_core.proofs.Sends.{refuses_full, refuses_first}
 use Rattle.priority_channel_core.proofs.Channels.{adds, sound_adds}
 use Rattle.priority_channel_core.proofs.channel.PriorityQueueChannel.try_send.Goals as goal

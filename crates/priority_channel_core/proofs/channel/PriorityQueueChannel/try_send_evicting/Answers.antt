@@ -1,6 +1,5 @@
 use Rattle.std.proofs.Common.{◌≡◌, false, [], ◌∷◌, refl, rules}
-use Rattle.priority_channel_core.specs.machine.State.{room}
-use Rattle.priority_channel_core.specs.code.Channel.{state_of}
+use Rattle.priority_channel_core.specs.Prelude.{room, state_of}
 use Rattle.priority_channel_core.proofs.Evicting.{evicts_displaced, none_or_some, one_below}
 use Rattle.priority_channel_core.proofs.Sends.{refuses_full}
 use Rattle.priority_channel_core.proofs.channel.PriorityQueueChannel.try_send_evicting.Goals as goal

@@ -1,5 +1,5 @@
 use Rattle.std.proofs.Common.{[], ◌∷◌, length, length-append, ap, arith, rules}
-use Rattle.priority_channel_bag.specs.Bag.{Contents}
+use Rattle.priority_channel_bag.specs.Prelude.{Contents}
 use Rattle.priority_channel_bag.proofs.Digits.{push_costs}
 use Rattle.priority_channel_core.proofs.Fronts.{moved_more}
 use Rattle.priority_channel_core.proofs.channel.bulk.send_front.Goals as goal
