@@ -1,15 +1,14 @@
 -- What a bulk send gives back is a tail of what it was given, over all of its polls.
-use Rattle.std.proofs.Common.{◌≡◌, List}
-use Rattle.std.specs.Prelude.{Option, None, Some, IfSome, is_some, Result, Ok, Err}
+use Rattle.std.proofs.Common.{◌≡◌, List, Option, None, Some, IfSome, is_some, Ok, Err}
 use Rattle.std.specs.Option.{ForSome}
 use Rattle.futures.specs.declared.task.Poll.{Poll}
 use Rattle.futures.specs.declared.task.Poll.TheVariants as poll
 use Rattle.futures.specs.Poll.{IfReady, OnPending}
-use Rattle.priority_channel_core.specs.declared.errors.SendFault.{SendFault}
 use Rattle.priority_channel_core.specs.declared.errors.SendFault.TheVariants as send_fault
 use Rattle.priority_channel_waiting.specs.Holding.{handed_back, HoldsTail}
 use Rattle.async_priority_channel.specs.Handles.{Underway, HandsBackTail}
 use Rattle.priority_channel_waiting.specs.Tails.{tail_of_itself, tail_of_tail}
+use Rattle.priority_channel_core.specs.Prelude.{SendEnd}
 
 module _ {X M : Type 0} (holds : M → List X → Type 0) (can : M → Type 0) where
   -- if the future is given up at once
@@ -18,7 +17,7 @@ module _ {X M : Type 0} (holds : M → List X → Type 0) (can : M → Type 0) w
   hands_back_all future rest is h = (h rest is, rw is (tail_of_itself holds rest))
 
   -- after a poll that was ready
-  pub hands_back_unsent : (future : Underway M) (polled : Poll (Result (Unit {0}) (SendFault M))) → IfSome (handed_back polled) can
+  pub hands_back_unsent : (future : Underway M) (polled : Poll (SendEnd M)) → IfSome (handed_back polled) can
       → IfSome future.state.kept (λ msgs. IfSome (handed_back polled) (HoldsTail holds msgs))
       → IfReady polled (HandsBackTail holds can future)
   hands_back_unsent future poll.Pending h k = tt
@@ -33,13 +32,13 @@ module _ {X M : Type 0} (holds : M → List X → Type 0) (can : M → Type 0) w
   still (Some msgs) None last some h k = absurd (cc)
   still (Some msgs) (Some rest) last some h k = tail_of_tail holds msgs rest last h k
 
-  pub hands_back_still : (old new : Underway M) (polled : Poll (Result (Unit {0}) (SendFault M)))
+  pub hands_back_still : (old new : Underway M) (polled : Poll (SendEnd M))
       → OnPending polled (is_some new.state.kept ≡ is_some old.state.kept)
       → IfSome old.state.kept (λ msgs. IfSome new.state.kept (HoldsTail holds msgs))
-      → OnPending polled ((x : Result (Unit {0}) (SendFault M)) → HandsBackTail holds can new x → HandsBackTail holds can old x)
+      → OnPending polled ((x : SendEnd M) → HandsBackTail holds can new x → HandsBackTail holds can old x)
   hands_back_still old new (poll.Ready outcome) waits kept = tt
   hands_back_still old new poll.Pending waits kept = passes
     where
-      passes : (x : Result (Unit {0}) (SendFault M)) → HandsBackTail holds can new x → HandsBackTail holds can old x
+      passes : (x : SendEnd M) → HandsBackTail holds can new x → HandsBackTail holds can old x
       passes (Ok sent) h = tt
       passes (Err fault) h = (h.0, still old.state.kept new.state.kept _ waits kept h.1)

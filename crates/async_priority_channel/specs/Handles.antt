@@ -1,10 +1,9 @@
 -- What handles and futures show of their channel. No value shows what is behind its lock.
-use Rattle.std.specs.Prelude.{◌≡◌, ℕ, Bool, true, List, [], IfErr, IfSome, Option, Some, None, Result}
-use Rattle.priority_channel_core.specs.declared.errors.SendFault.{SendFault}
-use Rattle.priority_channel_core.specs.Errors.{unsent}
-use Rattle.priority_channel_waiting.specs.Holding.{Holding, HoldsTail}
+use Rattle.std.specs.Prelude.{◌≡◌, ℕ, Bool, true, List, [], IfErr, IfSome, Option, Some, None}
 use Rattle.priority_channel_core.specs.declared.side.Side.{Side}
 use Rattle.priority_channel_core.specs.declared.side.Side.TheVariants.{Room, Message}
+use Rattle.priority_channel_core.specs.Prelude.{unsent, SendEnd}
+use Rattle.priority_channel_waiting.specs.Holding.{Holding, HoldsTail}
 
 -- the parts of a channel that never change: its capacity, and the sources at which tasks wait on
 -- the send side (`room`), on the receive side (`message`), and for the close (`closing`)
@@ -52,12 +51,12 @@ pub record Watching : Type 0 where
   pub is_done : Bool
 
 -- the error of a send gives back what the future kept
-abbrev pub HandsBack : {K : Type 0} → Underway K → Result (Unit {0}) (SendFault K) → Type 0
+abbrev pub HandsBack : {K : Type 0} → Underway K → SendEnd K → Type 0
 HandsBack future answer = IfErr answer (λ fault. future.state.kept ≡ Some (unsent fault))
 
 -- the error of a bulk send gives back a tail of what the future kept, which can be sent again
 abbrev pub HandsBackTail : {X M : Type 0} → (M → List X → Type 0) → (M → Type 0) → Underway M
-    → Result (Unit {0}) (SendFault M) → Type 0
+    → SendEnd M → Type 0
 HandsBackTail holds can future answer =
     IfErr answer (λ fault. can (unsent fault)
     × IfSome future.state.kept (λ msgs. HoldsTail holds msgs (unsent fault)))

@@ -1,8 +1,7 @@
 //! The calls that wait on their thread, with or without a time limit.
 ghost use Rattle.std.specs.Prelude.{◌≡◌, IfErr};
 ghost use Rattle.std.specs.Iterator.Adapters.{peekable_can};
-ghost use Rattle.priority_channel_core.specs.code.Lists.{HasList};
-ghost use Rattle.priority_channel_core.specs.Errors.{unsent};
+ghost use Rattle.priority_channel_core.specs.Prelude.{HasList, unsent};
 ghost use Rattle.priority_channel_waiting.specs.Holding.{HoldsTail};
 ghost use Rattle.priority_channel_waiting.specs.Waits.{unsent_in_time};
 

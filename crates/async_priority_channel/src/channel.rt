@@ -1,6 +1,6 @@
 //! The constructors of a channel. Each returns its first sender and its first receiver.
 ghost use Rattle.std.specs.Prelude.{◌≡◌, ◌-◌, ◌<◌, ◌^◌, IfOk};
-ghost use Rattle.priority_channel_core.specs.machine.State.{opening};
+ghost use Rattle.priority_channel_core.specs.Prelude.{opening};
 
 use crate::end::End;
 use crate::handle::Handle;

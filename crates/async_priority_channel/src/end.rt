@@ -1,6 +1,6 @@
 //! What the senders and the receivers of a channel have in common.
 ghost use Rattle.std.specs.Prelude.{◌≡◌};
-ghost use Rattle.priority_channel_core.specs.machine.OtherCalls.{capacity_told};
+ghost use Rattle.priority_channel_core.specs.Prelude.{capacity_told};
 
 use crate::handle::Handle;
 use priority_channel_core::awaitable_atomics::Wakes;

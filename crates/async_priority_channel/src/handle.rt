@@ -4,8 +4,7 @@
 //! memory and read back at once.
 ghost use Rattle.std.specs.Prelude.{◌≡◌, IfOk, IsSome};
 ghost use Rattle.futures.specs.Task.{Hears, IsArmed, Keeps};
-ghost use Rattle.priority_channel_core.specs.machine.State.{opening};
-ghost use Rattle.priority_channel_core.specs.machine.OtherCalls.{capacity_told};
+ghost use Rattle.priority_channel_core.specs.Prelude.{opening, capacity_told};
 ghost use Rattle.async_priority_channel.specs.Handles.{source_of};
 
 use crate::identity::Identity;

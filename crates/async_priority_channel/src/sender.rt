@@ -2,8 +2,7 @@
 ghost use Rattle.std.specs.Prelude.{◌≡◌, IfOk, IfErr, IfSome};
 ghost use Rattle.std.specs.declared.cmp.Ordering.TheVariants.{Less};
 ghost use Rattle.std.specs.Iterator.Adapters.{peekable_can};
-ghost use Rattle.priority_channel_core.specs.code.Lists.{HasList};
-ghost use Rattle.priority_channel_core.specs.Errors.{rest_of};
+ghost use Rattle.priority_channel_core.specs.Prelude.{HasList, rest_of};
 ghost use Rattle.priority_channel_waiting.specs.Holding.{HoldsTail, unpolled};
 
 use crate::end::{End, Role};

@@ -1,18 +1,14 @@
 -- What a bulk send into a reserved channel accepts, where its list is known.
 use Rattle.std.proofs.Common.{◌≡◌, ◌+◌, ◌<◌, ◌^◌, true, false, List, ◌++◌, length, refl, sym, ap, ◌∙◌, arith, inl, inr, true≢false, length-append}
-use Rattle.std.specs.Prelude.{Result, Ok, Err, take}
-use Rattle.std.specs.declared.cmp.Ordering.{Ordering}
+use Rattle.std.specs.Prelude.{Ok, Err, take}
 use Rattle.std.proofs.lemmas.List.{take_all, take_at}
-use Rattle.priority_channel_core.specs.declared.errors.TrySendError.{TrySendError}
 use Rattle.priority_channel_core.specs.declared.errors.TrySendError.TheVariants.{Full, Closed, Memory}
+use Rattle.priority_channel_core.specs.Prelude.{State, Handed, room, Sends, Performs, Ordering, SendReply}
 use Rattle.priority_channel_core.specs.declared.calls.Call.TheVariants as call
 use Rattle.priority_channel_core.specs.declared.calls.Answer.TheVariants as answer
-use Rattle.priority_channel_core.specs.machine.State.{State, Handed, room}
-use Rattle.priority_channel_core.specs.machine.Sends.{Sends}
-use Rattle.priority_channel_core.specs.code.Calls.{Performs}
 
 module _ {T P W : Type 0} where
-  accepted_in_place : (old new : State T P W) (pairs : List (T × P)) (reply : Result (Unit {0}) (TrySendError (List (T × P)))) (handed : Handed W)
+  accepted_in_place : (old new : State T P W) (pairs : List (T × P)) (reply : SendReply (List (T × P))) (handed : Handed W)
       → old.is_closed ≡ false → old.is_reserved ≡ true → old.accepted + length pairs < 2 ^ 64
       → Sends old pairs reply handed new → new.pending ≡ old.pending ++ take (room old) pairs
   accepted_in_place old new pairs (Ok done) handed opened reserved numbers sends =
@@ -29,7 +25,7 @@ module _ {T P W : Type 0} where
       ])
 
   pub accepted_of_list : {M : Type 0} (holds : M → List (T × P) → Type 0) (cmp : P → P → Ordering) (is_clone : W → W → Type 0)
-      (old new : State T P W) (msgs : M) (pairs : List (T × P)) (reply : Result (Unit {0}) (TrySendError M)) (handed : Handed W)
+      (old new : State T P W) (msgs : M) (pairs : List (T × P)) (reply : SendReply M) (handed : Handed W)
       → holds msgs pairs → Performs holds cmp is_clone old (call.TrySendv msgs) (answer.TrySendv reply) handed new
       → old.is_closed ≡ false → old.is_reserved ≡ true → old.accepted + length pairs < 2 ^ 64
       → new.pending ≡ old.pending ++ take (room old) pairs

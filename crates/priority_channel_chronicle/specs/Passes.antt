@@ -1,6 +1,5 @@
 -- What a pass carries, and what a call adds to it.
-use Rattle.std.specs.Prelude.{◌≡◌, ◌≢◌, ◌==◌, ◌≤◌, ℕ, List, [], ◌∷◌, ◌++◌, count_by, All, EachIndex, slice_get, Some}
-use Rattle.std.specs.List.{sum_by}
+use Rattle.std.specs.Prelude.{◌≡◌, ◌≢◌, ◌==◌, ◌≤◌, ℕ, List, [], ◌∷◌, ◌++◌, count_by, All, EachIndex, slice_get, Some, sum_by}
 
 pub record Carried (E : Type 0) : Type 0 where
   pub number : ℕ

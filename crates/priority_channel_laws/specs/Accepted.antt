@@ -1,33 +1,24 @@
 -- What calls accepted, received and changed, read only from the calls and their answers.
-use Rattle.std.specs.Prelude.{◌≡◌, ◌-◌, false, List, [], ◌∷◌, ◌++◌, length, map, take, Some, Result, Ok, Err}
-use Rattle.std.specs.List.{AllPairs, flat_map}
-use Rattle.std.specs.List.Sorted.{IsPermutation}
+use Rattle.std.specs.Prelude.{◌≡◌, ◌-◌, false, List, [], ◌∷◌, ◌++◌, length, map, take, Some, Ok, Err, AllPairs, flat_map, IsPermutation}
 use Rattle.std.specs.Ordering.{is_gt}
-use Rattle.std.specs.declared.cmp.Ordering.{Ordering}
 use Rattle.priority_channel_core.specs.declared.calls.Call.TheVariants.{TrySend, TrySendv, TrySendEvicting, ChangePriority, PollSend, PollSendv}
 use Rattle.priority_channel_core.specs.declared.calls.Answer.TheVariants as answer
-use Rattle.priority_channel_core.specs.declared.calls.CorePoll.{CorePoll}
 use Rattle.priority_channel_core.specs.declared.calls.CorePoll.TheVariants.{Ready, Pending}
-use Rattle.priority_channel_core.specs.declared.errors.TrySendError.{TrySendError}
+use Rattle.priority_channel_core.specs.Prelude.{as_list, Calls, Answers, Operation, Ordering, SendReply, SendPoll}
 use Rattle.priority_channel_core.specs.declared.errors.TrySendError.TheVariants as send_error
-use Rattle.priority_channel_core.specs.declared.errors.SendFault.{SendFault}
 use Rattle.priority_channel_core.specs.declared.errors.SendFault.TheVariants as send_fault
-use Rattle.priority_channel_core.specs.machine.Sends.{as_list}
-use Rattle.priority_channel_core.specs.machine.Step.{Calls, Answers}
-use Rattle.priority_channel_core.specs.machine.Run.{Operation}
 
 module _ {A : Type 0} where
   abbrev pub all_but : List A → List A → List A
   all_but rest pairs = take (length pairs - length rest) pairs
 
-  abbrev pub sent : List A → Result (Unit {0}) (TrySendError (List A)) → List A
+  abbrev pub sent : List A → SendReply (List A) → List A
   sent pairs (Ok done) = pairs
   sent pairs (Err (send_error.Closed rest)) = []
   sent pairs (Err (send_error.Full rest)) = all_but rest pairs
   sent pairs (Err (send_error.Memory rest)) = all_but rest pairs
 
-  abbrev pub poll_sent : List A → CorePoll (Result (Unit {0}) (SendFault (List A))) (List A)
-      → List A
+  abbrev pub poll_sent : List A → SendPoll (List A) → List A
   poll_sent pairs (Ready (Ok done)) = pairs
   poll_sent pairs (Ready (Err (send_fault.Closed e))) = []
   poll_sent pairs (Ready (Err (send_fault.Memory rest))) = all_but rest pairs
@@ -65,8 +56,7 @@ module _ {T P W : Type 0} where
 
   -- the old priority and the new one
   abbrev pub changed_by : Calls T P W → Answers T P → List (P × P)
-  changed_by (ChangePriority place priority) (answer.ChangePriority (Ok was)) =
-      (was, priority) ∷ []
+  changed_by (ChangePriority place priority) (answer.ChangePriority (Ok was)) = (was, priority) ∷ []
   changed_by _ _ = []
 
   -- over a whole run, in order

@@ -3,13 +3,10 @@ use Rattle.std.specs.Prelude.{◌≡◌, ℕ, ◌⊎◌, Bool, true, false, leng
 use Rattle.std.specs.List.{AllZip}
 use Rattle.priority_channel_core.specs.declared.calls.Answer.TheVariants.{TrySend, TrySendv, TrySendEvicting, PollSend, PollSendv, PollRecv}
 use Rattle.priority_channel_core.specs.declared.calls.CorePoll.TheVariants.{Ready}
+use Rattle.priority_channel_core.specs.Prelude.{Waiters, State, Handed, Answers, Operation}
 use Rattle.priority_channel_core.specs.declared.errors.TrySendError.TheVariants as send_error
 use Rattle.priority_channel_core.specs.declared.errors.SendFault.TheVariants as send_fault
 use Rattle.priority_channel_core.specs.declared.errors.RecvFault.TheVariants as recv_fault
-use Rattle.priority_channel_core.specs.Waiters.{Waiters}
-use Rattle.priority_channel_core.specs.machine.State.{State, Handed}
-use Rattle.priority_channel_core.specs.machine.Step.{Answers}
-use Rattle.priority_channel_core.specs.machine.Run.{Operation}
 use Rattle.priority_channel_laws.specs.Accepted.{accepted_by}
 
 abbrev pub is_memory : {T P : Type 0} → Answers T P → Bool

@@ -2,15 +2,8 @@
 -- of the queue's lock with at most one call of the core in it. The code makes `Unlists` and
 -- `Promotes` in one hold; here others may come between.
 use Rattle.std.specs.Prelude.{◌≡◌, ◌≢◌, ℕ, ◌+◌, ◌-◌, ◌<◌, ◌≤◌, false, List, [], ◌∷◌, ◌++◌, slice_get, slice_set, Option, Some, None, IsSome, option_to_list, ◌⊎◌}
-use Rattle.std.specs.declared.cmp.Ordering.{Ordering}
 use Rattle.priority_channel_core.specs.declared.calls.Call.TheVariants as call
-use Rattle.priority_channel_core.specs.Waiting.{without}
-use Rattle.priority_channel_core.specs.Waiters.{unlist}
-use Rattle.priority_channel_core.specs.machine.State.{State, Handed}
-use Rattle.priority_channel_core.specs.machine.Good.{IsGood}
-use Rattle.priority_channel_core.specs.machine.Step.{Step, Calls, Answers}
-use Rattle.priority_channel_core.specs.code.Channel.{IsBlocked}
-use Rattle.priority_channel_core.specs.Lines.{Lined, IsFirst, Lists}
+use Rattle.priority_channel_core.specs.Prelude.{without, unlist, State, Handed, IsGood, Step, Calls, Answers, IsBlocked, Lined, IsFirst, Lists, Ordering}
 use Rattle.priority_channel_laws.specs.Threads.{Phase, Thread, ThreadWorld, turn, wake}
 use Rattle.priority_channel_laws.specs.Threads.Phase.{Outside, Spins, Asks, Waits, Leads, Sleeps}
 
@@ -56,8 +49,7 @@ SpinsAs _ next = ⊥
 
 -- the core takes the ticket of the head off its list
 abbrev pub TakesOff : {T P : Type 0} → Option ℕ → State T P ℕ → State T P ℕ → Type 0
-TakesOff ticket old new =
-    IsGood new × (new ≡ record old { waiters = unlist ticket old.waiters })
+TakesOff ticket old new = IsGood new × (new ≡ record old { waiters = unlist ticket old.waiters })
 
 -- `Line::is_unattended`
 abbrev pub IsUnattended : Lined → Type 0

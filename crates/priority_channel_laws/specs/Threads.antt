@@ -2,9 +2,7 @@
 use Rattle.std.specs.Prelude.{◌≡◌, ℕ, ◌||◌, ◌==◌, Bool, List, [], map, slice_set, Option, None}
 use Rattle.std.specs.List.{All, list_any}
 use Rattle.priority_channel_core.specs.declared.side.Side.{Side}
-use Rattle.priority_channel_core.specs.machine.State.{State, opening}
-use Rattle.priority_channel_core.specs.machine.Good.{IsGood}
-use Rattle.priority_channel_core.specs.Lines.{Lined}
+use Rattle.priority_channel_core.specs.Prelude.{State, opening, IsGood, Lined}
 
 -- how far a thread has come; its number is its number in the queue
 pub data Phase : Type 0 where

@@ -2,13 +2,8 @@
 use Rattle.std.specs.Prelude.{◌≡◌, ◌≢◌, ℕ, ◌<◌, true, List, [], ◌∷◌, ◌==◌, if◌then◌else◌, length, slice_get, Option, Some, None, ◌⊎◌}
 use Rattle.priority_channel_core.specs.declared.side.Side.{Side}
 use Rattle.priority_channel_core.specs.declared.side.Side.TheVariants.{Room, Message}
-use Rattle.priority_channel_core.specs.Waiters.{on_side}
-use Rattle.priority_channel_core.specs.machine.State.{State, Handed}
-use Rattle.priority_channel_core.specs.machine.Good.{IsGood}
-use Rattle.priority_channel_core.specs.Future.{Tasks, Futures, ticket_of}
+use Rattle.priority_channel_core.specs.Prelude.{on_side, State, Handed, IsGood, Tasks, Futures, ticket_of, Recv, New, Waiting, Called, Done}
 use Rattle.priority_channel_laws.specs.World.{World}
-use Rattle.priority_channel_core.specs.Future.Task.{Recv}
-use Rattle.priority_channel_core.specs.Future.Standing.{New, Waiting, Called, Done}
 
 abbrev pub waker_of : {W : Type 0} → ℕ → List (ℕ × W) → Option W
 waker_of ticket [] = None

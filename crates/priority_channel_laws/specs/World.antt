@@ -1,17 +1,9 @@
 -- A channel with its futures, and what may happen to them.
-use Rattle.std.specs.Prelude.{◌≡◌, ℕ, ◌||◌, Bool, if◌then◌else◌, List, [], ◌∷◌, map, slice_get, slice_set, Some, Err, ⊤}
-use Rattle.std.specs.List.{All}
-use Rattle.std.specs.declared.cmp.Ordering.{Ordering}
+use Rattle.std.specs.Prelude.{◌≡◌, ℕ, ◌||◌, Bool, if◌then◌else◌, List, [], ◌∷◌, map, slice_get, slice_set, Some, Err, ⊤, All}
 use Rattle.priority_channel_core.specs.declared.calls.Call.TheVariants.{TrySendv, PollSend, PollSendv, PollRecv, GiveUp}
 use Rattle.priority_channel_core.specs.declared.calls.Answer.TheVariants as answer
 use Rattle.priority_channel_core.specs.declared.errors.TrySendError.TheVariants.{Full}
-use Rattle.priority_channel_core.specs.machine.State.{State, Handed, nobody, opening}
-use Rattle.priority_channel_core.specs.Waiting.{is_listed}
-use Rattle.priority_channel_core.specs.machine.Good.{IsGood}
-use Rattle.priority_channel_core.specs.machine.Step.{Step, Calls, Answers}
-use Rattle.priority_channel_core.specs.Future.{Tasks, Standing, Futures, ticket_of, poll_of, future_after, GivesUpTicket}
-use Rattle.priority_channel_core.specs.Future.Task.{Sendv}
-use Rattle.priority_channel_core.specs.Future.Standing.{New, Waiting, Called, Done}
+use Rattle.priority_channel_core.specs.Prelude.{State, Handed, nobody, opening, is_listed, IsGood, Step, Calls, Answers, Tasks, Standing, Futures, ticket_of, poll_of, future_after, GivesUpTicket, Sendv, New, Waiting, Called, Done, Ordering}
 
 pub record World (T P W : Type 0) : Type 0 where
   pub state : State T P W

@@ -1,13 +1,11 @@
 //! Consequences of the definitions alone.
-ghost use Rattle.std.specs.Prelude.{◌≡◌, ◌+◌, ◌≤◌, true, List, [], ◌∷◌, ◌++◌, length, map, replicate, slice_get, Some, Ok, Err};
+ghost use Rattle.std.specs.Prelude.{◌≡◌, ◌+◌, ◌≤◌, true, List, [], ◌∷◌, ◌++◌, length, map, replicate, slice_get, Some, Ok, Err, IsPermutation};
 ghost use Rattle.std.specs.List.{AllZip};
-ghost use Rattle.std.specs.List.Sorted.{IsPermutation};
 ghost use Rattle.priority_channel_laws.specs.Alike.{IsAlike, SameOutcome, SameState};
 ghost use Rattle.priority_channel_core.specs.declared.calls.Call.TheVariants as call;
 ghost use Rattle.priority_channel_core.specs.declared.calls.Answer.TheVariants as answer;
 ghost use Rattle.priority_channel_core.specs.declared.errors.TryRecvError.TheVariants as recv_error;
-ghost use Rattle.priority_channel_core.specs.machine.State.{State, Handed};
-ghost use Rattle.priority_channel_core.specs.machine.Run.{Run, Operation};
+ghost use Rattle.priority_channel_core.specs.Prelude.{State, Handed, Run, Operation};
 ghost use Rattle.priority_channel_laws.specs.Accepted.{accepted_in, received_in, changed_in, Conserves, NeverRise};
 ghost use Rattle.priority_channel_laws.specs.World.{World, Event, Happens, IsOpening, Leads};
 ghost use Rattle.priority_channel_laws.specs.WaitingLaw.{NobodyIsForgotten, GivenOnce, CalledBy};

@@ -1,10 +1,8 @@
 -- Each ticket in the list of those who wait for the close is below the next one.
 use Rattle.std.proofs.lemmas.Bool.Decides.{nat_tests}
-use Rattle.std.proofs.Common.{◌≡◌, ℕ, ◌+◌, ◌<◌, not, List, subst, arith}
-use Rattle.std.specs.Prelude.{◌==◌, if◌then◌else◌, Option, Some, None}
-use Rattle.std.specs.List.{All}
+use Rattle.std.proofs.Common.{◌≡◌, ℕ, ◌+◌, ◌<◌, not, List, subst, arith, ◌==◌, if◌then◌else◌, Option, Some, None, All}
 use Rattle.std.proofs.lemmas.List.Elements.{All-filter, All-map, All-push, All-weaker}
-use Rattle.priority_channel_core.specs.Waiting.{with_waker, without_given, listing, fresh, Listing}
+use Rattle.priority_channel_core.specs.Prelude.{with_waker, without_given, listing, fresh, Listing}
 
 module _ {W : Type 0} where
   pub below-without : (xs : List (ℕ × W)) (given : Option ℕ) (n : ℕ) → All (λ a. a.0 < n) xs → All (λ a. a.0 < n) (without_given given xs)

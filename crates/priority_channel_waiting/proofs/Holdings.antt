@@ -1,43 +1,33 @@
 -- The state of a future after a poll.
-use Rattle.std.proofs.Common.{◌≡◌, ℕ, List, length, drop, refl, sym, arith}
+use Rattle.std.proofs.Common.{◌≡◌, ℕ, List, length, drop, refl, sym, arith, Option, Some, IfSome, IfErr, Ok, Err}
 use Rattle.std.proofs.Math.Seq.{drop-append_seam}
-use Rattle.std.specs.Prelude.{Option, Some, IfSome, IfErr, Result, Ok, Err}
 use Rattle.futures.specs.declared.task.Poll.{Poll}
-use Rattle.std.specs.declared.cmp.Ordering.{Ordering}
 use Rattle.priority_channel_core.specs.declared.calls.Call.{Call}
-use Rattle.priority_channel_core.specs.declared.calls.Call.TheVariants as call
 use Rattle.priority_channel_core.specs.declared.calls.Answer.{Answer}
-use Rattle.priority_channel_core.specs.declared.calls.Answer.TheVariants as answer
 use Rattle.priority_channel_core.specs.declared.calls.CorePoll.{CorePoll}
 use Rattle.priority_channel_core.specs.declared.calls.CorePoll.TheVariants.{Ready, Pending}
-use Rattle.priority_channel_core.specs.declared.errors.SendFault.{SendFault}
-use Rattle.priority_channel_core.specs.declared.errors.SendFault.TheVariants as send_fault
-use Rattle.priority_channel_core.specs.machine.State.{State, Handed}
 use Rattle.priority_channel_core.specs.declared.errors.TrySendError.{TrySendError}
-use Rattle.priority_channel_core.specs.declared.errors.TrySendError.TheVariants as send_error
-use Rattle.priority_channel_core.specs.Errors.{rest_of}
-use Rattle.priority_channel_core.specs.machine.Sends.{Sends}
-use Rattle.priority_channel_core.specs.machine.Polls.{send_answer, Polls}
 use Rattle.priority_channel_core.specs.declared.side.Side.TheVariants.{Room}
-use Rattle.priority_channel_core.specs.code.Calls.{Performs, SamePoll, SameReply}
-use Rattle.priority_channel_core.specs.code.Replies.{kept_by}
+use Rattle.priority_channel_core.specs.Prelude.{State, Handed, rest_of, Sends, send_answer, Polls, Performs, SamePoll, SameReply, kept_by, Task, poll_of, future_after, Sendv, Ordering, SendReply, SendPoll}
+use Rattle.priority_channel_core.specs.declared.calls.Call.TheVariants as call
+use Rattle.priority_channel_core.specs.declared.calls.Answer.TheVariants as answer
+use Rattle.priority_channel_core.specs.declared.errors.SendFault.TheVariants as send_fault
+use Rattle.priority_channel_core.specs.declared.errors.TrySendError.TheVariants as send_error
 use Rattle.priority_channel_core.proofs.Polls.{kept_callable}
-use Rattle.priority_channel_core.specs.Future.{Task, poll_of, future_after}
-use Rattle.priority_channel_core.specs.Future.Task.{Sendv}
 use Rattle.priority_channel_waiting.specs.Holding.{Holding, told_by, left_by, handed_back, HoldsTail, send_of, IsKeptOf, PollsKept}
 
-pub send_left : {T P W : Type 0} (pair : T × P) (waker : W) (reply : CorePoll (Result (Unit {0}) (SendFault (T × P))) (T × P))
+pub send_left : {T P W : Type 0} (pair : T × P) (waker : W) (reply : SendPoll (T × P))
     → IsKeptOf send_of (left_by reply) (future_after (send_of pair) waker (answer.PollSend reply))
 send_left pair waker (Ready outcome) = record { task = refl; ticket = refl }
 send_left pair waker (Pending kept ticket) = record { task = refl; ticket = refl }
 
-pub sendv_left : {T P W M : Type 0} (msgs : M) (waker : W) (reply : CorePoll (Result (Unit {0}) (SendFault M)) M)
+pub sendv_left : {T P W M : Type 0} (msgs : M) (waker : W) (reply : SendPoll M)
     → IsKeptOf {T = T} {P = P} Sendv (left_by reply) (future_after (Sendv msgs) waker (answer.PollSendv reply))
 sendv_left msgs waker (Ready outcome) = record { task = refl; ticket = refl }
 sendv_left msgs waker (Pending kept ticket) = record { task = refl; ticket = refl }
 
 -- what is given back with an error was kept by the core's poll
-pub unsent_kept : {M : Type 0} (Q : M → Type 0) (reply : CorePoll (Result (Unit {0}) (SendFault M)) M)
+pub unsent_kept : {M : Type 0} (Q : M → Type 0) (reply : SendPoll M)
     → IfSome (kept_by reply) Q → IfSome (handed_back (told_by reply)) Q
 unsent_kept Q reply h = grind arith
 
@@ -55,11 +45,11 @@ pub if_some : {M : Type 0} (Q : M → Type 0) (held : Option M) → ((m : M) →
 if_some Q held h = grind arith
 
 -- what is left of a pending poll was kept by the core's poll
-pub left_kept : {M : Type 0} (Q : M → Type 0) (reply : CorePoll (Result (Unit {0}) (SendFault M)) M)
+pub left_kept : {M : Type 0} (Q : M → Type 0) (reply : SendPoll M)
     → IfSome (kept_by reply) Q → IfSome (left_by reply).kept Q
 left_kept Q reply h = grind arith
 
-tails : {T P W : Type 0} (old new : State T P W) (handed : Handed W) (reply : Result (Unit {0}) (TrySendError (List (T × P)))) (list : List (T × P))
+tails : {T P W : Type 0} (old new : State T P W) (handed : Handed W) (reply : SendReply (List (T × P))) (list : List (T × P))
     → Sends old list reply handed new → IfErr reply (λ back. (n : ℕ) × (rest_of back ≡ drop n list))
 tails old new handed (Ok sent) list h = tt
 tails old new handed (Err (send_error.Closed rest)) list h = (0, h.1)
@@ -68,13 +58,13 @@ tails old new handed (Err (send_error.Memory rest)) list h = (length h.0, rw h.1
 
 module _ {T P W M : Type 0} (holds : M → List (T × P) → Type 0) (cmp : P → P → Ordering) (is_clone : W → W → Type 0)
     (old new : State T P W) (handed : Handed W) (msgs : M) where
-  same_refused : (error : TrySendError M) (told : Result (Unit {0}) (TrySendError (List (T × P)))) → SameReply holds (Err error) told
+  same_refused : (error : TrySendError M) (told : SendReply (List (T × P))) → SameReply holds (Err error) told
       → (back : TrySendError (List (T × P))) × (told ≡ Err back) × holds (rest_of error) (rest_of back)
   same_refused (send_error.Closed m) told h = (send_error.Closed h.0, h.1, h.2)
   same_refused (send_error.Full m) told h = (send_error.Full h.0, h.1, h.2)
   same_refused (send_error.Memory m) told h = (send_error.Memory h.0, h.1, h.2)
 
-  pub refused_tail : (reply : Result (Unit {0}) (TrySendError M))
+  pub refused_tail : (reply : SendReply M)
       → Performs holds cmp is_clone old (call.TrySendv msgs) (answer.TrySendv reply) handed new
       → IfErr reply (λ error. HoldsTail holds msgs (rest_of error))
   refused_tail (Ok sent) h = tt
@@ -87,7 +77,7 @@ module _ {T P W M : Type 0} (holds : M → List (T × P) → Type 0) (cmp : P �
   }
 
   module _ (given : Option ℕ) (waker : W) where
-    same_kept : (poll : CorePoll (Result (Unit {0}) (SendFault M)) M) (told : CorePoll (Result (Unit {0}) (SendFault (List (T × P)))) (List (T × P)))
+    same_kept : (poll : SendPoll M) (told : SendPoll (List (T × P)))
         → SamePoll holds poll told → (held : M) → kept_by poll ≡ Some held
         → (rest : List (T × P)) × (kept_by told ≡ Some rest) × holds held rest
     same_kept (Ready (Ok sent)) told h held is = absurd (cc)
@@ -95,12 +85,12 @@ module _ {T P W M : Type 0} (holds : M → List (T × P) → Type 0) (cmp : P �
     same_kept (Ready (Err (send_fault.Memory m))) told h held is = (h.0, cc, grind arith)
     same_kept (Pending m ticket) told h held is = (h.0, cc, grind arith)
 
-    tail_at : (told : CorePoll (Result (Unit {0}) (SendFault (List (T × P)))) (List (T × P))) (list rest : List (T × P))
+    tail_at : (told : SendPoll (List (T × P))) (list rest : List (T × P))
         → kept_by told ≡ Some rest → Polls is_clone (Sends old list) send_answer Room given waker told handed new → (n : ℕ) × (rest ≡ drop n list)
     tail_at told list rest back h =
         rw back at (kept_callable (λ r. (n : ℕ) × (r ≡ drop n list)) h.reply h.ticket told (tails old h.mid handed h.reply list h.tried) h.answered)
 
-    pub polled_tail : (reply : CorePoll (Result (Unit {0}) (SendFault M)) M)
+    pub polled_tail : (reply : SendPoll M)
         → Performs holds cmp is_clone old (call.PollSendv msgs given waker) (answer.PollSendv reply) handed new
         → IfSome (kept_by reply) (HoldsTail holds msgs)
     polled_tail reply h = if_some (HoldsTail holds msgs) (kept_by reply) (λ held is. record {

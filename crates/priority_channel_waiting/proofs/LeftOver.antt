@@ -1,12 +1,10 @@
 -- What comes back from an attempt is what the core gives back, and the error of the call holds it.
-use Rattle.std.proofs.Common.{arith}
-use Rattle.std.specs.Prelude.{◌≡◌, IfErr, IfSome, IsErrAnd, Result}
-use Rattle.priority_channel_core.specs.declared.errors.TrySendError.{TrySendError}
-use Rattle.priority_channel_core.specs.Errors.{rest_of}
+use Rattle.std.proofs.Common.{arith, ◌≡◌, IfErr, IfSome, IsErrAnd, Result}
+use Rattle.priority_channel_core.specs.Prelude.{rest_of, SendReply}
 use Rattle.priority_channel_waiting.specs.Waits.{left_over, outcome_of_try}
 
 module _ {C : Type 0} (Q : C → Type 0) where
-  pub left_of_try : (reply : Result (Unit {0}) (TrySendError C)) → IfErr reply (λ error. Q (rest_of error)) → IfSome (left_over (outcome_of_try reply)) Q
+  pub left_of_try : (reply : SendReply C) → IfErr reply (λ error. Q (rest_of error)) → IfSome (left_over (outcome_of_try reply)) Q
   left_of_try reply h = grind arith
 
 -- the error holds what came back of the call that it was made from

@@ -1,15 +1,11 @@
 -- Which waiters the list has after one is listed, or a ticket is taken off.
-use Rattle.std.proofs.Common.{◌≡◌, ◌≢◌, ℕ, ◌<◌, ◌≤◌, ◌⊎◌, Bool, true, false, not, zero, suc, List, [], ◌∷◌, map, refl, ap, sym, ◌∙◌, subst, arith, inl, inr, eq-eqb}
-use Rattle.std.specs.Prelude.{◌==◌, if◌then◌else◌, Option, Some, None, Contains}
-use Rattle.std.specs.List.{All, filter}
+use Rattle.std.proofs.Common.{◌≡◌, ◌≢◌, ℕ, ◌<◌, ◌≤◌, ◌⊎◌, Bool, true, false, not, zero, suc, List, [], ◌∷◌, map, refl, ap, sym, ◌∙◌, subst, arith, inl, inr, eq-eqb, ◌==◌, if◌then◌else◌, Option, Some, None, Contains, All, filter}
 use Rattle.std.proofs.lemmas.Bool.{ne_eqb}
 use Rattle.std.proofs.lemmas.Bool.Decides.{nat_tests}
 use Rattle.std.proofs.lemmas.List.{get_or-map, length-map}
 use Rattle.std.proofs.lemmas.List.Elements.{All-contains, All-contains_itself, All-filter, All-map, All-weaker, filter_passes, Contains-append_left, Contains-push, Contains-push_cases, at_from_Contains}
 use Rattle.std.proofs.lemmas.List.Folds.{Any-from_list_any}
-use Rattle.priority_channel_core.specs.Waiting.{is_listed, without_given, with_waker, listing, fresh, Listing}
-use Rattle.priority_channel_core.specs.Future.{Standing, ticket_of}
-use Rattle.priority_channel_core.specs.Future.Standing.{Waiting, Done}
+use Rattle.priority_channel_core.specs.Prelude.{is_listed, without_given, with_waker, listing, fresh, Listing, Standing, ticket_of, Waiting, Done}
 use Rattle.priority_channel_core.proofs.Waiting.{listed_at}
 use Rattle.priority_channel_waiting.specs.Closers.{Closers}
 

@@ -1,37 +1,20 @@
 -- Tries with the state of a future: a try that is answered is a poll, with any waker.
-use Rattle.priority_channel_core.specs.declared.errors.RecvFault.{RecvFault}
-use Rattle.priority_channel_core.specs.declared.errors.TryRecvError.{TryRecvError}
-use Rattle.priority_channel_core.specs.declared.calls.CorePoll.{CorePoll}
 use Rattle.priority_channel_core.specs.declared.calls.Answer.{Answer}
 use Rattle.priority_channel_core.specs.declared.calls.Call.{Call}
-use Rattle.std.proofs.Common.{◌≡◌, ◌≤◌, ◌*◌, ℕ, List, [], ◌∷◌, length, ap, refl, arith}
-use Rattle.std.specs.Prelude.{Option, None, Some, IfSome, IfErr, Result}
+use Rattle.priority_channel_core.specs.declared.calls.CorePoll.TheVariants.{Ready}
+use Rattle.priority_channel_core.specs.declared.side.Side.{Side}
+use Rattle.priority_channel_core.specs.declared.side.Side.TheVariants.{Room, Message}
+use Rattle.priority_channel_core.specs.Prelude.{rest_of, State, Handed, IsGood, Step, Performs, unlist, search_bound, as_list, AddsFront, Polls, send_answer, recv_answer, CountedState, ComparesAtMost, Sendv, GivesUpTicket, Task, poll_of, future_after, Ordering, SendReply, RecvReply, SendEnd, RecvEnd, SendPoll}
+use Rattle.std.proofs.Common.{◌≡◌, ◌≤◌, ◌*◌, ℕ, List, [], ◌∷◌, length, ap, refl, arith, Option, None, Some, IfSome, IfErr}
 use Rattle.futures.specs.declared.task.Poll.{Poll}
 use Rattle.futures.specs.declared.task.Poll.TheVariants as poll
 use Rattle.futures.specs.Poll.{IfReady, OnPending}
-use Rattle.std.specs.declared.cmp.Ordering.{Ordering}
-use Rattle.priority_channel_core.specs.declared.errors.SendFault.{SendFault}
-use Rattle.priority_channel_core.specs.declared.errors.TrySendError.{TrySendError}
-use Rattle.priority_channel_bag.specs.Digits.{digits}
-use Rattle.priority_channel_core.specs.Errors.{rest_of}
+use Rattle.priority_channel_bag.specs.Prelude.{digits}
 use Rattle.priority_channel_core.specs.declared.calls.Call.TheVariants as call
 use Rattle.priority_channel_core.specs.declared.calls.Answer.TheVariants as answer
-use Rattle.priority_channel_core.specs.declared.calls.CorePoll.TheVariants.{Ready}
-use Rattle.priority_channel_core.specs.machine.State.{State, Handed}
-use Rattle.priority_channel_core.specs.machine.Good.{IsGood}
-use Rattle.priority_channel_core.specs.machine.Step.{Step}
-use Rattle.priority_channel_core.specs.code.Calls.{Performs}
-use Rattle.priority_channel_core.specs.Waiters.{unlist, search_bound}
-use Rattle.priority_channel_core.specs.declared.side.Side.{Side}
-use Rattle.priority_channel_core.specs.declared.side.Side.TheVariants.{Room, Message}
-use Rattle.priority_channel_core.specs.machine.Sends.{as_list, AddsFront}
-use Rattle.priority_channel_core.specs.machine.Polls.{Polls, send_answer, recv_answer}
-use Rattle.priority_channel_core.specs.code.Channel.{CountedState, ComparesAtMost}
 use Rattle.priority_channel_core.proofs.Polls.{performs_poll, sent_searches_less, ends_unlisted}
 use Rattle.priority_channel_core.proofs.Sends.{sends_front}
-use Rattle.priority_channel_core.specs.Future.Task.{Sendv}
 use Rattle.priority_channel_waiting.specs.Holding.{Holding, done, told_at_once, left_at_once, handed_back, send_of, recv_of, TriesFront, PollsKept, IsKeptOf}
-use Rattle.priority_channel_core.specs.Future.{GivesUpTicket, Task, poll_of, future_after}
 use Rattle.priority_channel_waiting.proofs.Holdings.{if_some}
 
 -- a ticket that was given up, if there was one, is in neither list
@@ -40,18 +23,18 @@ pub given_up : {T P W : Type 0} (cmp : P → P → Ordering) (is_clone : W → W
 given_up cmp is_clone mid new given good gave = grind arith
 
 -- a try that is answered at once is answered by a poll, with any waker
-answered_at_once : {K : Type 0} (given : Option ℕ) (tried : Result (Unit {0}) (TrySendError K))
+answered_at_once : {K : Type 0} (given : Option ℕ) (tried : SendReply K)
     → IfReady (told_at_once tried) (λ told. (send_answer tried None ≡ Some (Ready told)) × (left_at_once given tried ≡ done))
 answered_at_once given tried = grind arith
 
 module _ {T P W M F K : Type 0} (Performs : State T P W → Call T P W M F → Answer T P M → Handed W → State T P W → Type 0)
-    (task_of : K → Task T P M) (as_answer : CorePoll (Result (Unit {0}) (SendFault K)) K → Answer T P M) (cmp : P → P → Ordering) (is_clone : W → W → Type 0) where
-  answers_at_once : (holding left : Holding K) (tried : Result (Unit {0}) (TrySendError K)) (told : Poll (Result (Unit {0}) (SendFault K))) (kept : K) (given : Option ℕ)
+    (task_of : K → Task T P M) (as_answer : SendPoll K → Answer T P M) (cmp : P → P → Ordering) (is_clone : W → W → Type 0) where
+  answers_at_once : (holding left : Holding K) (tried : SendReply K) (told : Poll (SendEnd K)) (kept : K) (given : Option ℕ)
       (old mid new : State T P W) (handed : Handed W) → holding ≡ record { kept = Some kept; ticket = given } → told ≡ told_at_once tried
       → left ≡ left_at_once given tried → IsGood mid → IfReady told (λ _. GivesUpTicket cmp is_clone mid given new)
-      → ((outcome : Result (Unit {0}) (SendFault K)) (waker : W) → send_answer tried None ≡ Some (Ready outcome)
+      → ((outcome : SendEnd K) (waker : W) → send_answer tried None ≡ Some (Ready outcome)
       → new ≡ record mid { waiters = unlist given mid.waiters } → IsGood new → Performs old (poll_of (task_of kept) given waker) (as_answer (Ready outcome)) handed new)
-      → ((outcome : Result (Unit {0}) (SendFault K)) (waker : W) → IsKeptOf task_of done (future_after (task_of kept) waker (as_answer (Ready outcome))))
+      → ((outcome : SendEnd K) (waker : W) → IsKeptOf task_of done (future_after (task_of kept) waker (as_answer (Ready outcome))))
       → IfSome holding.kept (λ kept. IfReady told (λ _. (waker : W) → PollsKept Performs task_of as_answer kept holding.ticket waker old told handed new left))
   answers_at_once holding left tried (poll.Ready told) kept given old mid new handed is tells leaves good gave performs ends =
       let answered = rw (← tells) at (answered_at_once given tried) in
@@ -66,7 +49,7 @@ module _ {T P W : Type 0} (cmp : P → P → Ordering) (is_clone : W → W → T
   polled_at_once side given reply waker tried is gone =
       record { reply = reply; ticket = None; mid = mid; tried = tried; answered = is; ends = ends_unlisted is_clone side given waker mid new gone }
 
-  pub received_at_once : (holding : Holding (Unit {0})) (reply : Result (T × P) TryRecvError) (outcome : Result (T × P) RecvFault)
+  pub received_at_once : (holding : Holding (Unit {0})) (reply : RecvReply (T × P)) (outcome : RecvEnd (T × P))
       → recv_answer reply None ≡ Some (Ready outcome) → Step cmp is_clone old call.TryRecv (answer.TryRecv reply) handed mid
       → GivesUpTicket cmp is_clone mid holding.ticket new
       → IfSome holding.kept (λ kept. (waker : W) → PollsKept (Step cmp is_clone) recv_of (λ reply. answer.PollRecv reply)
@@ -80,7 +63,7 @@ module _ {T P W : Type 0} (cmp : P → P → Ordering) (is_clone : W → W → T
         leaves = record { task = refl; ticket = refl };
       })
 
-  pub sent_at_once : (holding left : Holding (T × P)) (tried : Result (Unit {0}) (TrySendError (T × P))) (told : Poll (Result (Unit {0}) (SendFault (T × P))))
+  pub sent_at_once : (holding left : Holding (T × P)) (tried : SendReply (T × P)) (told : Poll (SendEnd (T × P)))
       (pair : T × P) (given : Option ℕ) → holding ≡ record { kept = Some pair; ticket = given }
       → told ≡ told_at_once tried → left ≡ left_at_once given tried
       → Step cmp is_clone old (call.TrySend pair.0 pair.1) (answer.TrySend tried) handed mid
@@ -92,7 +75,7 @@ module _ {T P W : Type 0} (cmp : P → P → Ordering) (is_clone : W → W → T
       (λ outcome waker answered gone good. record { moves = polled_at_once Room given tried waker step.moves answered gone; good = good })
       (λ outcome waker. record { task = refl; ticket = refl })
 
-  pub tried_searches_less : (tried : Result (Unit {0}) (TrySendError (T × P))) (msg : T) (priority : P)
+  pub tried_searches_less : (tried : SendReply (T × P)) (msg : T) (priority : P)
       → Step cmp is_clone old (call.TrySend msg priority) (answer.TrySend tried) handed mid → search_bound mid.waiters ≤ search_bound old.waiters
   tried_searches_less tried msg priority step =
       let front = sends_front old mid ((msg, priority) ∷ []) (as_list tried) handed step.moves in
@@ -123,17 +106,17 @@ module _ {T P W R : Type 0} (cmp : P → P → Ordering) (is_clone : W → W →
   tried_good told good gave waits = grind arith
 
 -- what a try gives back, and what it keeps, was not sent
-pub handed_back_at_once : {M : Type 0} (Q : M → Type 0) (tried : Result (Unit {0}) (TrySendError M)) → IfErr tried (λ error. Q (rest_of error))
+pub handed_back_at_once : {M : Type 0} (Q : M → Type 0) (tried : SendReply M) → IfErr tried (λ error. Q (rest_of error))
     → IfSome (handed_back (told_at_once tried)) Q
 handed_back_at_once Q tried h = grind arith
 
-pub kept_at_once : {M : Type 0} (Q : M → Type 0) (given : Option ℕ) (tried : Result (Unit {0}) (TrySendError M)) → IfErr tried (λ error. Q (rest_of error))
+pub kept_at_once : {M : Type 0} (Q : M → Type 0) (given : Option ℕ) (tried : SendReply M) → IfErr tried (λ error. Q (rest_of error))
     → IfSome (left_at_once given tried).kept Q
 kept_at_once Q given tried h = grind arith
 
 module _ {T P W M : Type 0} (holds : M → List (T × P) → Type 0) (cmp : P → P → Ordering) (is_clone : W → W → Type 0)
     (old mid new : State T P W) (handed : Handed W) where
-  pub sentv_at_once : (holding left : Holding M) (tried : Result (Unit {0}) (TrySendError M)) (told : Poll (Result (Unit {0}) (SendFault M)))
+  pub sentv_at_once : (holding left : Holding M) (tried : SendReply M) (told : Poll (SendEnd M))
       (msgs : M) (given : Option ℕ) → holding ≡ record { kept = Some msgs; ticket = given }
       → told ≡ told_at_once tried → left ≡ left_at_once given tried → IsGood mid
       → Performs holds cmp is_clone old (call.TrySendv msgs) (answer.TrySendv tried) handed mid
@@ -148,7 +131,7 @@ module _ {T P W M : Type 0} (holds : M → List (T × P) → Type 0) (cmp : P �
 
 -- if it found no room, it was a try
 pub tried_in_vain : {T P W M : Type 0} (holds : M → List (T × P) → Type 0) (cmp : P → P → Ordering) (is_clone : W → W → Type 0) (old : State T P W)
-    (mid new : CountedState T P W) (handed : Handed W) (tried : Result (Unit {0}) (TrySendError M)) (told : Poll (Result (Unit {0}) (SendFault M))) (msgs : M)
+    (mid new : CountedState T P W) (handed : Handed W) (tried : SendReply M) (told : Poll (SendEnd M)) (msgs : M)
     → OnPending told (new ≡ mid) → Performs holds cmp is_clone old (call.TrySendv msgs) (answer.TrySendv tried) handed mid.state
     → OnPending told (Performs holds cmp is_clone old (call.TrySendv msgs) (answer.TrySendv tried) handed new.state)
 tried_in_vain holds cmp is_clone old mid new handed tried told msgs same step = grind arith

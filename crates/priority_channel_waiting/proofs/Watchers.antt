@@ -1,13 +1,10 @@
 -- What each event preserves of the watchers and the list of those that wait.
-use Rattle.std.proofs.Common.{◌≡◌, ◌≢◌, ℕ, ◌<◌, ◌≤◌, ◌⊎◌, true, false, List, [], ◌∷◌, refl, ap, sym, ◌∙◌, subst, arith, inl, inr, eq-eqb}
-use Rattle.std.specs.Prelude.{◌==◌, Option, Some, None, Contains}
+use Rattle.std.proofs.Common.{◌≡◌, ◌≢◌, ℕ, ◌<◌, ◌≤◌, ◌⊎◌, true, false, List, [], ◌∷◌, refl, ap, sym, ◌∙◌, subst, arith, inl, inr, eq-eqb, ◌==◌, Option, Some, None, Contains}
 use Rattle.std.specs.List.{list_any}
 use Rattle.std.proofs.lemmas.Bool.Decides.{nat_tests}
 use Rattle.std.proofs.lemmas.List.Elements.{at_from_Contains}
 use Rattle.std.proofs.lemmas.List.Folds.{list_any_at}
-use Rattle.priority_channel_core.specs.Waiting.{without_given, listing}
-use Rattle.priority_channel_core.specs.Future.{Standing, ticket_of}
-use Rattle.priority_channel_core.specs.Future.Standing.{Waiting, Called, Done}
+use Rattle.priority_channel_core.specs.Prelude.{without_given, listing, Standing, ticket_of, Waiting, Called, Done}
 use Rattle.priority_channel_waiting.specs.Closers.{Closers}
 use Rattle.priority_channel_waiting.specs.declared.closing.Watch.TheVariants.{Listed, Closed, Refused}
 use Rattle.priority_channel_waiting.specs.CloseLaw.{CloseWorld, CloseEvent, opening, turned, called_by, Happens, Leads, NobodyIsForgotten}

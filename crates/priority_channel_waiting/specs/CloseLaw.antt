@@ -2,9 +2,7 @@
 -- them, and what always holds.
 use Rattle.std.specs.Prelude.{◌≡◌, ◌↔◌, true, false, ℕ, ◌<◌, Bool, ◌==◌, if◌then◌else◌, List, [], ◌∷◌, Some, Contains}
 use Rattle.std.specs.List.{list_any}
-use Rattle.priority_channel_core.specs.Waiting.{without_given}
-use Rattle.priority_channel_core.specs.Future.{Standing, ticket_of}
-use Rattle.priority_channel_core.specs.Future.Standing.{New, Waiting, Called, Done}
+use Rattle.priority_channel_core.specs.Prelude.{without_given, Standing, ticket_of, New, Waiting, Called, Done}
 use Rattle.priority_channel_waiting.specs.declared.closing.Watch.{Watch}
 use Rattle.priority_channel_waiting.specs.declared.closing.Watch.TheVariants.{Listed}
 use Rattle.priority_channel_waiting.specs.Closers.{Closers, Watches}

@@ -1,6 +1,6 @@
 -- The waiters for the close of a channel.
 use Rattle.std.specs.Prelude.{◌≡◌, true, false, ℕ, Bool, List, Option}
-use Rattle.priority_channel_core.specs.Waiting.{listing, without_given}
+use Rattle.priority_channel_core.specs.Prelude.{listing, without_given}
 use Rattle.priority_channel_waiting.specs.declared.closing.Watch.{Watch}
 use Rattle.priority_channel_waiting.specs.declared.closing.Watch.TheVariants.{Listed, Closed, Refused}
 

@@ -1,6 +1,5 @@
 -- What the code keeps of a future between its polls.
-use Rattle.std.specs.Prelude.{◌≡◌, ℕ, List, drop, Option, Some, None, Result, Ok, Err}
-use Rattle.std.specs.Option.{option_map}
+use Rattle.std.specs.Prelude.{◌≡◌, ℕ, List, drop, Option, Some, None, Ok, Err, option_map}
 use Rattle.futures.specs.Poll.{IfReady, OnPending}
 use Rattle.futures.specs.declared.task.Poll.{Poll}
 use Rattle.futures.specs.declared.task.Poll.TheVariants as poll
@@ -8,17 +7,9 @@ use Rattle.priority_channel_core.specs.declared.calls.Call.{Call}
 use Rattle.priority_channel_core.specs.declared.calls.Answer.{Answer}
 use Rattle.priority_channel_core.specs.declared.calls.CorePoll.{CorePoll}
 use Rattle.priority_channel_core.specs.declared.calls.CorePoll.TheVariants.{Ready, Pending}
-use Rattle.priority_channel_core.specs.declared.errors.SendFault.{SendFault}
+use Rattle.priority_channel_core.specs.Prelude.{unsent, State, Handed, AddsFront, unlist, Task, Tasks, Standing, Future, ticket_of, poll_of, future_after, Send, Recv, Done, SendReply, SendEnd}
 use Rattle.priority_channel_core.specs.declared.errors.SendFault.TheVariants as send_fault
-use Rattle.priority_channel_core.specs.declared.errors.TrySendError.{TrySendError}
 use Rattle.priority_channel_core.specs.declared.errors.TrySendError.TheVariants as send_error
-use Rattle.priority_channel_core.specs.Errors.{unsent}
-use Rattle.priority_channel_core.specs.machine.State.{State, Handed}
-use Rattle.priority_channel_core.specs.machine.Sends.{AddsFront}
-use Rattle.priority_channel_core.specs.Waiters.{unlist}
-use Rattle.priority_channel_core.specs.Future.{Task, Tasks, Standing, Future, ticket_of, poll_of, future_after}
-use Rattle.priority_channel_core.specs.Future.Task.{Send, Recv}
-use Rattle.priority_channel_core.specs.Future.Standing.{Done}
 
 -- its remaining work (None once done) and its ticket
 pub record Holding (K : Type 0) : Type 0 where
@@ -42,26 +33,24 @@ module _ {K : Type 0} where
   left_by (Pending kept ticket) = record { kept = Some kept; ticket = Some ticket }
 
   -- the same for a try to send; what is unsent keeps the old ticket
-  abbrev pub told_at_once : Result (Unit {0}) (TrySendError K)
-      → Poll (Result (Unit {0}) (SendFault K))
+  abbrev pub told_at_once : SendReply K → Poll (SendEnd K)
   told_at_once (Ok sent) = poll.Ready (Ok tt)
   told_at_once (Err (send_error.Closed held)) =
       poll.Ready (Err (send_fault.Closed (record { 0 = held })))
   told_at_once (Err (send_error.Memory held)) = poll.Ready (Err (send_fault.Memory held))
   told_at_once (Err (send_error.Full held)) = poll.Pending
 
-  abbrev pub left_at_once : Option ℕ → Result (Unit {0}) (TrySendError K) → Holding K
+  abbrev pub left_at_once : Option ℕ → SendReply K → Holding K
   left_at_once ticket (Err (send_error.Full held)) = record { kept = Some held; ticket = ticket }
   left_at_once ticket tried = done
 
-  abbrev pub handed_back : Poll (Result (Unit {0}) (SendFault K)) → Option K
+  abbrev pub handed_back : Poll (SendEnd K) → Option K
   handed_back (poll.Ready (Err fault)) = Some (unsent fault)
   handed_back polled = None
 
 -- A try of a bulk send sends this prefix, if any. Answered, its ticket is in neither list.
 pub record TriesFront {T P W R : Type 0} (old : State T P W) (given : Option ℕ)
-    (front : List (T × P)) (told : Poll R)
-    (handed : Handed W) (new : State T P W) : Type 0 where
+    (front : List (T × P)) (told : Poll R) (handed : Handed W) (new : State T P W) : Type 0 where
   pub mid : State T P W
   pub adds : AddsFront old front handed mid
   pub answered : IfReady told (λ _. new ≡ record mid { waiters = unlist given mid.waiters })
@@ -95,8 +84,7 @@ module _ {T P W M F K R : Type 0}
     (task_of : K → Task T P M) (as_answer : CorePoll R K → Answer T P M) where
   -- this poll returns what the core answers, and leaves the state of the polled future
   pub record PollsKept (kept : K) (given : Option ℕ) (waker : W) (old : State T P W) (told : Poll R)
-      (handed : Handed W)
-      (new : State T P W) (left : Holding K) : Type 0 where
+      (handed : Handed W) (new : State T P W) (left : Holding K) : Type 0 where
     pub reply : CorePoll R K
     pub tells : told ≡ told_by reply
     pub step : Performs old (poll_of (task_of kept) given waker) (as_answer reply) handed new

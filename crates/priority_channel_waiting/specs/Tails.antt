@@ -1,6 +1,5 @@
 -- The rest of a bulk send's list, over any number of attempts.
-use Rattle.std.specs.Prelude.{◌+◌, List, drop}
-use Rattle.std.proofs.Common.{drop-drop, subst}
+use Rattle.std.proofs.Common.{drop-drop, subst, ◌+◌, List, drop}
 use Rattle.priority_channel_waiting.specs.Holding.{HoldsTail}
 
 module _ {X M : Type 0} (holds : M → List X → Type 0) where

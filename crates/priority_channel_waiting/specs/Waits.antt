@@ -1,13 +1,11 @@
 -- What a call that waits on its thread does, and what it returns without success.
-use Rattle.std.specs.Prelude.{◌≡◌, ℕ, List, Option, Some, None, Result, Ok, Err, codes}
-use Rattle.priority_channel_core.specs.declared.errors.TrySendError.{TrySendError}
-use Rattle.priority_channel_core.specs.declared.errors.TrySendError.TheVariants as try_send
-use Rattle.priority_channel_core.specs.declared.errors.TryRecvError.{TryRecvError}
-use Rattle.priority_channel_core.specs.declared.errors.TryRecvError.TheVariants as try_recv
+use Rattle.std.specs.Prelude.{◌≡◌, ℕ, List, Option, Some, None, Ok, Err, codes}
 use Rattle.priority_channel_core.specs.declared.errors.SendFault.{SendFault}
-use Rattle.priority_channel_core.specs.declared.errors.SendFault.TheVariants as send_fault
 use Rattle.priority_channel_core.specs.declared.errors.RecvError.{RecvError}
 use Rattle.priority_channel_core.specs.declared.errors.RecvFault.{RecvFault}
+use Rattle.priority_channel_core.specs.declared.errors.TrySendError.TheVariants as try_send
+use Rattle.priority_channel_core.specs.declared.errors.TryRecvError.TheVariants as try_recv
+use Rattle.priority_channel_core.specs.declared.errors.SendFault.TheVariants as send_fault
 use Rattle.priority_channel_core.specs.declared.errors.RecvFault.TheVariants as recv_fault
 use Rattle.priority_channel_waiting.specs.declared.attempts.Outcome.{Outcome}
 use Rattle.priority_channel_waiting.specs.declared.attempts.Outcome.TheVariants.{Done, Blocked, Closed, Memory}
@@ -18,6 +16,7 @@ use Rattle.priority_channel_waiting.specs.declared.timeouts.SendTimeoutError.{Se
 use Rattle.priority_channel_waiting.specs.declared.timeouts.SendTimeoutError.TheVariants as send_timeout
 use Rattle.priority_channel_waiting.specs.declared.timeouts.RecvTimeoutError.{RecvTimeoutError}
 use Rattle.priority_channel_waiting.specs.declared.timeouts.RecvTimeoutError.TheVariants as recv_timeout
+use Rattle.priority_channel_core.specs.Prelude.{SendReply, RecvReply}
 
 module _ {D C : Type 0} where
   abbrev pub left_over : Outcome D C → Option C
@@ -27,13 +26,13 @@ module _ {D C : Type 0} where
   left_over (Memory rest) = Some rest
 
 -- the outcome of a try
-abbrev pub outcome_of_try : {C : Type 0} → Result (Unit {0}) (TrySendError C) → Outcome (Unit {0}) C
+abbrev pub outcome_of_try : {C : Type 0} → SendReply C → Outcome (Unit {0}) C
 outcome_of_try (Ok done) = Done done
 outcome_of_try (Err (try_send.Full rest)) = Blocked rest
 outcome_of_try (Err (try_send.Closed rest)) = Closed rest
 outcome_of_try (Err (try_send.Memory rest)) = Memory rest
 
-abbrev pub recv_tried : {X : Type 0} → Receive → Result X TryRecvError → Outcome X Receive
+abbrev pub recv_tried : {X : Type 0} → Receive → RecvReply X → Outcome X Receive
 recv_tried call (Ok pair) = Done pair
 recv_tried call (Err try_recv.Empty) = Blocked call
 recv_tried call (Err try_recv.Closed) = Closed call

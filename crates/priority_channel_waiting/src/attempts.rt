@@ -3,9 +3,7 @@
 ghost use Rattle.std.specs.Prelude.{◌≡◌, ⊤, IfSome, IfOk, IfErr, Some, refl};
 ghost use Rattle.std.proofs.Common.{◌∙◌};
 ghost use Rattle.std.specs.Iterator.Adapters.{peekable_can};
-ghost use Rattle.priority_channel_core.specs.code.Lists.{HasList};
-ghost use Rattle.priority_channel_core.specs.machine.Step.{Step};
-ghost use Rattle.priority_channel_core.specs.code.Calls.{Performs};
+ghost use Rattle.priority_channel_core.specs.Prelude.{HasList, Step, Performs};
 ghost use Rattle.priority_channel_waiting.specs.Holding.{HoldsTail};
 ghost use Rattle.priority_channel_waiting.specs.Ends.{OnOver};
 ghost use Rattle.priority_channel_waiting.specs.Waits.{left_over, given_back, outcome_of_try, recv_tried};

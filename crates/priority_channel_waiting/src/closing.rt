@@ -1,6 +1,6 @@
 //! The tasks and threads that wait for the close of a channel.
 ghost use Rattle.std.specs.Prelude.{◌≡◌, ◌↔◌, true, [], IsSome};
-ghost use Rattle.priority_channel_core.specs.Waiting.{without};
+ghost use Rattle.priority_channel_core.specs.Prelude.{without};
 ghost use Rattle.priority_channel_waiting.specs.Closers.{Watches};
 
 use crate::waiter::{Core, Waiter};
@@ -18,8 +18,7 @@ pub struct Closing<A: Allocator> {
 }
 
 impl<A: Allocator> Model for Closing<A> {
-    ghost use Rattle.std.specs.Prelude.{◌<◌};
-    ghost use Rattle.std.specs.List.{All};
+    ghost use Rattle.std.specs.Prelude.{◌<◌, All};
     ghost use Rattle.priority_channel_waiting.specs.Closers.{Closers};
 
     ghost Value = { Closers };

@@ -1,7 +1,6 @@
 //! What follows for all together that wait for the close of a channel.
 ghost use Rattle.std.specs.Prelude.{◌≡◌, ℕ, ◌<◌, true, List, Some};
-ghost use Rattle.priority_channel_core.specs.Future.{ticket_of};
-ghost use Rattle.priority_channel_core.specs.Future.Standing.{Waiting, Called};
+ghost use Rattle.priority_channel_core.specs.Prelude.{ticket_of, Waiting, Called};
 ghost use Rattle.priority_channel_waiting.specs.CloseLaw.{CloseWorld, CloseEvent, opening, Happens, Leads, NobodyIsForgotten};
 ghost use Rattle.priority_channel_waiting.specs.CloseLaw.CloseEvent.{Looks, Closes};
 

@@ -8,13 +8,7 @@
 //! see to it that something wakes the head (`Duty`, `Unlisted`). Whoever takes the head's ticket
 //! must take it off the channel's list (`Ticket`).
 ghost use Rattle.std.specs.Prelude.{◌≡◌, ◌≢◌, ◌↔◌, ℕ, ◌+◌, ◌-◌, ◌<◌, ◌≤◌, ◌∷◌, ◌++◌, [], option_to_list, IfOk, IfErr, IfNone, IfSome, IsSome, IsTrue, OnOk, OnErr, Some, None};
-ghost use Rattle.priority_channel_core.specs.Waiting.{without};
-ghost use Rattle.priority_channel_core.specs.Waiters.{unlist};
-ghost use Rattle.priority_channel_core.specs.code.Channel.{IsBlocked};
-ghost use Rattle.priority_channel_core.specs.machine.State.{nobody};
-ghost use Rattle.priority_channel_core.specs.machine.Step.{Step};
-ghost use Rattle.priority_channel_core.specs.machine.Good.{IsGood};
-ghost use Rattle.priority_channel_core.specs.Lines.{IsFirst, Lists};
+ghost use Rattle.priority_channel_core.specs.Prelude.{without, unlist, IsBlocked, nobody, Step, IsGood, IsFirst, Lists};
 
 use crate::waiter::{Core, Waiter};
 use priority_channel_core::calls::{Answer, Call};
@@ -39,9 +33,8 @@ pub struct Line<A: Allocator> {
 }
 
 impl<A: Allocator> Model for Line<A> {
-    ghost use Rattle.std.specs.Prelude.{◌≡◌, ◌<◌, [], None};
-    ghost use Rattle.std.specs.List.{All};
-    ghost use Rattle.priority_channel_core.specs.Lines.{Lined};
+    ghost use Rattle.std.specs.Prelude.{◌≡◌, ◌<◌, [], None, All};
+    ghost use Rattle.priority_channel_core.specs.Prelude.{Lined};
 
     ghost Value = { Lined };
 

@@ -20,7 +20,7 @@ pub enum Ended<C, O> {
 }
 
 impl<T> From<Ended<T, Infallible>> for SendFault<T> {
-    ghost use Rattle.priority_channel_core.specs.Errors.{unsent};
+    ghost use Rattle.priority_channel_core.specs.Prelude.{unsent};
     ghost use Rattle.priority_channel_waiting.specs.Waits.{TellsSendFault};
 
     ghost from_gives = { λ ended fault. TellsSendFault ended fault

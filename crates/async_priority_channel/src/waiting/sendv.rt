@@ -4,7 +4,7 @@ ghost use Rattle.std.specs.Option.{ForSome};
 ghost use Rattle.std.specs.Iterator.Adapters.{peekable_can};
 ghost use Rattle.futures.specs.Task.{Covers, Keeps};
 ghost use Rattle.futures.specs.Poll.{IfReady, OnPending};
-ghost use Rattle.priority_channel_core.specs.code.Lists.{HasList};
+ghost use Rattle.priority_channel_core.specs.Prelude.{HasList};
 ghost use Rattle.priority_channel_waiting.specs.Holding.{done};
 ghost use Rattle.async_priority_channel.specs.Handles.{HandsBackTail};
 

@@ -1,6 +1,6 @@
 //! What a caller concludes from the contract of a bulk send, where it knows the list.
 ghost use Rattle.std.specs.Prelude.{◌≡◌, ◌+◌, ◌≤◌, ◌<◌, ◌^◌, ◌++◌, true, false, take, vec_len};
-ghost use Rattle.priority_channel_core.specs.machine.State.{room};
+ghost use Rattle.priority_channel_core.specs.Prelude.{room};
 
 use super::expect_equal;
 use priority_channel_core::channel::PriorityQueueChannel;

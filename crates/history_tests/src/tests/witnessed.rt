@@ -1,6 +1,6 @@
 //! Witnessed channels: scenes, and what they are played on.
 ghost use Rattle.std.specs.Prelude.{◌≡◌, ◌<◌, ◌≤◌, ◌^◌};
-ghost use Rattle.priority_channel_core.specs.machine.State.{opening};
+ghost use Rattle.priority_channel_core.specs.Prelude.{opening};
 ghost use Rattle.priority_channel_witnessed.specs.Log.{names};
 
 use super::Host;

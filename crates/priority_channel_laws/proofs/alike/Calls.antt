@@ -1,16 +1,9 @@
 -- Two calls from states that are the same, where neither call waits, with as many pairs accepted.
-use Rattle.std.proofs.Common.{◌≡◌, ℕ, Bool, true, false, List, [], ◌∷◌, ◌++◌, ◌+◌, length, refl, sym, ap, ◌∙◌, zero, suc, arith, length-append}
-use Rattle.std.proofs.lemmas.List.{length-take}
-use Rattle.std.specs.Prelude.{Option, Some, None, Result, Ok, Err, ◌==◌, if◌then◌else◌}
+use Rattle.std.proofs.Common.{◌≡◌, ℕ, Bool, true, false, List, [], ◌∷◌, ◌++◌, ◌+◌, length, refl, sym, ap, ◌∙◌, zero, suc, arith, length-append, length-take, Option, Some, None, Result, Ok, Err, ◌==◌, if◌then◌else◌}
 use Rattle.std.specs.Cmp.{IsTotalOrder}
-use Rattle.std.specs.declared.cmp.Ordering.{Ordering}
-use Rattle.priority_channel_core.specs.declared.errors.TrySendError.{TrySendError}
+use Rattle.priority_channel_core.specs.Prelude.{State, Handed, nobody, room, Refuses, Accepts, Sends, Frees, Receives, Takes, ChangesPriority, Shuts, Closes, Looks, Clones, Drops, Ordering, SendReply, RecvReply}
 use Rattle.priority_channel_core.specs.declared.errors.TrySendError.TheVariants as send_error
-use Rattle.priority_channel_core.specs.declared.errors.TryRecvError.{TryRecvError}
 use Rattle.priority_channel_core.specs.declared.errors.TryRecvError.TheVariants as recv_error
-use Rattle.priority_channel_core.specs.machine.State.{State, Handed, nobody, room}
-use Rattle.priority_channel_core.specs.machine.Sends.{Refuses, Accepts, Sends}
-use Rattle.priority_channel_core.specs.machine.OtherCalls.{Frees, Receives, Takes, ChangesPriority, Shuts, Closes, Looks, Clones, Drops}
 use Rattle.priority_channel_laws.specs.Accepted.{all_but, sent}
 use Rattle.priority_channel_laws.specs.Alike.{SameHanded, SameState}
 use Rattle.priority_channel_laws.proofs.runs.Effects.{all_but-front}
@@ -72,7 +65,7 @@ module _ {T P W : Type 0} (is_clone : W → W → Type 0) where
         → (length pairs ≡ length front + length rest) × (length (all_but rest pairs) ≡ length front)
     parts_long pairs front rest p = rw p (length-append front rest, ap length (all_but-front front rest))
 
-    pub sends_same : (pairs : List (T × P)) (x y : Result (Unit {0}) (TrySendError (List (T × P)))) → Sends s pairs x h k → Sends r pairs y h' k'
+    pub sends_same : (pairs : List (T × P)) (x y : SendReply (List (T × P))) → Sends s pairs x h k → Sends r pairs y h' k'
         → length (sent pairs y) ≡ length (sent pairs x) → (y ≡ x) × Both h h' k k'
     sends_same pairs (Ok d) (Ok e) a b count = (refl, accepts_same pairs a.2 b.2)
     sends_same pairs (Err (send_error.Closed u)) (Err (send_error.Closed v)) a b count =
@@ -153,7 +146,7 @@ module _ {T P W : Type 0} (is_clone : W → W → Type 0) where
     changes_same place priority x y a b = let pending = ap length (same_pending is_clone same) in absurd (grind (arith, length-append {A = T × P}))
 
     module _ {cmp : P → P → Ordering} (o : IsTotalOrder cmp) where
-      pub receives_same : (x y : Result (T × P) TryRecvError) → Receives cmp s x h k → Receives cmp r y h' k' → (y ≡ x) × Both h h' k k'
+      pub receives_same : (x y : RecvReply (T × P)) → Receives cmp s x h k → Receives cmp r y h' k' → (y ≡ x) × Both h h' k k'
       receives_same (Ok p) (Ok q) a b =
           let one = one_greatest o s.pending p q k.pending k'.pending a.0 (rw (same_pending is_clone same) at b.0) in
           (ap (λ (z : T × P). Ok z) (sym one.0), frees_same one.1 a.1 b.1)

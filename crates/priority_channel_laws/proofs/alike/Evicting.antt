@@ -1,16 +1,12 @@
 -- Two sends that may displace a pair, from states that are the same, with as many pairs accepted.
-use Rattle.std.proofs.Common.{◌≡◌, List, [], ◌∷◌, length, refl, sym, ap, ◌∙◌, arith, inl, inr}
-use Rattle.std.specs.Prelude.{Option, Some, None, Result, Ok, Err}
+use Rattle.std.proofs.Common.{◌≡◌, List, [], ◌∷◌, length, refl, sym, ap, ◌∙◌, arith, inl, inr, Option, Some, None, Result, Ok, Err}
 use Rattle.std.specs.Cmp.{IsTotalOrder}
-use Rattle.std.specs.declared.cmp.Ordering.{Ordering}
 use Rattle.priority_channel_bag.proofs.Extremes.{one_least}
 use Rattle.priority_channel_core.specs.declared.errors.TrySendError.{TrySendError}
 use Rattle.priority_channel_core.specs.declared.errors.TrySendError.TheVariants.{Closed, Full, Memory}
+use Rattle.priority_channel_core.specs.Prelude.{State, Handed, as_list, Sends, Evicts, Ordering}
 use Rattle.priority_channel_core.specs.declared.calls.Call.TheVariants as call
 use Rattle.priority_channel_core.specs.declared.calls.Answer.TheVariants as answer
-use Rattle.priority_channel_core.specs.machine.State.{State, Handed}
-use Rattle.priority_channel_core.specs.machine.Sends.{as_list, Sends}
-use Rattle.priority_channel_core.specs.machine.Evicts.{Evicts}
 use Rattle.priority_channel_laws.specs.Accepted.{sent, accepted_by}
 use Rattle.priority_channel_laws.specs.Alike.{is_memory, SameState}
 use Rattle.priority_channel_laws.proofs.alike.Lists.{same_left, same_pending}

@@ -1,14 +1,11 @@
 -- Waiting lists and states that are the same except for clones of wakers.
-use Rattle.std.proofs.Common.{◌≡◌, ℕ, Bool, true, false, List, [], ◌∷◌, refl, sym, ap, ◌∙◌, subst, inl, inr, is_some}
-use Rattle.std.specs.Prelude.{Option, Some, None, ◌==◌, if◌then◌else◌}
+use Rattle.std.proofs.Common.{◌≡◌, ℕ, Bool, true, false, List, [], ◌∷◌, refl, sym, ap, ◌∙◌, subst, inl, inr, is_some, Option, Some, None, ◌==◌, if◌then◌else◌}
 use Rattle.std.specs.List.{AllZip}
 use Rattle.std.proofs.lemmas.Bool.Decides.{eqb_tells}
 use Rattle.std.proofs.lemmas.List.Elements.{AllZip-push}
-use Rattle.priority_channel_core.specs.machine.State.{State, Handed, nobody}
-use Rattle.priority_channel_core.specs.Waiting.{is_listed, without, without_given, with_waker, listing, Listing, fresh}
 use Rattle.priority_channel_core.specs.declared.side.Side.{Side}
 use Rattle.priority_channel_core.specs.declared.side.Side.TheVariants.{Room, Message}
-use Rattle.priority_channel_core.specs.Waiters.{Waiters, on_side, unlist, enlist, Enlists}
+use Rattle.priority_channel_core.specs.Prelude.{State, Handed, nobody, is_listed, without, without_given, with_waker, listing, Listing, fresh, Waiters, on_side, unlist, enlist, Enlists}
 use Rattle.priority_channel_laws.specs.Alike.{SameWaiter, SameWaiters, SameHanded, SameState}
 
 module _ {W : Type 0} (is_clone : W → W → Type 0) where

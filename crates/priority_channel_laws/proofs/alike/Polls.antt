@@ -1,41 +1,31 @@
 -- Two polls from states that are the same, with as many pairs accepted, where both or neither
 -- answered Memory.
-use Rattle.std.proofs.Common.{◌≡◌, ℕ, Bool, true, false, List, [], ◌∷◌, length, refl, sym, ap, ◌∙◌, is_some, arith}
-use Rattle.std.specs.Prelude.{Option, Some, Result, Err}
+use Rattle.std.proofs.Common.{◌≡◌, ℕ, Bool, true, false, List, [], ◌∷◌, length, refl, sym, ap, ◌∙◌, is_some, arith, Option, Some, Err}
 use Rattle.std.specs.Cmp.{IsTotalOrder}
-use Rattle.std.specs.declared.cmp.Ordering.{Ordering}
 use Rattle.priority_channel_core.specs.declared.calls.Call.TheVariants as call
 use Rattle.priority_channel_core.specs.declared.calls.Answer.TheVariants as answer
-use Rattle.priority_channel_core.specs.declared.calls.CorePoll.{CorePoll}
 use Rattle.priority_channel_core.specs.declared.calls.CorePoll.TheVariants.{Ready, Pending}
-use Rattle.priority_channel_core.specs.declared.errors.TrySendError.{TrySendError}
-use Rattle.priority_channel_core.specs.declared.errors.TryRecvError.{TryRecvError}
-use Rattle.priority_channel_core.specs.declared.errors.SendFault.{SendFault}
+use Rattle.priority_channel_core.specs.declared.side.Side.{Side}
+use Rattle.priority_channel_core.specs.Prelude.{State, Handed, as_list, send_answer, recv_answer, Ends, Polls, Moves, Ordering, SendReply, RecvReply, SendPoll, RecvPoll}
 use Rattle.priority_channel_core.specs.declared.errors.SendFault.TheVariants as send_fault
-use Rattle.priority_channel_core.specs.declared.errors.RecvFault.{RecvFault}
-use Rattle.priority_channel_core.specs.machine.State.{State, Handed}
-use Rattle.priority_channel_core.specs.machine.Sends.{as_list}
-use Rattle.priority_channel_core.specs.machine.Polls.{send_answer, recv_answer, Ends, Polls}
-use Rattle.priority_channel_core.specs.machine.Step.{Moves}
 use Rattle.priority_channel_laws.specs.Accepted.{poll_sent, accepted_by}
 use Rattle.priority_channel_laws.specs.Alike.{is_memory, SameState}
-use Rattle.priority_channel_core.specs.declared.side.Side.{Side}
 use Rattle.priority_channel_laws.proofs.runs.Effects.{poll_sent-is, accepted_one-is}
 use Rattle.priority_channel_laws.proofs.alike.Lists.{same_waiting, same_enlists}
 use Rattle.priority_channel_laws.proofs.alike.Calls.{Both, sends_same, receives_same}
 
-pub as_list_one : {A : Type 0} (x y : Result (Unit {0}) (TrySendError A)) → as_list y ≡ as_list x → y ≡ x
+pub as_list_one : {A : Type 0} (x y : SendReply A) → as_list y ≡ as_list x → y ≡ x
 as_list_one x y h = grind arith
 
 -- of two polls whose tries had the same reply, both wait or neither does, if both or neither
 -- answered Memory
-sends_wait_alike : {K : Type 0} (says : CorePoll (Result (Unit {0}) (SendFault K)) K → Bool) → ((rest : K) → says (Ready (Err (send_fault.Memory rest))) ≡ true)
+sends_wait_alike : {K : Type 0} (says : SendPoll K → Bool) → ((rest : K) → says (Ready (Err (send_fault.Memory rest))) ≡ true)
     → ((rest : K) (ticket : ℕ) → says (Pending rest ticket) ≡ false)
-    → (reply : Result (Unit {0}) (TrySendError K)) (t u : Option ℕ) (x y : CorePoll (Result (Unit {0}) (SendFault K)) K)
+    → (reply : SendReply K) (t u : Option ℕ) (x y : SendPoll K)
     → send_answer reply t ≡ Some x → send_answer reply u ≡ Some y → says y ≡ says x → is_some u ≡ is_some t
 sends_wait_alike says ready waits reply t u x y a b memory = grind arith
 
-recvs_wait_alike : {T P : Type 0} (reply : Result (T × P) TryRecvError) (t u : Option ℕ) (x y : CorePoll (Result (T × P) RecvFault) (Unit {0}))
+recvs_wait_alike : {T P : Type 0} (reply : RecvReply (T × P)) (t u : Option ℕ) (x y : RecvPoll (T × P))
     → recv_answer reply t ≡ Some x → recv_answer reply u ≡ Some y
     → is_memory {T = T} {P = P} (answer.PollRecv y) ≡ is_memory {T = T} {P = P} (answer.PollRecv x) → is_some u ≡ is_some t
 recvs_wait_alike reply t u x y a b memory = grind arith
@@ -58,7 +48,7 @@ module _ {T P W : Type 0} (is_clone : W → W → Type 0) {cmp : P → P → Ord
       let answers : Some y ≡ Some x = sym answered ∙ (ap (answer_by a.reply) ended.0 ∙ a.answered) in
       (cc, ended.1)
 
-  pub polls_send_same : (msg : T) (priority : P) (given : Option ℕ) (waker : W) (x y : CorePoll (Result (Unit {0}) (SendFault (T × P))) (T × P))
+  pub polls_send_same : (msg : T) (priority : P) (given : Option ℕ) (waker : W) (x y : SendPoll (T × P))
       → Moves cmp is_clone s (call.PollSend msg priority given waker) (answer.PollSend x) h k
       → Moves cmp is_clone r (call.PollSend msg priority given waker) (answer.PollSend y) h' k'
       → length (accepted_by (call.PollSend msg priority given waker) (answer.PollSend y)) ≡ length (accepted_by (call.PollSend msg priority given waker) (answer.PollSend x))
@@ -69,7 +59,7 @@ module _ {T P W : Type 0} (is_clone : W → W → Type 0) {cmp : P → P → Ord
       let tries = sends_same is_clone s r a.mid b.mid h h' same ((msg, priority) ∷ []) (as_list a.reply) (as_list b.reply) a.tried b.tried (sym other ∙ (count ∙ mine)) in
       polls_same a b (as_list_one a.reply b.reply tries.0) tries.1 (λ p q. sends_wait_alike (λ z. is_memory {T = T} {P = P} (answer.PollSend z)) (λ rest. refl) (λ rest ticket. refl) a.reply a.ticket b.ticket x y p q memory)
 
-  pub polls_sendv_same : (pairs : List (T × P)) (given : Option ℕ) (waker : W) (x y : CorePoll (Result (Unit {0}) (SendFault (List (T × P)))) (List (T × P)))
+  pub polls_sendv_same : (pairs : List (T × P)) (given : Option ℕ) (waker : W) (x y : SendPoll (List (T × P)))
       → Moves cmp is_clone s (call.PollSendv pairs given waker) (answer.PollSendv x) h k
       → Moves cmp is_clone r (call.PollSendv pairs given waker) (answer.PollSendv y) h' k'
       → length (poll_sent pairs y) ≡ length (poll_sent pairs x) → is_memory {T = T} {P = P} (answer.PollSendv y) ≡ is_memory {T = T} {P = P} (answer.PollSendv x) → (y ≡ x) × Both is_clone h h' k k'
@@ -79,7 +69,7 @@ module _ {T P W : Type 0} (is_clone : W → W → Type 0) {cmp : P → P → Ord
       let tries = sends_same is_clone s r a.mid b.mid h h' same pairs a.reply b.reply a.tried b.tried (sym other ∙ (count ∙ mine)) in
       polls_same a b tries.0 tries.1 (λ p q. sends_wait_alike (λ z. is_memory {T = T} {P = P} (answer.PollSendv z)) (λ rest. refl) (λ rest ticket. refl) a.reply a.ticket b.ticket x y p q memory)
 
-  pub polls_receive_same : (given : Option ℕ) (waker : W) (x y : CorePoll (Result (T × P) RecvFault) (Unit {0}))
+  pub polls_receive_same : (given : Option ℕ) (waker : W) (x y : RecvPoll (T × P))
       → Moves cmp is_clone s (call.PollRecv given waker) (answer.PollRecv x) h k
       → Moves cmp is_clone r (call.PollRecv given waker) (answer.PollRecv y) h' k'
       → is_memory {T = T} {P = P} (answer.PollRecv y) ≡ is_memory {T = T} {P = P} (answer.PollRecv x) → (y ≡ x) × Both is_clone h h' k k'

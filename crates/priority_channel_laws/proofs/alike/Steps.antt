@@ -1,19 +1,13 @@
 -- Two steps, and two runs, over the same calls that accept as many pairs, and answer Memory in both
 -- or in neither.
-use Rattle.std.proofs.Common.{◌≡◌, ℕ, ◌+◌, ◌-◌, List, [], ◌∷◌, length, refl, ap, arith}
-use Rattle.std.specs.Prelude.{Some, ◌==◌}
+use Rattle.std.proofs.Common.{◌≡◌, ℕ, ◌+◌, ◌-◌, List, [], ◌∷◌, length, refl, ap, arith, Some, ◌==◌}
 use Rattle.std.specs.Cmp.{IsTotalOrder}
 use Rattle.std.specs.List.{AllZip}
-use Rattle.std.specs.declared.cmp.Ordering.{Ordering}
 use Rattle.priority_channel_core.specs.declared.calls.Call.TheVariants as call
 use Rattle.priority_channel_core.specs.declared.calls.Answer.TheVariants as answer
-use Rattle.priority_channel_core.specs.machine.State.{State, Handed}
-use Rattle.priority_channel_core.specs.machine.Sends.{as_list}
-use Rattle.priority_channel_core.specs.machine.OtherCalls.{capacity_told}
+use Rattle.priority_channel_core.specs.Prelude.{State, Handed, as_list, capacity_told, Moves, Calls, Answers, Operation, Run, Ordering}
 use Rattle.priority_channel_laws.specs.Accepted.{accepted_by}
 use Rattle.priority_channel_laws.specs.Alike.{is_memory, SameState, SameOutcome, IsAlike}
-use Rattle.priority_channel_core.specs.machine.Step.{Moves, Calls, Answers}
-use Rattle.priority_channel_core.specs.machine.Run.{Operation, Run}
 use Rattle.priority_channel_laws.proofs.alike.Lists.{same_unlisted, nobody_same, same_pending, same_closed, same_capacity, same_senders, same_receivers}
 use Rattle.priority_channel_laws.proofs.alike.Calls.{Both, sends_same, takes_same, changes_same, receives_same, closes_same, looks_same, clones_same, drops_same}
 use Rattle.priority_channel_laws.proofs.alike.Evicting.{evicts_same}

@@ -1,13 +1,8 @@
 -- Each act of a thread keeps the queue, and that the head is seen to.
-use Rattle.std.proofs.Common.{◌≡◌, ◌≢◌, ℕ, ◌-◌, ◌<◌, ◌⊎◌, Bool, true, false, List, [], ◌∷◌, ◌++◌, set, refl, ap, sym, ◌∙◌, inl, inr, arith, eq-eqb, append_assoc}
-use Rattle.std.specs.Prelude.{Option, Some, None, slice_get, ◌||◌, ◌==◌, IsSome, option_to_list}
+use Rattle.std.proofs.Common.{◌≡◌, ◌≢◌, ℕ, ◌-◌, ◌<◌, ◌⊎◌, Bool, true, false, List, [], ◌∷◌, ◌++◌, set, refl, ap, sym, ◌∙◌, inl, inr, arith, eq-eqb, append_assoc, Option, Some, None, slice_get, ◌||◌, ◌==◌, IsSome, option_to_list}
 use Rattle.std.specs.List.{list_any}
 use Rattle.priority_channel_core.specs.declared.side.Side.{Side}
-use Rattle.priority_channel_core.specs.Waiting.{listing, without}
-use Rattle.priority_channel_core.specs.Waiters.{on_side}
-use Rattle.priority_channel_core.specs.machine.State.{State}
-use Rattle.priority_channel_core.specs.machine.Good.{IsGood}
-use Rattle.priority_channel_core.specs.Lines.{Lined, IsFirst, Lists}
+use Rattle.priority_channel_core.specs.Prelude.{listing, without, on_side, State, IsGood, Lined, IsFirst, Lists}
 use Rattle.priority_channel_laws.specs.WaitingLaw.{waker_of}
 use Rattle.priority_channel_laws.proofs.worlds.Lookups.{waker_of-listing}
 use Rattle.priority_channel_laws.proofs.worlds.PollEnds.{enlisted_mine, tickets_given}

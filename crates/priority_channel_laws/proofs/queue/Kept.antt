@@ -1,8 +1,6 @@
 -- The queue of one side beside its threads: each in it is a thread's, each thread with a number
 -- stands in it, and each spin that is counted is some thread's.
-use Rattle.std.proofs.Common.{◌≡◌, ◌≢◌, ℕ, ◌+◌, ◌<◌, ◌≤◌, ◌⊎◌, Bool, true, false, not, List, [], ◌∷◌, ◌++◌, get_or, map, set, refl, ap, sym, ◌∙◌, inl, inr, arith, suc, eq-eqb}
-use Rattle.std.specs.Prelude.{Option, Some, None, slice_get, ◌==◌, option_to_list}
-use Rattle.std.specs.List.{All, sum_by}
+use Rattle.std.proofs.Common.{◌≡◌, ◌≢◌, ℕ, ◌+◌, ◌<◌, ◌≤◌, ◌⊎◌, Bool, true, false, not, List, [], ◌∷◌, ◌++◌, get_or, map, set, refl, ap, sym, ◌∙◌, inl, inr, arith, suc, eq-eqb, Option, Some, None, slice_get, ◌==◌, option_to_list, All, sum_by}
 use Rattle.std.proofs.Math.Seq.{map-set_same}
 use Rattle.std.proofs.lemmas.Bool.{ne_eqb}
 use Rattle.std.proofs.lemmas.List.{map-set}
@@ -11,10 +9,7 @@ use Rattle.std.proofs.lemmas.Option.{slice_get_within, get_or_from_slice_get}
 use Rattle.std.proofs.lemmas.Simd.{map-map}
 use Rattle.priority_channel_core.specs.declared.side.Side.{Side}
 use Rattle.priority_channel_core.specs.declared.side.Side.TheVariants.{Room, Message}
-use Rattle.priority_channel_core.specs.Waiting.{IsRising, without, without_given}
-use Rattle.priority_channel_core.specs.Future.{Standing, Futures, ticket_of}
-use Rattle.priority_channel_core.specs.Future.Task.{Recv}
-use Rattle.priority_channel_core.specs.Future.Standing.{Waiting, Done}
+use Rattle.priority_channel_core.specs.Prelude.{IsRising, without, without_given, Standing, Futures, ticket_of, Recv, Waiting, Done}
 use Rattle.priority_channel_core.proofs.Tickets.{follows-listing, follows-without}
 use Rattle.priority_channel_core.proofs.Waiting.{filter_kept}
 use Rattle.priority_channel_laws.specs.WaitingLaw.{waker_of}

@@ -1,18 +1,11 @@
 -- Calls of the core by anybody, and any number of events.
-use Rattle.std.proofs.Common.{◌≡◌, ◌≢◌, ℕ, ◌⊎◌, Bool, true, false, List, [], ◌∷◌, ◌++◌, refl, ap, sym, ◌∙◌, inl, inr, arith}
-use Rattle.std.specs.Prelude.{Option, Some, None, slice_get}
+use Rattle.std.proofs.Common.{◌≡◌, ◌≢◌, ℕ, ◌⊎◌, Bool, true, false, List, [], ◌∷◌, ◌++◌, refl, ap, sym, ◌∙◌, inl, inr, arith, Option, Some, None, slice_get}
 use Rattle.std.proofs.lemmas.List.Folds.{list_any-append}
-use Rattle.std.specs.declared.cmp.Ordering.{Ordering}
 use Rattle.priority_channel_core.specs.declared.side.Side.{Side}
 use Rattle.priority_channel_core.specs.declared.side.Side.TheVariants.{Room, Message}
-use Rattle.priority_channel_core.specs.Waiters.{Waiters, on_side}
+use Rattle.priority_channel_core.specs.Prelude.{Waiters, on_side, State, Handed, IsGood, Moves, Calls, Answers, Tasks, Futures, ticket_of, Send, Sendv, Recv, Ordering}
 use Rattle.priority_channel_core.specs.declared.calls.Call.TheVariants as call
 use Rattle.priority_channel_core.specs.declared.calls.Answer.TheVariants as answer
-use Rattle.priority_channel_core.specs.machine.State.{State, Handed}
-use Rattle.priority_channel_core.specs.machine.Good.{IsGood}
-use Rattle.priority_channel_core.specs.machine.Step.{Moves, Calls, Answers}
-use Rattle.priority_channel_core.specs.Future.{Tasks, Futures, ticket_of}
-use Rattle.priority_channel_core.specs.Future.Task.{Send, Sendv, Recv}
 use Rattle.priority_channel_laws.specs.WaitingLaw.{waker_of, side_of}
 use Rattle.priority_channel_laws.proofs.worlds.Hands.{Hands, handed_of}
 use Rattle.priority_channel_laws.proofs.runs.Effects.{hands}

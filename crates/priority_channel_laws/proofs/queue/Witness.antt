@@ -1,14 +1,8 @@
 -- The acts of threads occur: a thread joins, is the head, and is listed.
-use Rattle.std.proofs.Common.{rules, ◌<◌, ◌≡◌, ℕ, List, [], ◌∷◌, refl, inl, arith, false}
-use Rattle.std.specs.Prelude.{Some, None, slice_get, ◌^◌}
-use Rattle.std.specs.List.{All}
+use Rattle.std.proofs.Common.{rules, ◌<◌, ◌≡◌, ℕ, List, [], ◌∷◌, refl, inl, arith, false, Some, None, slice_get, ◌^◌, All}
 use Rattle.std.proofs.lemmas.List.Elements.{All-nil, All-cons}
-use Rattle.std.specs.declared.cmp.Ordering.{Ordering}
 use Rattle.priority_channel_core.specs.declared.side.Side.TheVariants.{Message}
-use Rattle.priority_channel_core.specs.Waiting.{IsRising}
-use Rattle.priority_channel_core.specs.Lines.{Lined}
-use Rattle.priority_channel_core.specs.machine.State.{State, opening}
-use Rattle.priority_channel_core.specs.machine.Good.{IsGood}
+use Rattle.priority_channel_core.specs.Prelude.{IsRising, Lined, State, opening, IsGood, Ordering}
 use Rattle.priority_channel_laws.specs.Threads.{Phase, Thread, ThreadWorld, IsUnused}
 use Rattle.priority_channel_laws.specs.Threads.Phase.{Outside, Sleeps}
 use Rattle.priority_channel_laws.specs.ThreadEvents.{ThreadEvent, LeadsTo}

@@ -1,31 +1,16 @@
 -- What a step does to the pending pairs and, if no future makes it, to the waiting lists.
-use Rattle.std.proofs.Common.{◌≡◌, ℕ, ◌-◌, ◌⊎◌, Bool, true, false, List, [], ◌∷◌, ◌++◌, length, map, refl, sym, ap, ◌∙◌, arith, inl, inr, zero, suc, length-append}
-use Rattle.std.specs.Prelude.{Result, Ok, Err, Option, None, Some}
+use Rattle.std.proofs.Common.{◌≡◌, ℕ, ◌-◌, ◌⊎◌, Bool, true, false, List, [], ◌∷◌, ◌++◌, length, map, refl, sym, ap, ◌∙◌, arith, inl, inr, zero, suc, length-append, Result, Ok, Err, Option, None, Some, append-nil, All, IsPermutation, is_gt}
 use Rattle.std.proofs.Math.Seq.{take-append_seam}
-use Rattle.std.proofs.lemmas.List.{append-nil}
-use Rattle.std.specs.List.{All}
-use Rattle.std.specs.List.Sorted.{IsPermutation}
 use Rattle.std.proofs.lemmas.List.Sorted.{IsPermutation-refl, IsPermutation-sym, IsPermutation-trans, IsPermutation-cons, IsPermutation-middle, IsPermutation-append_left, IsPermutation-append_comm}
 use Rattle.std.proofs.lemmas.List.Elements.{All-append, All-weaker}
-use Rattle.std.specs.Ordering.{is_gt}
-use Rattle.std.specs.declared.cmp.Ordering.{Ordering}
 use Rattle.std.specs.declared.cmp.Ordering.TheVariants.{Less}
 use Rattle.priority_channel_core.specs.declared.calls.Call.TheVariants as call
 use Rattle.priority_channel_core.specs.declared.calls.Answer.TheVariants as answer
-use Rattle.priority_channel_core.specs.declared.calls.CorePoll.{CorePoll}
 use Rattle.priority_channel_core.specs.declared.errors.TrySendError.{TrySendError}
-use Rattle.priority_channel_core.specs.declared.errors.TrySendError.TheVariants as send_error
-use Rattle.priority_channel_core.specs.declared.errors.TryRecvError.{TryRecvError}
-use Rattle.priority_channel_core.specs.declared.errors.TryRecvError.TheVariants as recv_error
-use Rattle.priority_channel_core.specs.declared.errors.SendFault.{SendFault}
-use Rattle.priority_channel_core.specs.declared.errors.RecvFault.{RecvFault}
-use Rattle.priority_channel_core.specs.machine.State.{State, Handed, nobody}
-use Rattle.priority_channel_core.specs.machine.Sends.{as_list, Refuses, Accepts, Sends}
-use Rattle.priority_channel_core.specs.machine.Evicts.{MakesRoom, Evicts}
-use Rattle.priority_channel_core.specs.machine.OtherCalls.{Receives, Takes, ChangesPriority, Shuts, Clones, Drops}
-use Rattle.priority_channel_core.specs.machine.Polls.{send_answer, recv_answer, Polls}
 use Rattle.priority_channel_core.specs.declared.side.Side.{Side}
-use Rattle.priority_channel_core.specs.machine.Step.{Moves, Calls, Answers}
+use Rattle.priority_channel_core.specs.Prelude.{State, Handed, nobody, as_list, Refuses, Accepts, Sends, MakesRoom, Evicts, Receives, Takes, ChangesPriority, Shuts, Clones, Drops, send_answer, recv_answer, Polls, Moves, Calls, Answers, Ordering, SendReply, RecvReply, SendPoll, RecvPoll}
+use Rattle.priority_channel_core.specs.declared.errors.TrySendError.TheVariants as send_error
+use Rattle.priority_channel_core.specs.declared.errors.TryRecvError.TheVariants as recv_error
 use Rattle.priority_channel_core.proofs.Polls.{send_answers}
 use Rattle.priority_channel_laws.specs.World.{IsDirect}
 use Rattle.priority_channel_laws.proofs.worlds.Hands.{Hands, hands_nobody, hands_refuses, hands_accepts, hands_frees, hands_shuts, hands_same}
@@ -37,18 +22,18 @@ all_but-front front rest =
     rw e (take-append_seam front rest)
 
 -- a poll accepts the pairs that its try accepts
-pub poll_sent-is : {A : Type 0} (pairs : List A) (reply : Result (Unit {0}) (TrySendError (List A))) (listed : Option ℕ)
-    (poll : CorePoll (Result (Unit {0}) (SendFault (List A))) (List A)) → send_answer reply listed ≡ Some poll → poll_sent pairs poll ≡ sent pairs reply
+pub poll_sent-is : {A : Type 0} (pairs : List A) (reply : SendReply (List A)) (listed : Option ℕ)
+    (poll : SendPoll (List A)) → send_answer reply listed ≡ Some poll → poll_sent pairs poll ≡ sent pairs reply
 poll_sent-is pairs = send_answers (λ reply listed poll. poll_sent pairs poll ≡ sent pairs reply) (λ done. refl) (λ rest. refl) (λ rest. refl) (λ rest. refl) (λ rest ticket. refl)
 
-pub accepted_one-is : {T P W : Type 0} (msg : T) (priority : P) (given : Option ℕ) (waker : W) (reply : Result (Unit {0}) (TrySendError (T × P))) (listed : Option ℕ)
-    (poll : CorePoll (Result (Unit {0}) (SendFault (T × P))) (T × P)) → send_answer reply listed ≡ Some poll
+pub accepted_one-is : {T P W : Type 0} (msg : T) (priority : P) (given : Option ℕ) (waker : W) (reply : SendReply (T × P)) (listed : Option ℕ)
+    (poll : SendPoll (T × P)) → send_answer reply listed ≡ Some poll
     → accepted_by (call.PollSend msg priority given waker) (answer.PollSend poll) ≡ sent ((msg, priority) ∷ []) (as_list reply)
 accepted_one-is msg priority given waker =
     send_answers (λ reply listed poll. accepted_by (call.PollSend msg priority given waker) (answer.PollSend poll) ≡ sent ((msg, priority) ∷ []) (as_list reply))
     (λ done. refl) (λ rest. refl) (λ rest. refl) (λ rest. refl) (λ rest ticket. refl)
 
-poll_received-is : {T P : Type 0} (reply : Result (T × P) TryRecvError) (listed : Option ℕ) (poll : CorePoll (Result (T × P) RecvFault) (Unit {0}))
+poll_received-is : {T P : Type 0} (reply : RecvReply (T × P)) (listed : Option ℕ) (poll : RecvPoll (T × P))
     → recv_answer reply listed ≡ Some poll → received_by {T = T} {P = P} (answer.PollRecv poll) ≡ received_by (answer.TryRecv reply)
 poll_received-is reply listed poll h = grind arith
 
@@ -95,13 +80,13 @@ module _ {T P W : Type 0} (cmp : P → P → Ordering) where
       unchanged (rw (ap (λ (r : State T P W). r.pending) h.1.new_is) (IsPermutation-refl _)) (λ k. let e = h.0 in absurd (cc)) (inl refl),
     )
 
-    pub sends : (pairs : List (T × P)) (reply : Result (Unit {0}) (TrySendError (List (T × P)))) → Sends old pairs reply handed new → Does (sent pairs reply) [] [] [] []
+    pub sends : (pairs : List (T × P)) (reply : SendReply (List (T × P))) → Sends old pairs reply handed new → Does (sent pairs reply) [] [] [] []
     sends pairs (Ok done) h = accepts pairs h.2
     sends pairs (Err (send_error.Closed rest)) h = refuses h.2
     sends pairs (Err (send_error.Full rest)) h = rw (h.1, all_but-front h.0 rest) (accepts h.0 h.4)
     sends pairs (Err (send_error.Memory rest)) h = rw (h.1, all_but-front h.0 rest) (accepts h.0 h.4)
 
-    pub receives : (reply : Result (T × P) TryRecvError) → Receives cmp old reply handed new → Does [] (received_by (answer.TryRecv reply)) [] [] []
+    pub receives : (reply : RecvReply (T × P)) → Receives cmp old reply handed new → Does [] (received_by (answer.TryRecv reply)) [] [] []
     receives (Ok pair) h =
         let taken = h.0 in (
           hands_frees old new handed h.1,

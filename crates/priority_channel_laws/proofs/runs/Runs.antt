@@ -1,23 +1,15 @@
 -- What a run does to the pending pairs.
-use Rattle.std.proofs.Common.{◌≡◌, ℕ, ◌+◌, true, false, List, [], ◌∷◌, ◌++◌, length, map, refl, ap, subst, ◌∙◌, arith, append_assoc, inl, inr, zero, suc, replicate, length-append, add-one}
-use Rattle.std.specs.Prelude.{Result, Ok, Err}
+use Rattle.std.proofs.Common.{◌≡◌, ℕ, ◌+◌, true, false, List, [], ◌∷◌, ◌++◌, length, map, refl, ap, subst, ◌∙◌, arith, append_assoc, inl, inr, zero, suc, replicate, length-append, add-one, Ok, Err, IsPermutation, is_gt}
 use Rattle.std.proofs.lemmas.List.{append-nil, map-append}
 use Rattle.std.specs.List.{All, AllByRecursion}
-use Rattle.std.specs.List.Sorted.{IsPermutation}
 use Rattle.std.proofs.lemmas.List.Sorted.{IsPermutation-refl, IsPermutation-trans, IsPermutation-append_left, IsPermutation-append_right, IsPermutation-append_comm, IsPermutation-cons, IsPermutation-middle, length_permutation, All-permutation}
 use Rattle.std.proofs.lemmas.List.Elements.{All-from_recursion, recursion_from_All}
 use Rattle.std.proofs.lemmas.List.Kept.{AllPairs-cons}
 use Rattle.std.proofs.Permutation.{every_append}
-use Rattle.std.specs.Ordering.{is_gt}
-use Rattle.std.specs.declared.cmp.Ordering.{Ordering}
 use Rattle.priority_channel_core.specs.declared.calls.Call.TheVariants as call
 use Rattle.priority_channel_core.specs.declared.calls.Answer.TheVariants as answer
-use Rattle.priority_channel_core.specs.declared.errors.TryRecvError.{TryRecvError}
+use Rattle.priority_channel_core.specs.Prelude.{State, Handed, Receives, Moves, Step, Answers, Operation, Run, Ordering, RecvReply}
 use Rattle.priority_channel_core.specs.declared.errors.TryRecvError.TheVariants as recv_error
-use Rattle.priority_channel_core.specs.machine.State.{State, Handed}
-use Rattle.priority_channel_core.specs.machine.OtherCalls.{Receives}
-use Rattle.priority_channel_core.specs.machine.Step.{Moves, Step, Answers}
-use Rattle.priority_channel_core.specs.machine.Run.{Operation, Run}
 use Rattle.priority_channel_bag.proofs.Kept.{every_part}
 use Rattle.priority_channel_laws.specs.Accepted.{accepted_by, received_by, displaced_by, taken_by, changed_by, accepted_in, received_in, displaced_in, taken_in, changed_in, Change, priorities, before, after, Conserves, NeverRise}
 use Rattle.priority_channel_laws.proofs.runs.Effects.{Effect, effect}
@@ -136,7 +128,7 @@ module _ {T P W : Type 0} (cmp : P → P → Ordering) (is_clone : W → W → T
       run_never_rises second.0 first.0 between second.2 none kept
 
   answered : (old new : State T P W) (handed : Handed W) (reply : Answers T P) → Moves cmp is_clone old call.TryRecv reply handed new
-      → (told : Result (T × P) TryRecvError) × (reply ≡ answer.TryRecv told) × Receives cmp old told handed new
+      → (told : RecvReply (T × P)) × (reply ≡ answer.TryRecv told) × Receives cmp old told handed new
   answered old new handed (answer.TryRecv told) h = (told, refl, h)
   answered old new handed reply h = absurd h
 
@@ -148,11 +140,11 @@ module _ {T P W : Type 0} (cmp : P → P → Ordering) (is_clone : W → W → T
     answers : map (λ (made : Operation T P W). made.answer) run ≡ map (λ (pair : T × P). answer.TryRecv (Ok pair)) pairs ++ answer.TryRecv (Err recv_error.Closed) ∷ []
 
   step_received : (old new : State T P W) (made : Operation T P W) → Step cmp is_clone old made.call made.answer made.handed new → made.call ≡ call.TryRecv
-      → (told : Result (T × P) TryRecvError) × (made.answer ≡ answer.TryRecv told) × Receives cmp old told made.handed new
+      → (told : RecvReply (T × P)) × (made.answer ≡ answer.TryRecv told) × Receives cmp old told made.handed new
   step_received old new made step is = answered old new made.handed made.answer (rw is at step.moves)
 
   none_left : (old mid : State T P W) (made : Operation T P W) (more : List (Operation T P W)) → old.is_closed ≡ true → length old.pending ≡ 0
-      → (told : Result (T × P) TryRecvError) → made.answer ≡ answer.TryRecv told → Receives cmp old told made.handed mid → more ≡ [] → Drained old.pending (made ∷ more)
+      → (told : RecvReply (T × P)) → made.answer ≡ answer.TryRecv told → Receives cmp old told made.handed mid → more ≡ [] → Drained old.pending (made ∷ more)
   none_left old mid made more closed long (Err recv_error.Closed) is h end =
       record { pairs = []; all = rw h.0 (IsPermutation-refl []); given = rw (is, end) refl; answers = rw (is, end) refl }
   none_left old mid made more closed long (Err recv_error.Empty) is h end = let e = h.1 in absurd (cc)
@@ -171,7 +163,7 @@ module _ {T P W : Type 0} (cmp : P → P → Ordering) (is_clone : W → W → T
       one_more n old run.0 made more closed long t.0 t.1 t.2 (λ c l. drains n run.0 new more run.2 c l (cc))
     where
       one_more : (n : ℕ) (old mid : State T P W) (made : Operation T P W) (more : List (Operation T P W)) → old.is_closed ≡ true → length old.pending ≡ suc n
-          → (told : Result (T × P) TryRecvError) → made.answer ≡ answer.TryRecv told → Receives cmp old told made.handed mid
+          → (told : RecvReply (T × P)) → made.answer ≡ answer.TryRecv told → Receives cmp old told made.handed mid
           → (mid.is_closed ≡ true → length mid.pending ≡ n → Drained mid.pending more) → Drained old.pending (made ∷ more)
       one_more n old mid made more closed long (Err recv_error.Closed) is h next = let e = ap length h.0 in absurd (omega arith)
       one_more n old mid made more closed long (Err recv_error.Empty) is h next = let e = h.1 in absurd (cc)

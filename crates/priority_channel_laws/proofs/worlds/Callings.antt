@@ -1,9 +1,7 @@
 -- The standings of futures after some tickets were woken.
 use Rattle.std.proofs.Common.{◌≡◌, ℕ, ◌⊎◌, true, false, refl, arith}
-use Rattle.priority_channel_core.specs.machine.State.{Handed}
-use Rattle.priority_channel_core.specs.Future.{Standing, ticket_of}
+use Rattle.priority_channel_core.specs.Prelude.{Handed, Standing, ticket_of, Waiting, Called}
 use Rattle.priority_channel_laws.specs.World.{is_handed, standing_after}
-use Rattle.priority_channel_core.specs.Future.Standing.{Waiting, Called}
 
 pub called-ticket : {W : Type 0} (handed : Handed W) (s : Standing W) → ticket_of (standing_after handed s) ≡ ticket_of s
 called-ticket handed s = grind arith

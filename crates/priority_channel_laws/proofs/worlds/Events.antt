@@ -1,22 +1,14 @@
 -- What holds of a world holds after each event.
-use Rattle.std.proofs.Common.{◌≡◌, ◌≢◌, ℕ, ◌<◌, ◌≤◌, ◌⊎◌, List, [], ◌∷◌, length, set, refl, ap, sym, ◌∙◌, inl, inr, arith}
-use Rattle.std.specs.Prelude.{Option, Some, None, Err, slice_get}
-use Rattle.std.specs.declared.cmp.Ordering.{Ordering}
-use Rattle.priority_channel_core.specs.machine.State.{State, Handed, nobody}
-use Rattle.priority_channel_core.specs.Waiting.{without_given}
+use Rattle.std.proofs.Common.{◌≡◌, ◌≢◌, ℕ, ◌<◌, ◌≤◌, ◌⊎◌, List, [], ◌∷◌, length, set, refl, ap, sym, ◌∙◌, inl, inr, arith, Option, Some, None, Err, slice_get}
+use Rattle.priority_channel_core.specs.declared.errors.TrySendError.TheVariants.{Full}
+use Rattle.priority_channel_core.specs.declared.side.Side.{Side}
+use Rattle.priority_channel_core.specs.declared.side.Side.TheVariants.{Room, Message}
+use Rattle.priority_channel_core.specs.Prelude.{State, Handed, nobody, without_given, IsGood, Step, Answers, Tasks, Standing, Futures, ticket_of, poll_of, future_after, GivesUpTicket, New, Waiting, Called, Done, Waiters, on_side, unlist, Ordering}
 use Rattle.priority_channel_laws.specs.WaitingLaw.{waker_of, side_of, CanGoOn, NobodyIsForgotten, GivenOnce, CalledBy}
-use Rattle.priority_channel_core.specs.machine.Good.{IsGood}
-use Rattle.priority_channel_core.specs.machine.Step.{Step, Answers}
-use Rattle.priority_channel_core.specs.Future.{Tasks, Standing, Futures, ticket_of, poll_of, future_after, GivesUpTicket}
 use Rattle.priority_channel_laws.specs.World.{World, Event, standing_after, call_out, PollsFuture, Happens, Leads, IsOpening}
-use Rattle.priority_channel_core.specs.Future.Standing.{New, Waiting, Called, Done}
 use Rattle.priority_channel_core.specs.declared.calls.Call.TheVariants.{TrySendv}
 use Rattle.priority_channel_core.specs.declared.calls.Answer.TheVariants as answer
-use Rattle.priority_channel_core.specs.declared.errors.TrySendError.TheVariants.{Full}
 use Rattle.priority_channel_laws.specs.World.Event.{Makes, Polls, SendsPart, GivesUp}
-use Rattle.priority_channel_core.specs.declared.side.Side.{Side}
-use Rattle.priority_channel_core.specs.Waiters.{Waiters, on_side, unlist}
-use Rattle.priority_channel_core.specs.declared.side.Side.TheVariants.{Room, Message}
 use Rattle.priority_channel_laws.proofs.worlds.Positions.{all_at, at_mapped, changed_at}
 use Rattle.priority_channel_laws.proofs.worlds.Hands.{Hands}
 use Rattle.priority_channel_laws.proofs.runs.Effects.{hands}

@@ -1,10 +1,8 @@
 -- Each waiting list stays as it was, or all of its waiters are woken.
 use Rattle.std.proofs.Common.{◌≡◌, ℕ, ◌⊎◌, List, [], refl, ap, ◌∙◌, inl, inr, arith}
-use Rattle.priority_channel_core.specs.machine.State.{State, Handed, nobody}
-use Rattle.priority_channel_core.specs.machine.Sends.{Refuses, Accepts}
-use Rattle.priority_channel_core.specs.machine.OtherCalls.{Frees, Shuts}
 use Rattle.priority_channel_core.specs.declared.side.Side.{Side}
 use Rattle.priority_channel_core.specs.declared.side.Side.TheVariants.{Room, Message}
+use Rattle.priority_channel_core.specs.Prelude.{State, Handed, nobody, Refuses, Accepts, Frees, Shuts}
 
 abbrev pub handed_of : {W : Type 0} → Side → Handed W → List (ℕ × W)
 handed_of Room handed = handed.room

@@ -1,9 +1,7 @@
 -- The waker under a ticket, after a list has changed.
-use Rattle.std.proofs.Common.{◌≡◌, ℕ, ◌<◌, ◌≢◌, true, false, ◌∙◌, List, [], ◌∷◌, ◌++◌, refl, ap, arith, inl, inr, ◌+◌, ◌⊎◌}
-use Rattle.std.specs.Prelude.{◌==◌, if◌then◌else◌, Option, Some, None}
-use Rattle.std.specs.List.{All}
+use Rattle.std.proofs.Common.{◌≡◌, ℕ, ◌<◌, ◌≢◌, true, false, ◌∙◌, List, [], ◌∷◌, ◌++◌, refl, ap, arith, inl, inr, ◌+◌, ◌⊎◌, ◌==◌, if◌then◌else◌, Option, Some, None, All}
 use Rattle.std.proofs.lemmas.Bool.{cases_lt, ne_eqb}
-use Rattle.priority_channel_core.specs.Waiting.{is_listed, without, with_waker, listing}
+use Rattle.priority_channel_core.specs.Prelude.{is_listed, without, with_waker, listing}
 use Rattle.priority_channel_laws.specs.WaitingLaw.{waker_of}
 use Rattle.priority_channel_core.proofs.Tickets.{unlisted_above}
 

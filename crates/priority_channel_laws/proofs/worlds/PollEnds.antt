@@ -1,28 +1,12 @@
 -- Each poll wakes some waiters, and then ends its future or leaves it waiting.
-use Rattle.std.proofs.Common.{◌≡◌, ◌≢◌, ℕ, ◌<◌, ◌⊎◌, List, [], ◌∷◌, refl, ap, ◌∙◌, inl, inr}
-use Rattle.std.specs.Prelude.{Option, None, Some, Result}
-use Rattle.std.specs.List.{All}
+use Rattle.std.proofs.Common.{◌≡◌, ◌≢◌, ℕ, ◌<◌, ◌⊎◌, List, [], ◌∷◌, refl, ap, ◌∙◌, inl, inr, Option, None, Some, All}
 use Rattle.std.proofs.lemmas.List.Elements.{All-nil}
-use Rattle.std.specs.declared.cmp.Ordering.{Ordering}
 use Rattle.priority_channel_core.specs.declared.calls.Answer.TheVariants as answer
-use Rattle.priority_channel_core.specs.declared.calls.CorePoll.{CorePoll}
 use Rattle.priority_channel_core.specs.declared.calls.CorePoll.TheVariants.{Ready, Pending}
-use Rattle.priority_channel_core.specs.declared.errors.SendFault.{SendFault}
-use Rattle.priority_channel_core.specs.declared.errors.RecvFault.{RecvFault}
 use Rattle.priority_channel_core.specs.declared.side.Side.{Side}
 use Rattle.priority_channel_core.specs.declared.side.Side.TheVariants.{Room, Message}
-use Rattle.priority_channel_core.specs.Waiting.{Listing, listing, without_given}
-use Rattle.priority_channel_core.specs.Waiters.{Waiters, on_side, unlist, enlist}
-use Rattle.priority_channel_core.specs.machine.State.{State, Handed}
-use Rattle.priority_channel_core.specs.machine.Good.{IsGood}
-use Rattle.priority_channel_core.specs.machine.Sends.{as_list}
-use Rattle.priority_channel_core.specs.machine.Polls.{Ends}
-use Rattle.priority_channel_core.specs.machine.Step.{Moves, Answers}
-use Rattle.priority_channel_core.specs.code.Replies.{waits_under}
+use Rattle.priority_channel_core.specs.Prelude.{Listing, listing, without_given, Waiters, on_side, unlist, enlist, State, Handed, IsGood, as_list, Ends, Moves, Answers, waits_under, Tasks, Futures, poll_of, future_after, Send, Sendv, Recv, Waiting, Done, Ordering, SendPoll, RecvPoll}
 use Rattle.priority_channel_core.proofs.Polls.{send_waits_under, recv_waits_under}
-use Rattle.priority_channel_core.specs.Future.{Tasks, Futures, poll_of, future_after}
-use Rattle.priority_channel_core.specs.Future.Task.{Send, Sendv, Recv}
-use Rattle.priority_channel_core.specs.Future.Standing.{Waiting, Done}
 use Rattle.priority_channel_laws.specs.WaitingLaw.{side_of}
 use Rattle.priority_channel_laws.proofs.runs.Effects.{sends, receives}
 use Rattle.priority_channel_laws.proofs.worlds.Hands.{handed_of, StaysOrLeaves, Hands}
@@ -104,17 +88,17 @@ module _ {T P W : Type 0} where
         stands = stands.1 ∙ ap (λ (t : ℕ). Waiting t waker) e.0.2.0;
       })
 
-  stands_send : (msg : T) (priority : P) (waker : W) (poll : CorePoll (Result (Unit {0}) (SendFault (T × P))) (T × P))
+  stands_send : (msg : T) (priority : P) (waker : W) (poll : SendPoll (T × P))
       → Stands Room waker (waits_under poll) (future_after (Send msg priority) waker (answer.PollSend poll))
   stands_send msg priority waker (Ready reply) = refl
   stands_send msg priority waker (Pending rest ticket) = (refl, refl)
 
-  stands_sendv : (pairs : List (T × P)) (waker : W) (poll : CorePoll (Result (Unit {0}) (SendFault (List (T × P)))) (List (T × P)))
+  stands_sendv : (pairs : List (T × P)) (waker : W) (poll : SendPoll (List (T × P)))
       → Stands Room waker (waits_under poll) (future_after (Sendv pairs) waker (answer.PollSendv poll))
   stands_sendv pairs waker (Ready reply) = refl
   stands_sendv pairs waker (Pending rest ticket) = (refl, refl)
 
-  stands_recv : (waker : W) (poll : CorePoll (Result (T × P) RecvFault) (Unit {0}))
+  stands_recv : (waker : W) (poll : RecvPoll (T × P))
       → Stands Message waker (waits_under poll) (future_after Recv waker (answer.PollRecv poll))
   stands_recv waker (Ready reply) = refl
   stands_recv waker (Pending kept ticket) = (refl, refl)

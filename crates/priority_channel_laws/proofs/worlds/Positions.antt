@@ -1,7 +1,5 @@
 -- The element at a position of a list that was mapped, or changed at one position.
-use Rattle.std.proofs.Common.{◌≡◌, ◌≢◌, ℕ, ◌⊎◌, List, [], ◌∷◌, map, set, refl, ap, ◌∙◌, inl, inr, arith, zero, suc}
-use Rattle.std.specs.Prelude.{Option, Some, slice_get, option_map}
-use Rattle.std.specs.List.{All}
+use Rattle.std.proofs.Common.{◌≡◌, ◌≢◌, ℕ, ◌⊎◌, List, [], ◌∷◌, map, set, refl, ap, ◌∙◌, inl, inr, arith, zero, suc, Option, Some, slice_get, option_map, All}
 use Rattle.std.proofs.lemmas.Option.{slice_get-map, slice_get_within, get_or_from_slice_get}
 
 module _ {A : Type 0} where

@@ -1,13 +1,9 @@
 -- A future ends, waits, or has another task of its side: the changes that this makes in a world.
-use Rattle.std.proofs.Common.{eq-eqb, ◌≡◌, ◌≢◌, ℕ, ◌<◌, ◌⊎◌, true, List, [], refl, ap, sym, ◌∙◌, inl, inr, arith}
-use Rattle.std.specs.Prelude.{Option, Some, None, slice_get, ◌==◌}
-use Rattle.std.specs.List.{All}
+use Rattle.std.proofs.Common.{eq-eqb, ◌≡◌, ◌≢◌, ℕ, ◌<◌, ◌⊎◌, true, List, [], refl, ap, sym, ◌∙◌, inl, inr, arith, Option, Some, None, slice_get, ◌==◌, All}
 use Rattle.std.proofs.lemmas.Bool.Decides.{eqb_tells}
-use Rattle.priority_channel_core.specs.Waiting.{without_given, listing}
-use Rattle.priority_channel_laws.specs.WaitingLaw.{waker_of, side_of}
-use Rattle.priority_channel_core.specs.Future.{Futures, ticket_of}
-use Rattle.priority_channel_core.specs.Future.Standing.{Waiting, Done}
 use Rattle.priority_channel_core.specs.declared.side.Side.{Side}
+use Rattle.priority_channel_core.specs.Prelude.{without_given, listing, Futures, ticket_of, Waiting, Done}
+use Rattle.priority_channel_laws.specs.WaitingLaw.{waker_of, side_of}
 use Rattle.priority_channel_laws.proofs.worlds.Positions.{Some-same}
 use Rattle.priority_channel_laws.proofs.worlds.Lookups.{put, waker_of-without, waker_of-listing, waker_of-listed, waker_of-relisted, ticket_listed}
 use Rattle.priority_channel_laws.proofs.worlds.Worlds.{Keeps, Changes}

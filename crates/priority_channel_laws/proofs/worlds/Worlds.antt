@@ -1,16 +1,12 @@
 -- What each event preserves of the futures and the two waiting lists.
-use Rattle.std.proofs.Common.{◌≡◌, ◌≢◌, ℕ, ◌<◌, ◌≤◌, ◌⊎◌, true, false, List, [], ◌∷◌, set, refl, ap, sym, ◌∙◌, inl, inr, arith}
-use Rattle.std.specs.Prelude.{Some, None, slice_get}
+use Rattle.std.proofs.Common.{◌≡◌, ◌≢◌, ℕ, ◌<◌, ◌≤◌, ◌⊎◌, true, false, List, [], ◌∷◌, set, refl, ap, sym, ◌∙◌, inl, inr, arith, Some, None, slice_get}
 use Rattle.std.proofs.Math.Bool.{or-false}
 use Rattle.std.proofs.lemmas.Bool.Decides.{eqb_tells}
-use Rattle.priority_channel_core.specs.machine.State.{Handed}
-use Rattle.priority_channel_core.specs.Waiting.{is_listed}
-use Rattle.priority_channel_laws.specs.WaitingLaw.{waker_of, side_of, HasWaiting}
-use Rattle.priority_channel_core.specs.Future.{Futures, ticket_of}
-use Rattle.priority_channel_laws.specs.World.{is_handed, standing_after, call_out}
-use Rattle.priority_channel_core.specs.Future.Standing.{Waiting, Called}
 use Rattle.priority_channel_core.specs.declared.side.Side.{Side}
 use Rattle.priority_channel_core.specs.declared.side.Side.TheVariants.{Room, Message}
+use Rattle.priority_channel_core.specs.Prelude.{Handed, is_listed, Futures, ticket_of, Waiting, Called}
+use Rattle.priority_channel_laws.specs.WaitingLaw.{waker_of, side_of, HasWaiting}
+use Rattle.priority_channel_laws.specs.World.{is_handed, standing_after, call_out}
 use Rattle.priority_channel_laws.proofs.worlds.Positions.{Some-same, mapped_at, at_mapped, changed_at, at_changed, at_unchanged}
 use Rattle.priority_channel_laws.proofs.worlds.Lookups.{waker_of-listed}
 use Rattle.priority_channel_laws.proofs.worlds.Hands.{handed_of, StaysOrLeaves}

@@ -1,5 +1,4 @@
-use Rattle.priority_channel_core.specs.code.Lists.{HasList}
-use Rattle.priority_channel_core.specs.Errors.{unsent}
+use Rattle.priority_channel_core.specs.Prelude.{HasList, unsent}
 use Rattle.priority_channel_waiting.specs.Holding.{HoldsTail}
 use Rattle.priority_channel_waiting.proofs.LeftOver.{held_by_error}
 use Rattle.async_priority_channel.proofs.blocking.Sender+T+P+R+A.sendv_blocking.Goals as goal

@@ -1,4 +1,4 @@
-use Rattle.priority_channel_core.specs.code.Lists.{HasList}
+use Rattle.priority_channel_core.specs.Prelude.{HasList}
 use Rattle.priority_channel_waiting.proofs.Holdings.{refused_tail}
 use Rattle.async_priority_channel.proofs.sender.Sender+T+P+R+A.try_sendv.Goals as goal
 

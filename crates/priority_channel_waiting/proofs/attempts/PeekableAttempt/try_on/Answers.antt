@@ -1,4 +1,4 @@
-use Rattle.priority_channel_core.specs.code.Lists.{HasList}
+use Rattle.priority_channel_core.specs.Prelude.{HasList}
 use Rattle.priority_channel_waiting.specs.Holding.{HoldsTail}
 use Rattle.priority_channel_waiting.proofs.LeftOver.{left_of_try}
 use Rattle.priority_channel_waiting.proofs.Holdings.{refused_tail}

@@ -2,7 +2,7 @@ use Rattle.std.proofs.Common.{rules, refl, Ok, Err, arith}
 use Rattle.priority_channel_core.specs.declared.errors.TryRecvError.TheVariants as recv_error
 use Rattle.priority_channel_core.specs.declared.calls.Call.TheVariants as call
 use Rattle.priority_channel_core.specs.declared.calls.Answer.TheVariants as answer
-use Rattle.priority_channel_core.specs.machine.Step.{Step}
+use Rattle.priority_channel_core.specs.Prelude.{Step}
 use Rattle.priority_channel_core.proofs.Polls.{received_searches_less}
 use Rattle.priority_channel_waiting.proofs.Tries.{received_at_once}
 use Rattle.priority_channel_waiting.proofs.states.RecvState.try_on.Goals as goal

@@ -1,4 +1,4 @@
-use Rattle.priority_channel_core.specs.machine.Step.{Step}
+use Rattle.priority_channel_core.specs.Prelude.{Step}
 use Rattle.priority_channel_core.specs.declared.calls.Answer.TheVariants as answer
 use Rattle.priority_channel_waiting.specs.Holding.{send_of}
 use Rattle.priority_channel_waiting.proofs.Holdings.{polls_kept, send_left}

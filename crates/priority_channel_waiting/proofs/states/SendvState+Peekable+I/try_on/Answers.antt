@@ -1,4 +1,4 @@
-use Rattle.priority_channel_core.specs.code.Lists.{HasList}
+use Rattle.priority_channel_core.specs.Prelude.{HasList}
 use Rattle.priority_channel_waiting.specs.Holding.{HoldsTail}
 use Rattle.priority_channel_waiting.proofs.Holdings.{refused_tail}
 use Rattle.priority_channel_waiting.proofs.Tries.{sentv_at_once, tried_in_vain, handed_back_at_once, kept_at_once, tries_front, tried_good}

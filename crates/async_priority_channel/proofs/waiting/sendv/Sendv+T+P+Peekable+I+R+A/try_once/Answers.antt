@@ -1,5 +1,5 @@
 use Rattle.std.specs.Iterator.Adapters.{peekable_can}
-use Rattle.priority_channel_core.specs.code.Lists.{HasList}
+use Rattle.priority_channel_core.specs.Prelude.{HasList}
 use Rattle.async_priority_channel.proofs.HandedBack.{hands_back_still}
 use Rattle.async_priority_channel.proofs.waiting.sendv.Sendv+T+P+Peekable+I+R+A.try_once.Goals as goal
 

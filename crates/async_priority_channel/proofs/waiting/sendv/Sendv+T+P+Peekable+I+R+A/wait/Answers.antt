@@ -1,6 +1,6 @@
 use Rattle.std.proofs.Common.{sym, ◌∙◌}
 use Rattle.std.specs.Iterator.Adapters.{peekable_can}
-use Rattle.priority_channel_core.specs.code.Lists.{HasList}
+use Rattle.priority_channel_core.specs.Prelude.{HasList}
 use Rattle.async_priority_channel.proofs.HandedBack.{hands_back_all, hands_back_still}
 use Rattle.async_priority_channel.proofs.waiting.sendv.Sendv+T+P+Peekable+I+R+A.wait.Goals as goal
 
