@@ -2,15 +2,11 @@
 use Rattle.std.proofs.Common.{◌≡◌, ℕ, true, false, List, [], ◌∷◌, ◌++◌, length, length-append, refl, sym, ap, ◌∙◌, subst, arith, inl, inr, Some, None, Ok, Err}
 use Rattle.std.specs.List.{AllZip}
 use Rattle.std.specs.Cmp.{IsTotalOrder}
-use Rattle.std.specs.declared.cmp.Ordering.{Ordering}
 use Rattle.priority_channel_core.specs.declared.calls.Answer.TheVariants as answer
 use Rattle.priority_channel_core.specs.declared.errors.TrySendError.TheVariants as send_error
 use Rattle.priority_channel_core.specs.declared.errors.TryRecvError.TheVariants as recv_error
 use Rattle.priority_channel_bag.proofs.Extremes.{one_greatest, one_least}
-use Rattle.priority_channel_core.specs.machine.State.{Handed, opening}
-use Rattle.priority_channel_core.specs.machine.Sends.{AddsFront, Sends}
-use Rattle.priority_channel_core.specs.machine.Step.{Moves, Step, Answers}
-use Rattle.priority_channel_core.specs.machine.Run.{Operation, Run}
+use Rattle.priority_channel_core.specs.Prelude.{Handed, opening, AddsFront, Sends, Moves, Step, Answers, Operation, Run, Ordering}
 use Rattle.priority_channel_recorded.specs.declared.book.Call.{Call}
 use Rattle.priority_channel_recorded.specs.declared.book.Call.TheVariants.{TrySend, TrySendEvicting, TryRecv, Close, IsClosed, IsEmpty, IsFull, Len}
 use Rattle.priority_channel_recorded.specs.declared.book.Reply.{Reply}
@@ -101,14 +97,11 @@ module _ {T P : Type 0} {cmp : P → P → Ordering} (o : IsTotalOrder cmp) wher
       → AllZip Records history run → AllZip Records history again
       → Run cmp (λ waker kept. kept ≡ waker) old run new → Run cmp (λ waker kept. kept ≡ waker) old again other → new ≡ other
   same_end [] [] [] old new other one two r s = r ∙ sym s
-  same_end [] (made ∷ run) again old new other one two r s = absurd one
-  same_end [] [] (made ∷ again) old new other one two r s = absurd two
-  same_end (entry ∷ history) [] again old new other one two r s = absurd one
-  same_end (entry ∷ history) (made ∷ run) [] old new other one two r s = absurd two
   same_end (entry ∷ history) (made ∷ run) (next ∷ again) old new other one two r s =
       let mid : s.0 ≡ r.0 = sym (same_step entry made next old r.0 s.0 one.0 two.0 r.1 s.1) in
       same_end history run again r.0 new other one.1 two.1 r.2
       (subst (λ (state : Machine T P). Run cmp (λ waker kept. kept ≡ waker) state again other) mid s.2)
+  same_end history run again old new other one two r s = absurd (assumption)
 
   pub one_state : (capacity : ℕ) (history : List (Entry T P)) (state other : Machine T P)
       → IsHistory cmp capacity history state → IsHistory cmp capacity history other → state ≡ other

@@ -1,18 +1,15 @@
 -- A history that grows by an entry.
 use Rattle.std.proofs.Common.{◌≡◌, ℕ, true, List, [], ◌∷◌, ◌++◌, refl, sym, subst, inl, inr, Some, None, Ok, Err}
-use Rattle.std.specs.declared.cmp.Ordering.{Ordering}
 use Rattle.priority_channel_core.specs.declared.calls.Answer.TheVariants as answer
 use Rattle.priority_channel_core.specs.declared.errors.TrySendError.TheVariants as send_error
 use Rattle.priority_channel_core.specs.declared.errors.TryRecvError.TheVariants as recv_error
-use Rattle.priority_channel_core.specs.machine.State.{Handed, opening}
-use Rattle.priority_channel_core.specs.machine.Step.{Moves, Answers}
-use Rattle.priority_channel_core.specs.machine.Run.{Operation}
+use Rattle.priority_channel_core.specs.Prelude.{Handed, opening, Moves, Step, Answers, Operation, Ordering}
 use Rattle.priority_channel_core.proofs.Runs.{zip_push, Run-more}
 use Rattle.priority_channel_recorded.specs.declared.book.Call.{Call}
 use Rattle.priority_channel_recorded.specs.declared.book.Call.TheVariants.{TrySend, TrySendEvicting, TryRecv, Close, IsClosed, IsEmpty, IsFull, Len}
 use Rattle.priority_channel_recorded.specs.declared.book.Reply.{Reply}
 use Rattle.priority_channel_recorded.specs.declared.book.Entry.{Entry}
-use Rattle.priority_channel_recorded.specs.History.{Machine, call_of, Records, IsStep, IsHistory, IsLegal}
+use Rattle.priority_channel_recorded.specs.History.{Machine, call_of, reply_of, Records, IsStep, IsHistory, IsLegal}
 
 module _ {T P : Type 0} (cmp : P → P → Ordering) where
   same_capacity : (old new : Machine T P) (handed : Handed (Unit {0})) (call : Call T P) (told : Answers T P)
@@ -33,6 +30,11 @@ module _ {T P : Type 0} (cmp : P → P → Ordering) where
   same_capacity old new handed IsFull (answer.IsFull told) m = cc
   same_capacity old new handed Len (answer.Len told) m = cc
   same_capacity old new handed call told m = first_of (cc, search)
+
+  -- a call of the core makes the reply
+  pub is_step : (old new : Machine T P) (made : Call T P) (reply : Reply T P) (told : Answers T P) (handed : Handed (Unit {0})) → reply_of told ≡ Some reply
+      → Step cmp (λ waker kept. kept ≡ waker) old (call_of made) told handed new → IsStep cmp old made reply new
+  is_step old new made reply told handed replies step = record { answer = told; handed = handed; replies = replies; step = record { moves = step.moves; good = step.good } }
 
   pub step_capacity : (old new : Machine T P) (call : Call T P) (reply : Reply T P) → IsStep cmp old call reply new
       → new.capacity ≡ old.capacity

@@ -1,12 +1,9 @@
 -- Histories of calls: for each, the number of its pass, the call, and the reply.
 use Rattle.std.specs.Prelude.{◌≡◌, ℕ, true, List, [], Option, Some, None, refl}
 use Rattle.std.specs.List.{AllZip}
-use Rattle.std.specs.declared.cmp.Ordering.{Ordering}
 use Rattle.priority_channel_core.specs.declared.calls.Call.TheVariants as call
 use Rattle.priority_channel_core.specs.declared.calls.Answer.TheVariants as answer
-use Rattle.priority_channel_core.specs.machine.State.{State, Handed, opening}
-use Rattle.priority_channel_core.specs.machine.Step.{Step, Calls, Answers}
-use Rattle.priority_channel_core.specs.machine.Run.{Operation, Run}
+use Rattle.priority_channel_core.specs.Prelude.{State, Handed, opening, Step, Calls, Answers, Operation, Run, Ordering}
 use Rattle.priority_channel_recorded.specs.declared.book.Call.{Call}
 use Rattle.priority_channel_recorded.specs.declared.book.Call.TheVariants.{TrySend, TrySendEvicting, TryRecv, Close, IsClosed, IsEmpty, IsFull, Len}
 use Rattle.priority_channel_recorded.specs.declared.book.Reply.{Reply}

@@ -1,6 +1,6 @@
 //! A channel for one caller, with the history of its calls.
 ghost use Rattle.std.specs.Prelude.{◌≡◌, ◌<◌, ◌≤◌, ◌^◌, true, [], ◌∷◌, ◌++◌, length, vec_capacity, IfOk, OnErr, Some, codes};
-ghost use Rattle.priority_channel_core.specs.machine.State.{opening};
+ghost use Rattle.priority_channel_core.specs.Prelude.{opening};
 ghost use Rattle.priority_channel_recorded.specs.History.{entry, IsHistory, IsStep};
 
 use priority_channel_core::awaitable_atomics::Wakes;
