@@ -1,10 +1,7 @@
 -- A history that grows by an entry.
-use Rattle.std.proofs.Common.{ℕ, Bool, List, [], ◌∷◌, ◌++◌, map, refl, sym, subst}
-use Rattle.std.specs.declared.cmp.Ordering.{Ordering}
+use Rattle.std.proofs.Common.{ℕ, Bool, List, [], ◌∷◌, ◌++◌, map, refl, subst}
 use Rattle.std.proofs.lemmas.List.{map-append}
-use Rattle.priority_channel_core.specs.machine.State.{State, opening}
-use Rattle.priority_channel_core.specs.machine.Step.{Step}
-use Rattle.priority_channel_core.specs.machine.Run.{Operation, Run}
+use Rattle.priority_channel_core.specs.Prelude.{State, opening, Step, Run, Ordering}
 use Rattle.priority_channel_core.proofs.Runs.{Run-more}
 use Rattle.priority_channel_witnessed.specs.declared.entry.Entry.{Entry}
 use Rattle.priority_channel_witnessed.specs.History.{operation_of, IsHistory, IsLegal, IsNext}
@@ -14,21 +11,14 @@ module _ {T P W : Type 0} (cmp : P → P → Ordering) (is_clone : W → W → T
   pub history_more : (capacity : ℕ) (is_reserved : Bool) (old new : State T P W) (history : List (Entry T P W)) (last : Entry T P W)
       → IsHistory cmp is_clone capacity is_reserved history old → Step cmp is_clone old last.call last.answer last.handed new
       → IsHistory cmp is_clone capacity is_reserved (history ++ last ∷ []) new
-  history_more capacity is_reserved old new history last legal step =
-      let run : List (Operation T P W) = map operation_of history in
-      let more : Run cmp is_clone (opening capacity is_reserved) (run ++ operation_of last ∷ []) new =
-      Run-more cmp is_clone (opening capacity is_reserved) old new run (operation_of last) legal.leads step in
-      record {
-        leads = subst (λ (l : List (Operation T P W)). Run cmp is_clone (opening capacity is_reserved) l new) (sym (map-append operation_of history (last ∷ []))) more;
-      }
+  history_more capacity is_reserved old new history last legal step = record {
+    leads = rw (map-append operation_of history (last ∷ []))
+        (Run-more cmp is_clone (opening capacity is_reserved) old new (map operation_of history) (operation_of last) legal.leads step);
+  }
 
   -- nothing was called yet
   pub history_none : (capacity : ℕ) (is_reserved : Bool) → IsHistory {T = T} cmp is_clone capacity is_reserved [] (opening capacity is_reserved)
   history_none capacity is_reserved = record { leads = refl }
-
-  pub legal_of : (capacity : ℕ) (is_reserved : Bool) (history : List (Entry T P W)) (state : State T P W)
-      → IsHistory cmp is_clone capacity is_reserved history state → IsLegal cmp is_clone capacity is_reserved history
-  legal_of capacity is_reserved history state is = record { state = state; run = is }
 
   -- a run's last call
   last_of : (old new : State T P W) (before : List (Entry T P W)) (last : Entry T P W) → Run cmp is_clone old (map operation_of (before ++ last ∷ [])) new

@@ -1,24 +1,17 @@
 -- The list of a vector's iterator that may have been peeked.
-use Rattle.std.proofs.Common.{◌≡◌, ◌+◌, ◌≤◌, ℕ, List, [], ◌∷◌, length, refl, sym, ap, ◌∙◌, subst, arith, Option, Some, None, MatchOption, Result, Ok, Err}
-use Rattle.std.specs.declared.cmp.Ordering.{Ordering}
+use Rattle.std.proofs.Common.{◌≡◌, ◌+◌, ◌≤◌, ℕ, List, [], ◌∷◌, length, refl, sym, ap, ◌∙◌, subst, arith, Option, Some, None, Ok, Err}
 use Rattle.std.specs.declared.vec.IntoIter.{IntoIter}
 use Rattle.std.specs.declared.iter.Ahead.{Ahead}
 use Rattle.std.specs.Vec.Iter.{into_iter_steps, into_iter_items, into_iter_len}
 use Rattle.std.specs.Iterator.{AlwaysYields}
 use Rattle.std.specs.Iterator.Adapters.{peekable_steps}
 use Rattle.std.specs.VecDeque.Ownership.{in_place}
-use Rattle.priority_channel_core.specs.declared.errors.TrySendError.{TrySendError}
 use Rattle.priority_channel_core.specs.declared.errors.TrySendError.TheVariants.{Full, Closed, Memory}
-use Rattle.priority_channel_core.specs.declared.errors.SendFault.{SendFault}
+use Rattle.priority_channel_core.specs.declared.calls.CorePoll.TheVariants.{Ready, Pending}
+use Rattle.priority_channel_core.specs.Prelude.{State, Handed, Step, Answers, HasList, SameReply, SamePoll, Performs, Ordering, SendReply, SendPoll}
 use Rattle.priority_channel_core.specs.declared.errors.SendFault.TheVariants as send
 use Rattle.priority_channel_core.specs.declared.calls.Call.TheVariants as call
 use Rattle.priority_channel_core.specs.declared.calls.Answer.TheVariants as answer
-use Rattle.priority_channel_core.specs.declared.calls.CorePoll.{CorePoll}
-use Rattle.priority_channel_core.specs.declared.calls.CorePoll.TheVariants.{Ready, Pending}
-use Rattle.priority_channel_core.specs.machine.State.{State, Handed}
-use Rattle.priority_channel_core.specs.machine.Step.{Step, Answers}
-use Rattle.priority_channel_core.specs.code.Lists.{HasList}
-use Rattle.priority_channel_core.specs.code.Calls.{SameReply, SamePoll, Performs}
 use Rattle.priority_channel_core.proofs.Lists.{list_at_none, list_at_some, list_from_source}
 use Rattle.priority_channel_witnessed.specs.Items.{behind, list_in, listed, listed_poll}
 
@@ -45,16 +38,13 @@ module _ {X Z : Type 0} where
 
   -- a call where nothing was peeked, and one where something was
   goes : (m : Ahead (IntoIter X Z) X) (r : Option X) (after : IntoIter X Z) → m.peeked ≡ None → into_iter_steps m.iter r after → peekable_steps into_iter_steps m r (unpeeked after)
-  goes m r after e step =
-      let P : Option (Option X) → Type 0 = (λ z. MatchOption z (into_iter_steps m.iter r after) (λ o. (r ≡ o) × (after ≡ m.iter))) in (refl, subst P (sym e) step)
+  goes m r after e step = (refl, rw e step)
 
   gives : (m : Ahead (IntoIter X Z) X) (o : Option X) → m.peeked ≡ Some o → peekable_steps into_iter_steps m o (unpeeked m.iter)
-  gives m o e =
-      let P : Option (Option X) → Type 0 = (λ z. MatchOption z (into_iter_steps m.iter o m.iter) (λ k. (o ≡ k) × (m.iter ≡ m.iter))) in (refl, subst P (sym e) (refl, refl))
+  gives m o e = (refl, rw e (refl, refl))
 
   given : (m j : Ahead (IntoIter X Z) X) (o r : Option X) → m.peeked ≡ Some o → peekable_steps into_iter_steps m r j → (r ≡ o) × (j.iter ≡ m.iter)
-  given m j o r e step =
-      let P : Option (Option X) → Type 0 = (λ z. MatchOption z (into_iter_steps m.iter r j.iter) (λ k. (r ≡ k) × (j.iter ≡ m.iter))) in subst P e step.1
+  given m j o r e step = rw e at step.1
 
   yields : (items : List X) (it : IntoIter X Z) → into_iter_items it ≡ items → AlwaysYields into_iter_steps (λ x. x) it items
   yields [] it is = λ x j step. let e : [] ≡ x ∷ into_iter_items j = sym is ∙ step.0 in absurd (cc)
@@ -107,13 +97,13 @@ module _ {T P Z : Type 0} where
   abbrev Holds : Ahead (IntoIter (T × P) Z) (T × P) → List (T × P) → Type 0
   Holds msgs list = HasList (into_iter_steps {X = T × P} {Z = Z}) msgs list
 
-  reply_is : (reply : Result (Unit {0}) (TrySendError (Ahead (IntoIter (T × P) Z) (T × P)))) (told : Result (Unit {0}) (TrySendError (List (T × P)))) → SameReply Holds reply told → told ≡ listed reply
+  reply_is : (reply : SendReply (Ahead (IntoIter (T × P) Z) (T × P))) (told : SendReply (List (T × P))) → SameReply Holds reply told → told ≡ listed reply
   reply_is (Ok done) told same = same
   reply_is (Err (Closed m)) told same = same.1 ∙ ap (λ (l : List (T × P)). Err (Closed l)) (list_is m same.0 same.2)
   reply_is (Err (Full m)) told same = same.1 ∙ ap (λ (l : List (T × P)). Err (Full l)) (list_is m same.0 same.2)
   reply_is (Err (Memory m)) told same = same.1 ∙ ap (λ (l : List (T × P)). Err (Memory l)) (list_is m same.0 same.2)
 
-  poll_is : (poll : CorePoll (Result (Unit {0}) (SendFault (Ahead (IntoIter (T × P) Z) (T × P)))) (Ahead (IntoIter (T × P) Z) (T × P))) (told : CorePoll (Result (Unit {0}) (SendFault (List (T × P)))) (List (T × P))) → SamePoll Holds poll told → told ≡ listed_poll poll
+  poll_is : (poll : SendPoll (Ahead (IntoIter (T × P) Z) (T × P))) (told : SendPoll (List (T × P))) → SamePoll Holds poll told → told ≡ listed_poll poll
   poll_is (Ready (Ok done)) told same = same
   poll_is (Ready (Err (send.Closed e))) told same =
       same.1 ∙ ap (λ (l : List (T × P)). Ready (Err (send.Closed (record { 0 = l })))) (list_is e.0 same.0 same.2)
@@ -122,19 +112,19 @@ module _ {T P Z : Type 0} where
 
   module _ {W : Type 0} (cmp : P → P → Ordering) (is_clone : W → W → Type 0) where
     -- a bulk send of the code is the machine's, of the iterator's list
-    pub sends_list : (old new : State T P W) (msgs : Ahead (IntoIter (T × P) Z) (T × P)) (reply : Result (Unit {0}) (TrySendError (Ahead (IntoIter (T × P) Z) (T × P)))) (handed : Handed W)
+    pub sends_list : (old new : State T P W) (msgs : Ahead (IntoIter (T × P) Z) (T × P)) (reply : SendReply (Ahead (IntoIter (T × P) Z) (T × P))) (handed : Handed W)
         → Performs Holds cmp is_clone old (call.TrySendv msgs) (answer.TrySendv reply) handed new
         → Step cmp is_clone old (call.TrySendv (list_in msgs)) (answer.TrySendv (listed reply)) handed new
     sends_list old new msgs reply handed performs =
         let k = performs.at (call.TrySendv (list_in msgs)) (list_in msgs, refl, has_list msgs) in
         subst (λ (a : Answers T P). Step cmp is_clone old (call.TrySendv (list_in msgs)) a handed new)
-        (k.1.1 ∙ ap (λ (r : Result (Unit {0}) (TrySendError (List (T × P)))). answer.TrySendv r) (reply_is reply k.1.0 k.1.2)) k.2
+        (k.1.1 ∙ ap (λ (r : SendReply (List (T × P))). answer.TrySendv r) (reply_is reply k.1.0 k.1.2)) k.2
 
     -- and so is its poll
-    pub polls_list : (old new : State T P W) (msgs : Ahead (IntoIter (T × P) Z) (T × P)) (ticket : Option ℕ) (waker : W) (poll : CorePoll (Result (Unit {0}) (SendFault (Ahead (IntoIter (T × P) Z) (T × P)))) (Ahead (IntoIter (T × P) Z) (T × P))) (handed : Handed W)
+    pub polls_list : (old new : State T P W) (msgs : Ahead (IntoIter (T × P) Z) (T × P)) (ticket : Option ℕ) (waker : W) (poll : SendPoll (Ahead (IntoIter (T × P) Z) (T × P))) (handed : Handed W)
         → Performs Holds cmp is_clone old (call.PollSendv msgs ticket waker) (answer.PollSendv poll) handed new
         → Step cmp is_clone old (call.PollSendv (list_in msgs) ticket waker) (answer.PollSendv (listed_poll poll)) handed new
     polls_list old new msgs ticket waker poll handed performs =
         let k = performs.at (call.PollSendv (list_in msgs) ticket waker) (list_in msgs, refl, has_list msgs) in
         subst (λ (a : Answers T P). Step cmp is_clone old (call.PollSendv (list_in msgs) ticket waker) a handed new)
-        (k.1.1 ∙ ap (λ (p : CorePoll (Result (Unit {0}) (SendFault (List (T × P)))) (List (T × P))). answer.PollSendv p) (poll_is poll k.1.0 k.1.2)) k.2
+        (k.1.1 ∙ ap (λ (p : SendPoll (List (T × P))). answer.PollSendv p) (poll_is poll k.1.0 k.1.2)) k.2

@@ -1,12 +1,10 @@
 -- Passes that come and go: which numbers are out, and what was counted for those that left.
-use Rattle.std.proofs.Common.{◌≡◌, ◌≢◌, ◌+◌, ◌<◌, ◌≤◌, ◌==◌, ℕ, Bool, true, false, cond, not, ◌&&◌, List, [], ◌∷◌, ◌++◌, length, map, refl, sym, ap, ◌∙◌, arith, length-append, All, subst, slice_index_or}
-use Rattle.std.specs.List.{sum_by, remove}
-use Rattle.std.specs.List.Sorted.{IsPermutation}
+use Rattle.std.proofs.Common.{◌≡◌, ◌≢◌, ◌+◌, ◌<◌, ◌≤◌, ◌==◌, ℕ, cond, List, [], ◌∷◌, ◌++◌, length, map, refl, sym, arith, length-append, All, subst, slice_index_or, sum_by, remove, IsPermutation}
 use Rattle.std.proofs.lemmas.List.Sums.{sum_by-append, sum_by-cons, sum_by_push}
 use Rattle.std.proofs.lemmas.List.Sorted.{sum_by_popped, sum_by-IsPermutation, IsPermutation-remove}
-use Rattle.std.proofs.lemmas.List.Elements.{All-nil, All-cons, All-head, All-tail}
+use Rattle.std.proofs.lemmas.List.Elements.{All-nil, All-cons}
 use Rattle.std.proofs.lemmas.Bool.Decides.{nat_tests}
-use Rattle.priority_channel_chronicle.proofs.Accounts.{same_sums, hit}
+use Rattle.priority_channel_chronicle.proofs.Accounts.{sums_same, same_sums, split_calls, hit}
 use Rattle.priority_channel_witnessed.specs.declared.entry.Entry.{Entry}
 use Rattle.priority_channel_witnessed.specs.History.{who_of}
 use Rattle.priority_channel_witnessed.specs.Passes.{Carried, calls_of, calls_made, is_of_others, calls_of_others, calls_under, times_in, AreApart, AreGiven, IsShared}
@@ -18,20 +16,11 @@ same_as number other = cond (number == other) 1 0
 pub given_none : AreGiven [] 0
 given_none = record { once = λ number. omega arith; below = λ number past. refl }
 
-pushed_once : (numbers : List ℕ) (next number : ℕ) → AreGiven numbers next → (is_next : Bool) → (number == next) ≡ is_next
-    → times_in number numbers + cond is_next 1 0 ≤ 1
-pushed_once numbers next number given true is =
-    let here : number ≡ next = grind (arith, nat_tests) in
-    omega (arith, given.below number (omega (arith, here)))
-pushed_once numbers next number given false is = omega (arith, given.once number)
-
 -- the next number is another than all that were given
 pub given_more : (numbers : List ℕ) (next : ℕ) → AreGiven numbers next → AreGiven (numbers ++ next ∷ []) (next + 1)
 given_more numbers next given = record {
-  once = λ number. omega (arith, sum_by_push (same_as number) numbers next, pushed_once numbers next number given (number == next) refl);
-  below = λ number past.
-      let other : same_as number next ≡ 0 = grind (arith, nat_tests) in
-      omega (arith, sum_by_push (same_as number) numbers next, other, given.below number (omega (arith, past)));
+  once = λ number. grind (arith, nat_tests, sum_by_push (same_as number) numbers next, given.once number, given.below number);
+  below = λ number past. grind (arith, nat_tests, sum_by_push (same_as number) numbers next, given.below number);
 }
 
 pub given_less : (numbers left : List ℕ) (number next : ℕ) → IsPermutation numbers (number ∷ left) → AreGiven numbers next → AreGiven left next
@@ -58,9 +47,6 @@ module _ (T P W : Type 0) where
       omega (arith, none, sum_by-cons (λ other. calls_of {T = T} {P = P} {W = W} other []) number more, under_none more)
 
 module _ {T P W : Type 0} where
-  abbrev number_of : Carried T P W → ℕ
-  number_of pass = pass.number
-
   -- nobody has called yet
   pub shared_none : (out : List ℕ) (next : ℕ) → IsShared {T = T} {P = P} {W = W} out next 0 []
   shared_none out next = record { below = λ number past. refl; others = omega (arith, under_none T P W out) }
@@ -82,9 +68,7 @@ module _ {T P W : Type 0} where
   pub shared_more : (out : List ℕ) (next left : ℕ) (history : List (Entry T P W)) (last : Entry T P W) → AreGiven out next
       → IsShared out next left history → last.who < next → IsShared out next left (history ++ last ∷ [])
   shared_more out next left history last given shared is = record {
-    below = λ number past.
-        let other : hit who_of number last ≡ 0 = grind (arith, nat_tests) in
-        omega (arith, sum_by_push (hit who_of number) history last, other, shared.below number past);
+    below = λ number past. grind (arith, nat_tests, sum_by_push (hit who_of number) history last, shared.below number);
     others = omega (arith, shared.others, under_push out history last, given.once last.who, length-append history (last ∷ []));
   }
 
@@ -123,19 +107,14 @@ module _ {T P W : Type 0} where
   none_of number [] none = All-nil (λ (pass : Carried T P W). number ≢ pass.number)
   none_of number (pass ∷ more) none =
       let split = sum_by-cons (λ (q : Carried T P W). same_as number q.number) pass more in
-      All-cons (λ (q : Carried T P W). number ≢ q.number) pass more
-      (λ same. let one : same_as number pass.number ≡ 1 = grind (arith, nat_tests) in absurd (omega (arith, one, split, none)))
-      (none_of number more (omega (arith, split, none)))
+      All-cons (λ (q : Carried T P W). number ≢ q.number) pass more (grind (arith, nat_tests)) (none_of number more (omega (arith, split, none)))
 
   once_apart : (passes : List (Carried T P W)) → ((number : ℕ) → sum_by (λ pass. same_as number pass.number) passes ≤ 1) → AreApart passes
   once_apart [] once = tt
   once_apart (pass ∷ others) once =
       let split : (number : ℕ) → sum_by (λ (q : Carried T P W). same_as number q.number) (pass ∷ others) ≡ same_as number pass.number + sum_by (λ (q : Carried T P W). same_as number q.number) others =
       λ number. sum_by-cons (λ (q : Carried T P W). same_as number q.number) pass others in
-      let own : same_as pass.number pass.number ≡ 1 = grind (arith, nat_tests) in (
-        none_of pass.number others (omega (arith, split pass.number, own, once pass.number)),
-        once_apart others (λ number. omega (arith, split number, once number)),
-      )
+      (none_of pass.number others (grind (arith, nat_tests, split pass.number, once pass.number)), once_apart others (λ number. omega (arith, split number, once number)))
 
   -- no two of them have one number
   pub out_apart : (passes : List (Carried T P W)) (out rest : List ℕ) (next : ℕ) → IsPermutation out (map (λ pass. pass.number) passes ++ rest)
@@ -143,54 +122,12 @@ module _ {T P W : Type 0} where
   out_apart passes out rest next struck given =
       once_apart passes (λ number. omega (arith, part_of (same_as number) passes out rest struck, given.once number))
 
-  others_too : (entry : Entry T P W) (number : ℕ) (passes : List (Carried T P W)) → entry.who ≡ number → All (λ pass. number ≢ pass.number) passes
-      → is_of_others passes entry ≡ true
-  others_too entry number [] is apart = refl
-  others_too entry number (pass ∷ more) is apart =
-      let other : number ≢ pass.number = All-head (λ (q : Carried T P W). number ≢ q.number) pass more apart in
-      let differs : (entry.who == pass.number) ≡ false = grind (arith, nat_tests) in
-      ap (λ (b : Bool). not b && is_of_others more entry) differs ∙ others_too entry number more is (All-tail (λ (q : Carried T P W). number ≢ q.number) pass more apart)
-
-  others_hit : (entry : Entry T P W) (pass : Carried T P W) (passes : List (Carried T P W)) → All (λ other. pass.number ≢ other.number) passes
-      → (is_its : Bool) → (entry.who == pass.number) ≡ is_its
-      → cond (not is_its && is_of_others passes entry) 1 0 + cond is_its 1 0 ≡ cond (is_of_others passes entry) 1 0
-  others_hit entry pass passes apart true is =
-      let here : entry.who ≡ pass.number = grind (arith, nat_tests) in
-      let one : cond (is_of_others passes entry) 1 0 ≡ 1 = ap (λ (b : Bool). cond {A = ℕ} b 1 0) (others_too entry pass.number passes here apart) in
-      omega (arith, one)
-  others_hit entry pass passes apart false is = omega arith
-
-  others_less : (pass : Carried T P W) (passes : List (Carried T P W)) (history : List (Entry T P W)) → All (λ other. pass.number ≢ other.number) passes
-      → calls_of_others (pass ∷ passes) history + calls_of pass.number history ≡ calls_of_others passes history
-  others_less pass passes [] apart = refl
-  others_less pass passes (entry ∷ more) apart =
-      omega (
-        arith,
-        sum_by-cons (λ (e : Entry T P W). cond (is_of_others (pass ∷ passes) e) 1 0) entry more,
-        sum_by-cons (hit who_of pass.number) entry more,
-        sum_by-cons (λ (e : Entry T P W). cond (is_of_others passes e) 1 0) entry more,
-        others_hit entry pass passes apart (entry.who == pass.number) refl,
-        others_less pass passes more apart,
-      )
-
-  all_others : (history : List (Entry T P W)) → calls_of_others [] history ≡ length history
-  all_others [] = refl
-  all_others (entry ∷ more) = omega (arith, sum_by-cons (λ (e : Entry T P W). cond (is_of_others [] e) 1 0) entry more, all_others more)
-
-  -- each entry stands under the number of one of the passes, or under another
-  split_calls : (passes : List (Carried T P W)) (history : List (Entry T P W)) → AreApart passes
-      → length history ≡ sum_by (λ pass. calls_of pass.number history) passes + calls_of_others passes history
-  split_calls [] history apart = omega (arith, all_others history)
-  split_calls (pass ∷ more) history apart =
-      omega (arith, sum_by-cons (λ (q : Carried T P W). calls_of q.number history) pass more, others_less pass more history apart.0, split_calls more history apart.1)
-
-  same_made : (passes : List (Carried T P W)) (history : List (Entry T P W)) → All (λ pass. calls_of pass.number history ≡ pass.count) passes
-      → sum_by (λ pass. calls_of pass.number history) passes ≡ calls_made passes
-  same_made [] history exactly = refl
-  same_made (pass ∷ more) history exactly =
-      omega (arith, sum_by-cons (λ (q : Carried T P W). calls_of q.number history) pass more, sum_by-cons (λ (q : Carried T P W). q.count) pass more, All-head (λ (q : Carried T P W). calls_of q.number history ≡ q.count) pass more exactly, same_made more history (All-tail (λ (q : Carried T P W). calls_of q.number history ≡ q.count) pass more exactly))
-
   -- the calls of these passes and those of others
   pub all_calls : (passes : List (Carried T P W)) (history : List (Entry T P W)) → AreApart passes
       → All (λ pass. calls_of pass.number history ≡ pass.count) passes → length history ≡ calls_made passes + calls_of_others passes history
-  all_calls passes history apart exactly = omega (arith, split_calls passes history apart, same_made passes history exactly)
+  all_calls passes history apart exactly =
+      omega (
+        arith,
+        split_calls who_of is_of_others (λ e. refl) (λ p ps e. refl) passes history apart,
+        sums_same (λ (pass : Carried T P W). calls_of pass.number history) (λ (pass : Carried T P W). pass.count) passes exactly,
+      )

@@ -1,14 +1,9 @@
 -- What was told of one call, as a fact about the state in which it was made.
-use Rattle.std.proofs.Common.{ℕ, Bool, [], ◌∷◌, ap, arith, length, length-append, Result, Ok, Err}
-use Rattle.std.specs.Prelude.{IfOk}
-use Rattle.std.specs.declared.cmp.Ordering.{Ordering}
-use Rattle.priority_channel_core.specs.declared.errors.TryRecvError.{TryRecvError}
-use Rattle.priority_channel_core.specs.declared.errors.TrySendError.{TrySendError}
+use Rattle.std.proofs.Common.{ℕ, Bool, [], ◌∷◌, ap, arith, length, length-append, Ok, Err, IfOk}
 use Rattle.priority_channel_core.specs.declared.errors.TrySendError.TheVariants.{Full, Closed, Memory}
+use Rattle.priority_channel_core.specs.Prelude.{Handed, OnFull, Ordering, SendReply, RecvReply}
 use Rattle.priority_channel_core.specs.declared.calls.Call.TheVariants as call
 use Rattle.priority_channel_core.specs.declared.calls.Answer.TheVariants as answer
-use Rattle.priority_channel_core.specs.machine.State.{Handed}
-use Rattle.priority_channel_core.specs.code.Replies.{OnFull}
 use Rattle.priority_channel_witnessed.specs.History.{entry}
 use Rattle.priority_channel_witnessed.specs.Passes.{Carried, IsTold}
 use Rattle.priority_channel_witnessed.proofs.Histories.{told_step}
@@ -16,14 +11,14 @@ use Rattle.priority_channel_witnessed.specs.Uses.{WasMostUrgent, WasFull}
 
 module _ {T P W : Type 0} (cmp : P → P → Ordering) (is_clone : W → W → Type 0) (capacity : ℕ) (is_reserved : Bool)
     (old new : Carried T P W) (who : ℕ) (handed : Handed W) where
-  pub urgent : (reply : Result (T × P) TryRecvError) → IsTold cmp is_clone capacity is_reserved old (entry who call.TryRecv (answer.TryRecv reply) handed) new
+  pub urgent : (reply : RecvReply (T × P)) → IsTold cmp is_clone capacity is_reserved old (entry who call.TryRecv (answer.TryRecv reply) handed) new
       → IfOk reply (WasMostUrgent cmp is_clone capacity is_reserved old.seen)
   urgent (Ok pair) told =
       let k = told_step cmp is_clone capacity is_reserved old new _ told in
       record { state = k.1.old; reached = record { between = k.0; history = k.1.so_far }; rest = k.1.new.pending; takes = k.1.step.moves.0 }
   urgent (Err error) told = tt
 
-  pub full : (msg : T) (priority : P) (reply : Result (Unit {0}) (TrySendError (T × P)))
+  pub full : (msg : T) (priority : P) (reply : SendReply (T × P))
       → IsTold cmp is_clone capacity is_reserved old (entry who (call.TrySend msg priority) (answer.TrySend reply) handed) new
       → OnFull reply (WasFull cmp is_clone capacity is_reserved old.seen)
   full msg priority (Err (Full pair)) told =

@@ -1,23 +1,13 @@
 -- The calls of a wait, and what comes back of a send.
-use Rattle.std.proofs.Common.{◌≡◌, ℕ, Bool, List, [], ◌∷◌, ◌++◌, length, refl, sym, ap, subst, arith, length-append, append_assoc, ◌∙◌, Option, Some, None}
-use Rattle.std.specs.Prelude.{◌<◌, Result, Ok, Err, IfOk, IfErr, IfSome}
-use Rattle.std.specs.declared.cmp.Ordering.{Ordering}
+use Rattle.std.proofs.Common.{◌≡◌, ℕ, Bool, List, [], ◌∷◌, ◌++◌, length, refl, sym, ap, subst, arith, length-append, append_assoc, ◌∙◌, Option, Some, None, ◌<◌, Result, Ok, Err, IfOk, IfErr, IfSome}
 use Rattle.std.specs.declared.vec.IntoIter.{IntoIter}
 use Rattle.std.specs.declared.iter.Ahead.{Ahead}
-use Rattle.priority_channel_core.specs.declared.errors.TrySendError.{TrySendError}
 use Rattle.priority_channel_core.specs.declared.errors.TrySendError.TheVariants.{Full, Closed, Memory}
-use Rattle.priority_channel_core.specs.declared.errors.SendFault.{SendFault}
+use Rattle.priority_channel_core.specs.Prelude.{rest_of, send_answer, kept_by, State, Handed, as_list, Sends, Calls, Answers, Ordering, SendReply, SendEnd, SendPoll}
 use Rattle.priority_channel_core.specs.declared.errors.SendFault.TheVariants as fault
-use Rattle.priority_channel_core.specs.Errors.{rest_of}
-use Rattle.priority_channel_core.specs.machine.Polls.{send_answer}
 use Rattle.priority_channel_waiting.specs.Waits.{unsent_in_time}
 use Rattle.priority_channel_core.specs.declared.calls.Call.TheVariants as call
 use Rattle.priority_channel_core.specs.declared.calls.Answer.TheVariants as answer
-use Rattle.priority_channel_core.specs.declared.calls.CorePoll.{CorePoll}
-use Rattle.priority_channel_core.specs.code.Replies.{kept_by}
-use Rattle.priority_channel_core.specs.machine.State.{State, Handed}
-use Rattle.priority_channel_core.specs.machine.Sends.{as_list, Sends}
-use Rattle.priority_channel_core.specs.machine.Step.{Calls, Answers}
 use Rattle.priority_channel_core.proofs.Polls.{kept_callable}
 use Rattle.priority_channel_witnessed.specs.History.{entry}
 use Rattle.priority_channel_witnessed.specs.declared.entry.Entry.{Entry}
@@ -32,7 +22,7 @@ last_one x y [] e = cc
 last_one x y (z ∷ front) e = let l = ap length e in let m = length-append front (y ∷ []) in absurd (omega arith)
 
 module _ {T P W : Type 0} where
-  back_is : (old new : State T P W) (msg : T) (priority : P) (reply : Result (Unit {0}) (TrySendError (T × P))) (handed : Handed W)
+  back_is : (old new : State T P W) (msg : T) (priority : P) (reply : SendReply (T × P)) (handed : Handed W)
       → Sends old ((msg, priority) ∷ []) (as_list reply) handed new → IfErr reply (λ error. rest_of error ≡ (msg, priority))
   back_is old new msg priority (Ok done) handed sends = tt
   back_is old new msg priority (Err (Closed pair)) handed sends = last_one (msg, priority) pair [] (sym sends.1)
@@ -41,14 +31,14 @@ module _ {T P W : Type 0} where
 
   module _ (cmp : P → P → Ordering) (is_clone : W → W → Type 0) (capacity : ℕ) (is_reserved : Bool) (old new : Carried T P W) (who : ℕ) (msg : T) (priority : P) (handed : Handed W) where
     -- what comes back of a send is its pair
-    pub tried_back : (reply : Result (Unit {0}) (TrySendError (T × P)))
+    pub tried_back : (reply : SendReply (T × P))
         → IsTold cmp is_clone capacity is_reserved old (entry who (call.TrySend msg priority) (answer.TrySend reply) handed) new
         → IfErr reply (λ error. rest_of error ≡ (msg, priority))
     tried_back reply told =
         let next = (told_step cmp is_clone capacity is_reserved old new _ told).1 in
         back_is next.old next.new msg priority reply handed next.step.moves
 
-    pub polled_back : (ticket : Option ℕ) (waker : W) (polled : CorePoll (Result (Unit {0}) (SendFault (T × P))) (T × P))
+    pub polled_back : (ticket : Option ℕ) (waker : W) (polled : SendPoll (T × P))
         → IsTold cmp is_clone capacity is_reserved old (entry who (call.PollSend msg priority ticket waker) (answer.PollSend polled) handed) new
         → IfSome (kept_by polled) (λ kept. kept ≡ (msg, priority))
     polled_back ticket waker polled told =
@@ -61,8 +51,8 @@ Msgs T P Z = Ahead (IntoIter (T × P) Z) (T × P)
 
 -- a bulk send's try and its poll are calls of its wait
 module _ {T P Z W : Type 0} (cmp : P → P → Ordering) (is_clone : W → W → Type 0) (capacity : ℕ) (is_reserved : Bool) (old new : Carried T P W) (msgs : Msgs T P Z) (handed : Handed W) where
-  pub tries_on : (ending : Msgs T P Z → Ending (Result (Unit {0}) (SendFault (Msgs T P Z))) (Msgs T P Z)) (reply : Result (Unit {0}) (TrySendError (Msgs T P Z)))
-      (result : Result (Result (Unit {0}) (SendFault (Msgs T P Z))) (Msgs T P Z))
+  pub tries_on : (ending : Msgs T P Z → Ending (SendEnd (Msgs T P Z)) (Msgs T P Z)) (reply : SendReply (Msgs T P Z))
+      (result : Result (SendEnd (Msgs T P Z)) (Msgs T P Z))
       → Tells cmp is_clone capacity is_reserved old (call.TrySendv (list_in msgs)) (answer.TrySendv (listed reply)) handed new
       → IfErr result (λ rest. Tried send_answer (λ blocked. Err (Full blocked)) reply (ending rest))
       → IfErr result (λ rest. Makes cmp is_clone capacity is_reserved (SendvCalls msgs None) old (ending rest) new)
@@ -75,7 +65,7 @@ module _ {T P Z W : Type 0} (cmp : P → P → Ordering) (is_clone : W → W →
     comes = (refl, refl, (reply, refl, tried));
   }
 
-  pub polls_all : (ticket : Option ℕ) (waker : W) (polled : CorePoll (Result (Unit {0}) (SendFault (Msgs T P Z))) (Msgs T P Z)) (ending : Ending (Result (Unit {0}) (SendFault (Msgs T P Z))) (Msgs T P Z))
+  pub polls_all : (ticket : Option ℕ) (waker : W) (polled : SendPoll (Msgs T P Z)) (ending : Ending (SendEnd (Msgs T P Z)) (Msgs T P Z))
       → Tells cmp is_clone capacity is_reserved old (call.PollSendv (list_in msgs) ticket waker) (answer.PollSendv (listed_poll polled)) handed new → ending ≡ polled_to polled
       → Makes cmp is_clone capacity is_reserved (SendvCalls msgs ticket) old ending new
   polls_all ticket waker polled ending told is = record {
@@ -88,13 +78,13 @@ module _ {T P Z W : Type 0} (cmp : P → P → Ordering) (is_clone : W → W →
 
 -- what comes back of a wait to send a pair is the pair
 module _ {T P W : Type 0} (cmp : P → P → Ordering) (is_clone : W → W → Type 0) (capacity : ℕ) (is_reserved : Bool) where
-  pub comes_back : {old new : Carried T P W} {pair : T × P} {ticket : Option ℕ} {ending : Ending (Result (Unit {0}) (SendFault (T × P))) (T × P)}
+  pub comes_back : {old new : Carried T P W} {pair : T × P} {ticket : Option ℕ} {ending : Ending (SendEnd (T × P)) (T × P)}
       → ComesTo cmp is_clone capacity is_reserved SendCalls old pair ticket ending new → IsBack pair ending
   comes_back (at_last made) = made.comes.0
   comes_back {ending = ending} (before made more) = subst (λ (p : T × P). IsBack p ending) made.comes.0 (comes_back more)
   comes_back (gave_up told more) = comes_back more
 
-pub back_in_time : {Q : Type 0} (end : Result (Result (Unit {0}) (SendFault Q)) Q) (pair : Q) → IsBack pair (ends end) → IfErr (send_result end) (λ error. unsent_in_time error ≡ pair)
+pub back_in_time : {Q : Type 0} (end : Result (SendEnd Q) Q) (pair : Q) → IsBack pair (ends end) → IfErr (send_result end) (λ error. unsent_in_time error ≡ pair)
 back_in_time (Ok (Ok done)) pair is = tt
 back_in_time (Ok (Err (fault.Closed e))) pair is = is
 back_in_time (Ok (Err (fault.Memory rest))) pair is = is

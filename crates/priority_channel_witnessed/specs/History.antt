@@ -1,10 +1,7 @@
 -- Histories of calls: for each, its pass's number, the call, the answer, and the waiters that it
 -- woke. They exist in contracts alone.
 use Rattle.std.specs.Prelude.{ℕ, Bool, List, [], map, refl}
-use Rattle.std.specs.declared.cmp.Ordering.{Ordering}
-use Rattle.priority_channel_core.specs.machine.State.{State, Handed, opening}
-use Rattle.priority_channel_core.specs.machine.Step.{Step, Calls, Answers}
-use Rattle.priority_channel_core.specs.machine.Run.{Operation, Run}
+use Rattle.priority_channel_core.specs.Prelude.{State, Handed, opening, Step, Calls, Answers, Operation, Run, Ordering}
 use Rattle.priority_channel_witnessed.specs.declared.entry.Entry.{Entry}
 
 -- a channel's state, and the history of its calls
@@ -14,16 +11,14 @@ pub record Chronicle (T P W : Type 0) : Type 0 where
 
 module _ {T P W : Type 0} where
   abbrev pub entry : ℕ → Calls T P W → Answers T P → Handed W → Entry T P W
-  entry who made reply handed =
-      record { who = who; call = made; answer = reply; handed = handed }
+  entry who made reply handed = record { who = who; call = made; answer = reply; handed = handed }
 
   abbrev pub who_of : Entry T P W → ℕ
   who_of entry = entry.who
 
   -- the entry as a call of a run
   abbrev pub operation_of : Entry T P W → Operation T P W
-  operation_of entry =
-      record { call = entry.call; answer = entry.answer; handed = entry.handed }
+  operation_of entry = record { call = entry.call; answer = entry.answer; handed = entry.handed }
 
   module _ (cmp : P → P → Ordering) (is_clone : W → W → Type 0) where
     -- the entries are a run of the machine, from the opening of such a channel to this state

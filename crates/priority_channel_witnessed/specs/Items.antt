@@ -1,14 +1,12 @@
 -- The pairs of a bulk send: those of a vector's iterator that may have been peeked.
-use Rattle.std.specs.Prelude.{List, [], ◌∷◌, Option, Some, None, Result, Ok, Err}
+use Rattle.std.specs.Prelude.{List, [], ◌∷◌, Option, Some, None, Ok, Err}
 use Rattle.std.specs.declared.vec.IntoIter.{IntoIter}
 use Rattle.std.specs.declared.iter.Ahead.{Ahead}
 use Rattle.std.specs.Vec.Iter.{into_iter_items}
-use Rattle.priority_channel_core.specs.declared.calls.CorePoll.{CorePoll}
 use Rattle.priority_channel_core.specs.declared.calls.CorePoll.TheVariants.{Ready, Pending}
-use Rattle.priority_channel_core.specs.declared.errors.TrySendError.{TrySendError}
 use Rattle.priority_channel_core.specs.declared.errors.TrySendError.TheVariants.{Full, Closed, Memory}
-use Rattle.priority_channel_core.specs.declared.errors.SendFault.{SendFault}
 use Rattle.priority_channel_core.specs.declared.errors.SendFault.TheVariants as send
+use Rattle.priority_channel_core.specs.Prelude.{SendReply, SendPoll}
 
 -- all that is given if this was peeked, and these items stand behind it
 abbrev pub behind : {X : Type 0} → Option (Option X) → List X → List X
@@ -22,8 +20,7 @@ module _ {X Z : Type 0} where
   list_in msgs = behind msgs.peeked (into_iter_items msgs.iter)
 
   -- the machine's reply to a bulk send, with lists in place of iterators
-  abbrev pub listed : Result (Unit {0}) (TrySendError (Ahead (IntoIter X Z) X))
-      → Result (Unit {0}) (TrySendError (List X))
+  abbrev pub listed : SendReply (Ahead (IntoIter X Z) X) → SendReply (List X)
   listed (Ok done) = Ok tt
   listed (Err (Closed rest)) = Err (Closed (list_in rest))
   listed (Err (Full rest)) = Err (Full (list_in rest))
@@ -31,10 +28,8 @@ module _ {X Z : Type 0} where
 
   -- the machine's answer to its poll
   abbrev pub listed_poll
-      : CorePoll (Result (Unit {0}) (SendFault (Ahead (IntoIter X Z) X))) (Ahead (IntoIter X Z) X)
-      → CorePoll (Result (Unit {0}) (SendFault (List X))) (List X)
+      : SendPoll (Ahead (IntoIter X Z) X) → SendPoll (List X)
   listed_poll (Ready (Ok done)) = Ready (Ok tt)
-  listed_poll (Ready (Err (send.Closed e))) =
-      Ready (Err (send.Closed (record { 0 = list_in e.0 })))
+  listed_poll (Ready (Err (send.Closed e))) = Ready (Err (send.Closed (record { 0 = list_in e.0 })))
   listed_poll (Ready (Err (send.Memory rest))) = Ready (Err (send.Memory (list_in rest)))
   listed_poll (Pending rest ticket) = Pending (list_in rest) ticket

@@ -1,10 +1,7 @@
 -- What a pass carries, and what a call adds to it.
-use Rattle.std.specs.Prelude.{◌≡◌, ◌==◌, ◌≤◌, ℕ, Bool, true, not, ◌&&◌, List, [], ◌∷◌, ◌+◌, length, count_by}
-use Rattle.std.specs.List.{sum_by}
-use Rattle.std.specs.declared.cmp.Ordering.{Ordering}
+use Rattle.std.specs.Prelude.{◌≡◌, ◌==◌, ◌≤◌, ℕ, Bool, true, not, ◌&&◌, List, [], ◌∷◌, ◌+◌, length, count_by, sum_by}
 use Rattle.priority_channel_witnessed.specs.declared.entry.Entry.{Entry}
-use Rattle.priority_channel_core.specs.machine.State.{Handed}
-use Rattle.priority_channel_core.specs.machine.Step.{Calls, Answers}
+use Rattle.priority_channel_core.specs.Prelude.{Handed, Calls, Answers, Ordering}
 use Rattle.priority_channel_witnessed.specs.History.{entry, who_of, IsLegal}
 use Rattle.priority_channel_chronicle.specs.Passes as chronicle
 pub use Rattle.priority_channel_chronicle.specs.Passes.{AreNew, calls_made, AreApart}

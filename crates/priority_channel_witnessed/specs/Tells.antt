@@ -3,8 +3,7 @@ use Rattle.std.specs.Prelude.{Option, Some, None}
 use Rattle.std.specs.declared.snapshot.Snapshot.{Snapshot}
 use Rattle.priority_channel_core.specs.declared.calls.Call.TheVariants as call
 use Rattle.priority_channel_core.specs.declared.calls.Answer.TheVariants as answer
-use Rattle.priority_channel_core.specs.machine.State.{Handed, nobody}
-use Rattle.priority_channel_core.specs.machine.Step.{Calls, Answers}
+use Rattle.priority_channel_core.specs.Prelude.{Handed, nobody, Calls, Answers}
 use Rattle.priority_channel_witnessed.specs.declared.entry.Entry.{Entry}
 use Rattle.priority_channel_witnessed.specs.declared.entry.Told.{Told}
 use Rattle.priority_channel_witnessed.specs.declared.entry.Told.TheVariants.{TrySend, TrySendv, TrySendEvicting, TryRecv, Close, IsClosed, IsEmpty, IsFull, Len, Capacity, SenderCount, ReceiverCount, PollSend, PollSendv, PollRecv, GiveUp}

@@ -1,8 +1,7 @@
 -- What a caller knows after its own call, whatever others do.
 use Rattle.std.specs.Prelude.{◌≡◌, ℕ, false, Bool, List, ◌++◌}
-use Rattle.std.specs.declared.cmp.Ordering.{Ordering}
-use Rattle.priority_channel_bag.specs.Greatest.{TakesGreatest}
-use Rattle.priority_channel_core.specs.machine.State.{State, room}
+use Rattle.priority_channel_bag.specs.Prelude.{TakesGreatest}
+use Rattle.priority_channel_core.specs.Prelude.{State, room, Ordering}
 use Rattle.priority_channel_witnessed.specs.declared.entry.Entry.{Entry}
 use Rattle.priority_channel_witnessed.specs.History.{IsHistory}
 

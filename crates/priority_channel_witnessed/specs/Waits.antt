@@ -1,22 +1,15 @@
 -- The calls that a wait makes, and how it ends.
 use Rattle.std.specs.Prelude.{◌≡◌, ℕ, Bool, Option, Some, None, Result, Ok, Err, IfErr, IfSome, IsSomeAnd}
 use Rattle.std.specs.Result.{result_map_both}
-use Rattle.std.specs.declared.cmp.Ordering.{Ordering}
 use Rattle.std.specs.declared.vec.IntoIter.{IntoIter}
 use Rattle.std.specs.declared.iter.Ahead.{Ahead}
 use Rattle.priority_channel_core.specs.declared.errors.TryRecvError.TheVariants.{Empty}
-use Rattle.priority_channel_core.specs.declared.errors.TrySendError.{TrySendError}
 use Rattle.priority_channel_core.specs.declared.errors.TrySendError.TheVariants.{Full}
-use Rattle.priority_channel_core.specs.declared.errors.RecvFault.{RecvFault}
-use Rattle.priority_channel_core.specs.declared.errors.SendFault.{SendFault}
-use Rattle.priority_channel_core.specs.declared.calls.Call.TheVariants as call
-use Rattle.priority_channel_core.specs.declared.calls.Answer.TheVariants as answer
 use Rattle.priority_channel_core.specs.declared.calls.CorePoll.{CorePoll}
 use Rattle.priority_channel_core.specs.declared.calls.CorePoll.TheVariants.{Ready, Pending}
-use Rattle.priority_channel_core.specs.Errors.{unsent}
-use Rattle.priority_channel_core.specs.machine.Polls.{recv_answer, send_answer}
-use Rattle.priority_channel_core.specs.machine.State.{Handed, nobody}
-use Rattle.priority_channel_core.specs.machine.Step.{Calls, Answers}
+use Rattle.priority_channel_core.specs.Prelude.{unsent, recv_answer, send_answer, Handed, nobody, Calls, Answers, Ordering, SendReply, SendEnd, RecvEnd, SendPoll}
+use Rattle.priority_channel_core.specs.declared.calls.Call.TheVariants as call
+use Rattle.priority_channel_core.specs.declared.calls.Answer.TheVariants as answer
 use Rattle.priority_channel_waiting.specs.declared.timeouts.RecvTimeoutError.{RecvTimeoutError}
 use Rattle.priority_channel_waiting.specs.declared.timeouts.RecvTimeoutError.TheVariants as recv_late
 use Rattle.priority_channel_waiting.specs.declared.timeouts.SendTimeoutError.{SendTimeoutError}
@@ -43,12 +36,12 @@ abbrev pub without_evidence : {R X O : Type 0} → Result R (X × O) → Result 
 without_evidence result = result_map_both (λ reply. reply) (λ rest. rest.0) result
 
 -- what a receive with a time limit returns
-abbrev pub recv_result : {X C : Type 0} → Result (Result X RecvFault) C → Result X RecvTimeoutError
+abbrev pub recv_result : {X C : Type 0} → Result (RecvEnd X) C → Result X RecvTimeoutError
 recv_result (Ok received) = result_map_both (λ pair. pair) recv_fault_in_time received
 recv_result (Err call) = Err recv_late.Timeout
 
 -- what a send with a time limit returns
-abbrev pub send_result : {K : Type 0} → Result (Result (Unit {0}) (SendFault K)) K
+abbrev pub send_result : {K : Type 0} → Result (SendEnd K) K
     → Result (Unit {0}) (SendTimeoutError K)
 send_result (Ok sent) = result_map_both (λ done. done) send_fault_in_time sent
 send_result (Err rest) = Err (send_late.Timeout rest)
@@ -67,7 +60,7 @@ polled_to (Ready reply) = ends (Ok reply)
 polled_to (Pending rest at) = left rest (Some at)
 
 -- a send gives back the message that it was given
-abbrev pub IsBack : {Q : Type 0} → Q → Ending (Result (Unit {0}) (SendFault Q)) Q → Type 0
+abbrev pub IsBack : {Q : Type 0} → Q → Ending (SendEnd Q) Q → Type 0
 IsBack pair (ends (Ok sent)) = IfErr sent (λ fault. unsent fault ≡ pair)
 IsBack pair (ends (Err kept)) = kept ≡ pair
 IsBack pair (left kept ticket) = kept ≡ pair
@@ -75,7 +68,7 @@ IsBack pair (left kept ticket) = kept ≡ pair
 module _ {T P W : Type 0} where
   -- the calls of a receive: tries while it is not listed, and polls under its ticket
   abbrev pub RecvCalls : Unit {0} → Option ℕ → Calls T P W → Answers T P
-      → Ending (Result (T × P) RecvFault) (Unit {0}) → Type 0
+      → Ending (RecvEnd (T × P)) (Unit {0}) → Type 0
   RecvCalls nothing ticket call.TryRecv (answer.TryRecv reply) ending =
       (ticket ≡ None) × Tried recv_answer (λ rest. Err Empty) reply ending
   RecvCalls nothing ticket (call.PollRecv given waker) (answer.PollRecv polled) ending =
@@ -84,7 +77,7 @@ module _ {T P W : Type 0} where
 
   -- the calls of a send of this pair
   abbrev pub SendMade : T × P → Option ℕ → Calls T P W → Answers T P
-      → Ending (Result (Unit {0}) (SendFault (T × P))) (T × P) → Type 0
+      → Ending (SendEnd (T × P)) (T × P) → Type 0
   SendMade pair ticket (call.TrySend msg priority) (answer.TrySend reply) ending =
       (ticket ≡ None) × ((msg, priority) ≡ pair)
       × Tried send_answer (λ rest. Err (Full rest)) reply ending
@@ -93,23 +86,22 @@ module _ {T P W : Type 0} where
   SendMade pair ticket made reply ending = ⊥
 
   abbrev pub SendCalls : T × P → Option ℕ → Calls T P W → Answers T P
-      → Ending (Result (Unit {0}) (SendFault (T × P))) (T × P) → Type 0
+      → Ending (SendEnd (T × P)) (T × P) → Type 0
   SendCalls pair ticket made reply ending =
       IsBack pair ending × SendMade pair ticket made reply ending
 
   -- the calls of a bulk send of these pairs
   abbrev pub SendvCalls : {Z : Type 0} → Ahead (IntoIter (T × P) Z) (T × P) → Option ℕ
       → Calls T P W → Answers T P
-      → Ending (Result (Unit {0}) (SendFault (Ahead (IntoIter (T × P) Z) (T × P))))
+      → Ending (SendEnd (Ahead (IntoIter (T × P) Z) (T × P)))
       (Ahead (IntoIter (T × P) Z) (T × P)) → Type 0
   SendvCalls {Z} msgs ticket (call.TrySendv pairs) (answer.TrySendv reply) ending =
       (ticket ≡ None) × (pairs ≡ list_in msgs)
-      × ((known : Result (Unit {0}) (TrySendError (Ahead (IntoIter (T × P) Z) (T × P))))
+      × ((known : SendReply (Ahead (IntoIter (T × P) Z) (T × P)))
       × (reply ≡ listed known) × Tried send_answer (λ rest. Err (Full rest)) known ending)
   SendvCalls {Z} msgs ticket (call.PollSendv pairs given waker) (answer.PollSendv polled) ending =
       (given ≡ ticket) × (pairs ≡ list_in msgs)
-      × ((known : CorePoll (Result (Unit {0}) (SendFault (Ahead (IntoIter (T × P) Z) (T × P))))
-      (Ahead (IntoIter (T × P) Z) (T × P)))
+      × ((known : SendPoll (Ahead (IntoIter (T × P) Z) (T × P)))
       × (polled ≡ listed_poll known) × (ending ≡ polled_to known))
   SendvCalls msgs ticket made reply ending = ⊥
 
@@ -133,8 +125,7 @@ module _ {T P W : Type 0} (cmp : P → P → Ordering) (is_clone : W → W → T
           → Makes (calls own ticket) old ending new
           → ComesTo old own ticket ending new
       before : {old mid new : Carried T P W} {own rest : X} {ticket listed : Option ℕ}
-          {ending : Ending R X}
-          → Makes (calls own ticket) old (left rest listed) mid
+          {ending : Ending R X} → Makes (calls own ticket) old (left rest listed) mid
           → ComesTo mid rest listed ending new
           → ComesTo old own ticket ending new
       gave_up : {old mid new : Carried T P W} {own : X} {ticket : ℕ} {end : Result R X}

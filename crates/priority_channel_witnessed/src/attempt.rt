@@ -1,10 +1,9 @@
 //! The calls that are tried until they are answered: a receive, a send, a bulk send.
 ghost use Rattle.std.specs.Prelude.{◌≡◌, ℕ, Option, Some, None, Ok, Err, IfOk, IfErr};
 ghost use Rattle.priority_channel_core.specs.declared.errors.TrySendError.TheVariants.{Full};
+ghost use Rattle.priority_channel_core.specs.Prelude.{send_answer, Calls, Answers};
 ghost use Rattle.priority_channel_core.specs.declared.calls.Call.TheVariants as call;
 ghost use Rattle.priority_channel_core.specs.declared.errors.SendFault.TheVariants as fault;
-ghost use Rattle.priority_channel_core.specs.machine.Polls.{send_answer};
-ghost use Rattle.priority_channel_core.specs.machine.Step.{Calls, Answers};
 ghost use Rattle.priority_channel_witnessed.specs.Passes.{Tells};
 ghost use Rattle.priority_channel_witnessed.specs.Waits.{Ending, ends, left, Makes, Tried};
 

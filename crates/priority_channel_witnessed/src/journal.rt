@@ -1,8 +1,7 @@
 //! What is kept of the history under the lock.
 ghost use Rattle.std.specs.Prelude.{◌≡◌, ◌+◌, ◌<◌, [], ◌∷◌, ◌++◌, length, vec_len, All, IfOk, IfErr, IfSome};
 ghost use mathlib.Core.List.{IsPrefix};
-ghost use Rattle.priority_channel_core.specs.machine.State.{State};
-ghost use Rattle.priority_channel_core.specs.machine.Step.{Step};
+ghost use Rattle.priority_channel_core.specs.Prelude.{State, Step};
 ghost use Rattle.priority_channel_witnessed.specs.History.{IsHistory};
 ghost use Rattle.priority_channel_witnessed.specs.Passes.{calls_of, calls_made, calls_of_others, AreApart, Accounts, AreGiven, Tells};
 ghost use Rattle.priority_channel_witnessed.specs.Tells.{made_of, handed_told};

@@ -1,7 +1,6 @@
 //! What follows from the definitions alone.
 ghost use Rattle.std.specs.Prelude.{◌≡◌, ◌<◌, ℕ, Bool, Option, List, [], ◌∷◌, ◌++◌};
-ghost use Rattle.priority_channel_core.specs.machine.State.{Handed};
-ghost use Rattle.priority_channel_core.specs.machine.Step.{Calls, Answers};
+ghost use Rattle.priority_channel_core.specs.Prelude.{Handed, Calls, Answers};
 ghost use Rattle.priority_channel_witnessed.specs.declared.entry.Entry.{Entry};
 ghost use Rattle.priority_channel_witnessed.specs.History.{entry, IsLegal, IsNext};
 ghost use Rattle.priority_channel_witnessed.specs.Passes.{Carried, IsTold};

@@ -1,6 +1,5 @@
 //! The numbers of the passes that are out.
-ghost use Rattle.std.specs.Prelude.{◌≡◌, ◌+◌, ◌<◌, ◌∷◌, length, vec_len, slice_index_or, map, ◌++◌, IfOk, IfSome};
-ghost use Rattle.std.specs.List.Sorted.{IsPermutation};
+ghost use Rattle.std.specs.Prelude.{◌≡◌, ◌+◌, ◌<◌, ◌∷◌, length, vec_len, slice_index_or, map, ◌++◌, IfOk, IfSome, IsPermutation};
 ghost use Rattle.priority_channel_witnessed.specs.Passes.{AreGiven};
 
 use crate::chronicle::Pass;

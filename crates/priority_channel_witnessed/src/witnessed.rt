@@ -1,7 +1,7 @@
 //! A channel whose calls many threads make.
 ghost use Rattle.std.specs.Prelude.{◌≡◌, ◌+◌, ◌≤◌, [], length, vec_len, All, IfOk, IfErr, IfSome};
 ghost use mathlib.Core.List.{IsPrefix};
-ghost use Rattle.priority_channel_core.specs.machine.State.{opening, nobody};
+ghost use Rattle.priority_channel_core.specs.Prelude.{opening, nobody};
 ghost use Rattle.priority_channel_witnessed.specs.History.{IsHistory, IsLegal};
 ghost use Rattle.priority_channel_witnessed.specs.Log.{names};
 ghost use Rattle.priority_channel_witnessed.specs.Passes.{calls_of, calls_made, calls_of_others, AreNew, AreApart, Accounts, Tells};

@@ -1,6 +1,6 @@
 //! A service that accepts requests as long as there is room.
 ghost use Rattle.std.specs.Prelude.{◌≡◌};
-ghost use Rattle.priority_channel_core.specs.code.Replies.{OnFull};
+ghost use Rattle.priority_channel_core.specs.Prelude.{OnFull};
 ghost use Rattle.priority_channel_witnessed.specs.Uses.{WasFull};
 
 use crate::{Pass, Recording, Witnessed};

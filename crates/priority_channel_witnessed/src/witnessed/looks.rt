@@ -1,5 +1,5 @@
 //! Queries.
-ghost use Rattle.priority_channel_core.specs.machine.State.{nobody};
+ghost use Rattle.priority_channel_core.specs.Prelude.{nobody};
 ghost use Rattle.priority_channel_witnessed.specs.Passes.{Tells};
 
 use crate::chronicle::Pass;

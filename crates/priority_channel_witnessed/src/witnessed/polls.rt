@@ -1,5 +1,5 @@
 //! Polls, which wait under a ticket, and the end of a wait.
-ghost use Rattle.priority_channel_core.specs.machine.State.{nobody};
+ghost use Rattle.priority_channel_core.specs.Prelude.{nobody};
 ghost use Rattle.priority_channel_witnessed.specs.Passes.{Tells};
 
 use crate::chronicle::Pass;

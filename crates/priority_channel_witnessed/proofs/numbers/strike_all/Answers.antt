@@ -1,5 +1,4 @@
-use Rattle.std.proofs.Common.{◌≡◌, ◌+◌, ◌<◌, ℕ, List, [], ◌∷◌, ◌++◌, map, take, length, arith, ap, sym, ◌∙◌, subst}
-use Rattle.std.specs.List.Sorted.{IsPermutation}
+use Rattle.std.proofs.Common.{◌<◌, ℕ, List, map, take, length, arith, ap, sym, ◌∙◌}
 use Rattle.std.proofs.lemmas.List.{map-append, take_more}
 use Rattle.std.proofs.lemmas.List.Sorted.{IsPermutation-refl, IsPermutation-pop_more}
 use Rattle.priority_channel_witnessed.specs.Passes.{Carried}
@@ -14,11 +13,8 @@ loop-at-preserved g c =
     let number : Carried g.row.T.Denot g.row.P.Denot g.row.W.Denot → ℕ = λ pass. pass.number in
     let at = c.loop-at.at in
     let within : at < length passes = omega (arith, c.loop-at-test.true, c.len-at-end.ensures, c.args.passes.now.ok.0) in
-    let done = map number (take at passes) in
     let own = c.number.ensures ∙ ap number c.index-pass.ensures in
-    let more : map number (take (at + 1) passes) ≡ done ++ c.number.result ∷ [] =
-    ap (map number) (take_more passes at c.index-pass.result.now within) ∙ map-append number (take at passes) _ ∙ ap (λ (n : ℕ). done ++ n ∷ []) (sym own) in
     record {
-      struck = subst (λ (l : List ℕ). IsPermutation c.args.out.now.items (l ++ c.strike.new.out.items)) (sym more)
-          (IsPermutation-pop_more c.args.out.now.items done c.loop-at.out.items c.strike.new.out.items c.number.result c.loop-at.invariant.struck c.strike.ensures.struck);
+      struck = rw (take_more passes at c.index-pass.result.now within, map-append number (take at passes) _, sym own)
+          (IsPermutation-pop_more c.args.out.now.items (map number (take at passes)) c.loop-at.out.items c.strike.new.out.items c.number.result c.loop-at.invariant.struck c.strike.ensures.struck);
     }

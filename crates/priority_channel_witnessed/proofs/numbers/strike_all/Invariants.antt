@@ -1,5 +1,4 @@
-use Rattle.std.proofs.Common.{◌++◌, map, take}
-use Rattle.std.specs.List.Sorted.{IsPermutation}
+use Rattle.std.proofs.Common.{◌++◌, map, take, IsPermutation}
 use Rattle.priority_channel_witnessed.proofs.numbers.strike_all.Given as goal
 
 abbrev pub invariant-loop-at : goal.invariant-loop-at

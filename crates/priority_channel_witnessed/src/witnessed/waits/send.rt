@@ -1,8 +1,7 @@
 //! Sending a pair, with a wait on the thread.
 ghost use Rattle.std.specs.Prelude.{◌≡◌, Ok, None, IfErr, IfSome};
 ghost use Rattle.std.specs.Duration.{as_nanos};
-ghost use Rattle.priority_channel_core.specs.Errors.{rest_of, unsent};
-ghost use Rattle.priority_channel_core.specs.code.Replies.{kept_by};
+ghost use Rattle.priority_channel_core.specs.Prelude.{rest_of, unsent, kept_by};
 ghost use Rattle.priority_channel_waiting.specs.Waits.{unsent_in_time};
 ghost use Rattle.priority_channel_witnessed.specs.Passes.{Tells};
 ghost use Rattle.priority_channel_witnessed.specs.Waits.{ends, send_result, ComesTo, SendCalls};

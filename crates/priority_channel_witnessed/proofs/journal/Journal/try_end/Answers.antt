@@ -1,4 +1,3 @@
-use Rattle.std.proofs.Common.{rules}
 use Rattle.priority_channel_witnessed.proofs.Leaving.{exact, out_apart, all_calls}
 use Rattle.priority_channel_witnessed.proofs.journal.Journal.try_end.Goals as goal
 
@@ -15,6 +14,3 @@ returns-clause-accounts g c =
 pub returns-clause-length : goal.returns-clause-length
 returns-clause-length g c =
     all_calls c.args.passes.items c.end.result (returns-clause-apart g c) (returns-clause-accounts g c)
-
-pub end-requires : goal.end-requires
-end-requires g c = search rules
