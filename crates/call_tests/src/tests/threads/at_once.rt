@@ -84,7 +84,11 @@ fn close_by_many<R: Threaded>(rt: &R, round: u64) {
 #[test]
 fn one_of_many_closes_the_channel(rt: HostRuntime) {
     for round in 0..ROUNDS / 4 {
-        within(&rt, ("many closes at once", round), || close_by_many(&rt, round));
+        within(
+            &rt,
+            ("many closes at once", round),
+            || close_by_many(&rt, round),
+        );
     }
 }
 
