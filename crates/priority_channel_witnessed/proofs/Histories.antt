@@ -20,6 +20,10 @@ module _ {T P W : Type 0} (cmp : P → P → Ordering) (is_clone : W → W → T
   pub history_none : (capacity : ℕ) (is_reserved : Bool) → IsHistory {T = T} cmp is_clone capacity is_reserved [] (opening capacity is_reserved)
   history_none capacity is_reserved = record { leads = refl }
 
+  pub legal_of : (capacity : ℕ) (is_reserved : Bool) (history : List (Entry T P W)) (state : State T P W)
+      → IsHistory cmp is_clone capacity is_reserved history state → IsLegal cmp is_clone capacity is_reserved history
+  legal_of capacity is_reserved history state is = record { state = state; run = is }
+
   -- a run's last call
   last_of : (old new : State T P W) (before : List (Entry T P W)) (last : Entry T P W) → Run cmp is_clone old (map operation_of (before ++ last ∷ [])) new
       → (mid : State T P W) × Run cmp is_clone old (map operation_of before) mid × ((after : State T P W) × Step cmp is_clone mid last.call last.answer last.handed after)

@@ -1,7 +1,6 @@
 -- The list of a vector's iterator that may have been peeked.
 use Rattle.std.proofs.Common.{◌≡◌, ◌+◌, ◌≤◌, ℕ, List, [], ◌∷◌, length, refl, sym, ap, ◌∙◌, subst, arith, Option, Some, None, Ok, Err}
 use Rattle.std.specs.declared.vec.IntoIter.{IntoIter}
-use Rattle.std.specs.declared.iter.Ahead.{Ahead}
 use Rattle.std.specs.Vec.Iter.{into_iter_steps, into_iter_items, into_iter_len}
 use Rattle.std.specs.Iterator.{AlwaysYields}
 use Rattle.std.specs.Iterator.Adapters.{peekable_steps}
@@ -13,10 +12,10 @@ use Rattle.priority_channel_core.specs.declared.errors.SendFault.TheVariants as 
 use Rattle.priority_channel_core.specs.declared.calls.Call.TheVariants as call
 use Rattle.priority_channel_core.specs.declared.calls.Answer.TheVariants as answer
 use Rattle.priority_channel_core.proofs.Lists.{list_at_none, list_at_some, list_from_source}
-use Rattle.priority_channel_witnessed.specs.Items.{behind, list_in, listed, listed_poll}
+use Rattle.priority_channel_witnessed.specs.Items.{Items, behind, list_in, listed, listed_poll}
 
 module _ {X Z : Type 0} where
-  abbrev Has : Ahead (IntoIter X Z) X → List X → Type 0
+  abbrev Has : Items X Z → List X → Type 0
   Has msgs list = HasList (into_iter_steps {X = X} {Z = Z}) msgs list
 
   -- an iterator with these items, which are no more than those of another
@@ -33,17 +32,17 @@ module _ {X Z : Type 0} where
     };
   }
 
-  abbrev unpeeked : IntoIter X Z → Ahead (IntoIter X Z) X
+  abbrev unpeeked : IntoIter X Z → Items X Z
   unpeeked it = record { iter = it; peeked = None }
 
   -- a call where nothing was peeked, and one where something was
-  goes : (m : Ahead (IntoIter X Z) X) (r : Option X) (after : IntoIter X Z) → m.peeked ≡ None → into_iter_steps m.iter r after → peekable_steps into_iter_steps m r (unpeeked after)
+  goes : (m : Items X Z) (r : Option X) (after : IntoIter X Z) → m.peeked ≡ None → into_iter_steps m.iter r after → peekable_steps into_iter_steps m r (unpeeked after)
   goes m r after e step = (refl, rw e step)
 
-  gives : (m : Ahead (IntoIter X Z) X) (o : Option X) → m.peeked ≡ Some o → peekable_steps into_iter_steps m o (unpeeked m.iter)
+  gives : (m : Items X Z) (o : Option X) → m.peeked ≡ Some o → peekable_steps into_iter_steps m o (unpeeked m.iter)
   gives m o e = (refl, rw e (refl, refl))
 
-  given : (m j : Ahead (IntoIter X Z) X) (o r : Option X) → m.peeked ≡ Some o → peekable_steps into_iter_steps m r j → (r ≡ o) × (j.iter ≡ m.iter)
+  given : (m j : Items X Z) (o r : Option X) → m.peeked ≡ Some o → peekable_steps into_iter_steps m r j → (r ≡ o) × (j.iter ≡ m.iter)
   given m j o r e step = rw e at step.1
 
   yields : (items : List X) (it : IntoIter X Z) → into_iter_items it ≡ items → AlwaysYields into_iter_steps (λ x. x) it items
@@ -53,7 +52,7 @@ module _ {X Z : Type 0} where
     λ x j step. let e : y ∷ ys ≡ x ∷ into_iter_items j = sym is ∙ step.0 in (cc, yields ys j (cc)),
   )
 
-  has_at : (m : Ahead (IntoIter X Z) X) (p : Option (Option X)) → m.peeked ≡ p → Has m (behind p (into_iter_items m.iter))
+  has_at : (m : Items X Z) (p : Option (Option X)) → m.peeked ≡ p → Has m (behind p (into_iter_items m.iter))
   has_at m None e = list_from_source into_iter_steps m (into_iter_items m.iter) e (yields (into_iter_items m.iter) m.iter refl)
   has_at m (Some None) e = record {
     runs = λ x j step. let k = given m j None (Some x) e step in let i = k.0 in absurd (cc);
@@ -69,10 +68,10 @@ module _ {X Z : Type 0} where
   }
 
   -- it gives its list
-  pub has_list : (m : Ahead (IntoIter X Z) X) → Has m (list_in m)
+  pub has_list : (m : Items X Z) → Has m (list_in m)
   has_list m = has_at m m.peeked refl
 
-  source_is : (items : List X) (m : Ahead (IntoIter X Z) X) (list : List X) → m.peeked ≡ None → into_iter_items m.iter ≡ items → Has m list → list ≡ items
+  source_is : (items : List X) (m : Items X Z) (list : List X) → m.peeked ≡ None → into_iter_items m.iter ≡ items → Has m list → list ≡ items
   source_is [] m list e is has =
       let none : into_iter_len m.iter ≡ 0 = omega (arith, m.iter.rest.ok.0, ap length is) in
       list_at_none (unpeeked m.iter) has (goes m None m.iter e (none, none))
@@ -82,7 +81,7 @@ module _ {X Z : Type 0} where
       let first = list_at_some (unpeeked after) y has (goes m (Some y) after e (is, omega (arith, long))) in
       first.1 ∙ ap (λ (l : List X). y ∷ l) (source_is ys (unpeeked after) first.0 refl refl first.2)
 
-  list_is_at : (m : Ahead (IntoIter X Z) X) (p : Option (Option X)) (list : List X) → m.peeked ≡ p → Has m list → list ≡ behind p (into_iter_items m.iter)
+  list_is_at : (m : Items X Z) (p : Option (Option X)) (list : List X) → m.peeked ≡ p → Has m list → list ≡ behind p (into_iter_items m.iter)
   list_is_at m None list e has = source_is (into_iter_items m.iter) m list e refl has
   list_is_at m (Some None) list e has = list_at_none (unpeeked m.iter) has (gives m None e)
   list_is_at m (Some (Some x)) list e has =
@@ -90,20 +89,20 @@ module _ {X Z : Type 0} where
       first.1 ∙ ap (λ (l : List X). x ∷ l) (source_is (into_iter_items m.iter) (unpeeked m.iter) first.0 refl refl first.2)
 
   -- and no other
-  list_is : (m : Ahead (IntoIter X Z) X) (list : List X) → Has m list → list ≡ list_in m
+  list_is : (m : Items X Z) (list : List X) → Has m list → list ≡ list_in m
   list_is m list has = list_is_at m m.peeked list refl has
 
 module _ {T P Z : Type 0} where
-  abbrev Holds : Ahead (IntoIter (T × P) Z) (T × P) → List (T × P) → Type 0
+  abbrev Holds : Items (T × P) Z → List (T × P) → Type 0
   Holds msgs list = HasList (into_iter_steps {X = T × P} {Z = Z}) msgs list
 
-  reply_is : (reply : SendReply (Ahead (IntoIter (T × P) Z) (T × P))) (told : SendReply (List (T × P))) → SameReply Holds reply told → told ≡ listed reply
+  reply_is : (reply : SendReply (Items (T × P) Z)) (told : SendReply (List (T × P))) → SameReply Holds reply told → told ≡ listed reply
   reply_is (Ok done) told same = same
   reply_is (Err (Closed m)) told same = same.1 ∙ ap (λ (l : List (T × P)). Err (Closed l)) (list_is m same.0 same.2)
   reply_is (Err (Full m)) told same = same.1 ∙ ap (λ (l : List (T × P)). Err (Full l)) (list_is m same.0 same.2)
   reply_is (Err (Memory m)) told same = same.1 ∙ ap (λ (l : List (T × P)). Err (Memory l)) (list_is m same.0 same.2)
 
-  poll_is : (poll : SendPoll (Ahead (IntoIter (T × P) Z) (T × P))) (told : SendPoll (List (T × P))) → SamePoll Holds poll told → told ≡ listed_poll poll
+  poll_is : (poll : SendPoll (Items (T × P) Z)) (told : SendPoll (List (T × P))) → SamePoll Holds poll told → told ≡ listed_poll poll
   poll_is (Ready (Ok done)) told same = same
   poll_is (Ready (Err (send.Closed e))) told same =
       same.1 ∙ ap (λ (l : List (T × P)). Ready (Err (send.Closed (record { 0 = l })))) (list_is e.0 same.0 same.2)
@@ -112,7 +111,7 @@ module _ {T P Z : Type 0} where
 
   module _ {W : Type 0} (cmp : P → P → Ordering) (is_clone : W → W → Type 0) where
     -- a bulk send of the code is the machine's, of the iterator's list
-    pub sends_list : (old new : State T P W) (msgs : Ahead (IntoIter (T × P) Z) (T × P)) (reply : SendReply (Ahead (IntoIter (T × P) Z) (T × P))) (handed : Handed W)
+    pub sends_list : (old new : State T P W) (msgs : Items (T × P) Z) (reply : SendReply (Items (T × P) Z)) (handed : Handed W)
         → Performs Holds cmp is_clone old (call.TrySendv msgs) (answer.TrySendv reply) handed new
         → Step cmp is_clone old (call.TrySendv (list_in msgs)) (answer.TrySendv (listed reply)) handed new
     sends_list old new msgs reply handed performs =
@@ -121,7 +120,7 @@ module _ {T P Z : Type 0} where
         (k.1.1 ∙ ap (λ (r : SendReply (List (T × P))). answer.TrySendv r) (reply_is reply k.1.0 k.1.2)) k.2
 
     -- and so is its poll
-    pub polls_list : (old new : State T P W) (msgs : Ahead (IntoIter (T × P) Z) (T × P)) (ticket : Option ℕ) (waker : W) (poll : SendPoll (Ahead (IntoIter (T × P) Z) (T × P))) (handed : Handed W)
+    pub polls_list : (old new : State T P W) (msgs : Items (T × P) Z) (ticket : Option ℕ) (waker : W) (poll : SendPoll (Items (T × P) Z)) (handed : Handed W)
         → Performs Holds cmp is_clone old (call.PollSendv msgs ticket waker) (answer.PollSendv poll) handed new
         → Step cmp is_clone old (call.PollSendv (list_in msgs) ticket waker) (answer.PollSendv (listed_poll poll)) handed new
     polls_list old new msgs ticket waker poll handed performs =

@@ -1,7 +1,5 @@
 -- The calls of a wait, and what comes back of a send.
 use Rattle.std.proofs.Common.{◌≡◌, ℕ, Bool, List, [], ◌∷◌, ◌++◌, length, refl, sym, ap, subst, arith, length-append, append_assoc, ◌∙◌, Option, Some, None, ◌<◌, Result, Ok, Err, IfOk, IfErr, IfSome}
-use Rattle.std.specs.declared.vec.IntoIter.{IntoIter}
-use Rattle.std.specs.declared.iter.Ahead.{Ahead}
 use Rattle.priority_channel_core.specs.declared.errors.TrySendError.TheVariants.{Full, Closed, Memory}
 use Rattle.priority_channel_core.specs.Prelude.{rest_of, send_answer, kept_by, State, Handed, as_list, Sends, Calls, Answers, Ordering, SendReply, SendEnd, SendPoll}
 use Rattle.priority_channel_core.specs.declared.errors.SendFault.TheVariants as fault
@@ -11,9 +9,9 @@ use Rattle.priority_channel_core.specs.declared.calls.Answer.TheVariants as answ
 use Rattle.priority_channel_core.proofs.Polls.{kept_callable}
 use Rattle.priority_channel_witnessed.specs.History.{entry}
 use Rattle.priority_channel_witnessed.specs.declared.entry.Entry.{Entry}
-use Rattle.priority_channel_witnessed.specs.Items.{list_in, listed, listed_poll}
+use Rattle.priority_channel_witnessed.specs.Items.{Items, list_in, listed, listed_poll}
 use Rattle.priority_channel_witnessed.specs.Passes.{Carried, IsTold, Tells}
-use Rattle.priority_channel_witnessed.specs.Waits.{Ending, ends, Underway, Makes, ComesTo, at_last, before, gave_up, Gives, IsBack, Tried, send_result, polled_to, SendCalls, SendvCalls}
+use Rattle.priority_channel_witnessed.specs.Waits.{Ending, SendEnding, ends, Underway, Makes, ComesTo, at_last, before, gave_up, Gives, IsBack, Tried, send_result, polled_to, SendCalls, SendvCalls}
 use Rattle.priority_channel_witnessed.proofs.Histories.{told_step}
 
 -- who gets the only pair back gets that pair
@@ -46,13 +44,10 @@ module _ {T P W : Type 0} where
         let moves = next.step.moves in
         kept_callable (λ kept. kept ≡ (msg, priority)) moves.reply moves.ticket polled (back_is next.old moves.mid msg priority moves.reply handed moves.tried) moves.answered
 
-abbrev Msgs : Type 0 → Type 0 → Type 0 → Type 0
-Msgs T P Z = Ahead (IntoIter (T × P) Z) (T × P)
-
 -- a bulk send's try and its poll are calls of its wait
-module _ {T P Z W : Type 0} (cmp : P → P → Ordering) (is_clone : W → W → Type 0) (capacity : ℕ) (is_reserved : Bool) (old new : Carried T P W) (msgs : Msgs T P Z) (handed : Handed W) where
-  pub tries_on : (ending : Msgs T P Z → Ending (SendEnd (Msgs T P Z)) (Msgs T P Z)) (reply : SendReply (Msgs T P Z))
-      (result : Result (SendEnd (Msgs T P Z)) (Msgs T P Z))
+module _ {T P Z W : Type 0} (cmp : P → P → Ordering) (is_clone : W → W → Type 0) (capacity : ℕ) (is_reserved : Bool) (old new : Carried T P W) (msgs : Items (T × P) Z) (handed : Handed W) where
+  pub tries_on : (ending : Items (T × P) Z → SendEnding (Items (T × P) Z)) (reply : SendReply (Items (T × P) Z))
+      (result : Result (SendEnd (Items (T × P) Z)) (Items (T × P) Z))
       → Tells cmp is_clone capacity is_reserved old (call.TrySendv (list_in msgs)) (answer.TrySendv (listed reply)) handed new
       → IfErr result (λ rest. Tried send_answer (λ blocked. Err (Full blocked)) reply (ending rest))
       → IfErr result (λ rest. Makes cmp is_clone capacity is_reserved (SendvCalls msgs None) old (ending rest) new)
@@ -65,7 +60,7 @@ module _ {T P Z W : Type 0} (cmp : P → P → Ordering) (is_clone : W → W →
     comes = (refl, refl, (reply, refl, tried));
   }
 
-  pub polls_all : (ticket : Option ℕ) (waker : W) (polled : SendPoll (Msgs T P Z)) (ending : Ending (SendEnd (Msgs T P Z)) (Msgs T P Z))
+  pub polls_all : (ticket : Option ℕ) (waker : W) (polled : SendPoll (Items (T × P) Z)) (ending : SendEnding (Items (T × P) Z))
       → Tells cmp is_clone capacity is_reserved old (call.PollSendv (list_in msgs) ticket waker) (answer.PollSendv (listed_poll polled)) handed new → ending ≡ polled_to polled
       → Makes cmp is_clone capacity is_reserved (SendvCalls msgs ticket) old ending new
   polls_all ticket waker polled ending told is = record {
@@ -78,7 +73,7 @@ module _ {T P Z W : Type 0} (cmp : P → P → Ordering) (is_clone : W → W →
 
 -- what comes back of a wait to send a pair is the pair
 module _ {T P W : Type 0} (cmp : P → P → Ordering) (is_clone : W → W → Type 0) (capacity : ℕ) (is_reserved : Bool) where
-  pub comes_back : {old new : Carried T P W} {pair : T × P} {ticket : Option ℕ} {ending : Ending (SendEnd (T × P)) (T × P)}
+  pub comes_back : {old new : Carried T P W} {pair : T × P} {ticket : Option ℕ} {ending : SendEnding (T × P)}
       → ComesTo cmp is_clone capacity is_reserved SendCalls old pair ticket ending new → IsBack pair ending
   comes_back (at_last made) = made.comes.0
   comes_back {ending = ending} (before made more) = subst (λ (p : T × P). IsBack p ending) made.comes.0 (comes_back more)

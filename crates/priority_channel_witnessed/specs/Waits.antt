@@ -1,8 +1,6 @@
 -- The calls that a wait makes, and how it ends.
 use Rattle.std.specs.Prelude.{◌≡◌, ℕ, Bool, Option, Some, None, Result, Ok, Err, IfErr, IfSome, IsSomeAnd}
 use Rattle.std.specs.Result.{result_map_both}
-use Rattle.std.specs.declared.vec.IntoIter.{IntoIter}
-use Rattle.std.specs.declared.iter.Ahead.{Ahead}
 use Rattle.priority_channel_core.specs.declared.errors.TryRecvError.TheVariants.{Empty}
 use Rattle.priority_channel_core.specs.declared.errors.TrySendError.TheVariants.{Full}
 use Rattle.priority_channel_core.specs.declared.calls.CorePoll.{CorePoll}
@@ -15,7 +13,7 @@ use Rattle.priority_channel_waiting.specs.declared.timeouts.RecvTimeoutError.The
 use Rattle.priority_channel_waiting.specs.declared.timeouts.SendTimeoutError.{SendTimeoutError}
 use Rattle.priority_channel_waiting.specs.declared.timeouts.SendTimeoutError.TheVariants as send_late
 use Rattle.priority_channel_waiting.specs.Waits.{recv_fault_in_time, send_fault_in_time}
-use Rattle.priority_channel_witnessed.specs.Items.{list_in, listed, listed_poll}
+use Rattle.priority_channel_witnessed.specs.Items.{Items, list_in, listed, listed_poll}
 use Rattle.priority_channel_witnessed.specs.Passes.{Carried, Tells}
 
 -- A wait has ended: with its reply, or, if its time is over, with the work that is left. Or work is
@@ -23,6 +21,10 @@ use Rattle.priority_channel_witnessed.specs.Passes.{Carried, Tells}
 pub data Ending (R X : Type 0) : Type 0 where
   ends : Result R X → Ending R X
   left : X → Option ℕ → Ending R X
+
+-- what a send comes to: it gives back `K`, or goes on with it
+abbrev pub SendEnding : Type 0 → Type 0
+SendEnding K = Ending (SendEnd K) K
 
 -- a future: its pass and the work that is left, until it has answered; its ticket, once listed; and
 -- the source of its wakes
@@ -60,7 +62,7 @@ polled_to (Ready reply) = ends (Ok reply)
 polled_to (Pending rest at) = left rest (Some at)
 
 -- a send gives back the message that it was given
-abbrev pub IsBack : {Q : Type 0} → Q → Ending (SendEnd Q) Q → Type 0
+abbrev pub IsBack : {Q : Type 0} → Q → SendEnding Q → Type 0
 IsBack pair (ends (Ok sent)) = IfErr sent (λ fault. unsent fault ≡ pair)
 IsBack pair (ends (Err kept)) = kept ≡ pair
 IsBack pair (left kept ticket) = kept ≡ pair
@@ -76,8 +78,7 @@ module _ {T P W : Type 0} where
   RecvCalls nothing ticket made reply ending = ⊥
 
   -- the calls of a send of this pair
-  abbrev pub SendMade : T × P → Option ℕ → Calls T P W → Answers T P
-      → Ending (SendEnd (T × P)) (T × P) → Type 0
+  abbrev pub SendMade : T × P → Option ℕ → Calls T P W → Answers T P → SendEnding (T × P) → Type 0
   SendMade pair ticket (call.TrySend msg priority) (answer.TrySend reply) ending =
       (ticket ≡ None) × ((msg, priority) ≡ pair)
       × Tried send_answer (λ rest. Err (Full rest)) reply ending
@@ -85,24 +86,22 @@ module _ {T P W : Type 0} where
       (given ≡ ticket) × ((msg, priority) ≡ pair) × (ending ≡ polled_to polled)
   SendMade pair ticket made reply ending = ⊥
 
-  abbrev pub SendCalls : T × P → Option ℕ → Calls T P W → Answers T P
-      → Ending (SendEnd (T × P)) (T × P) → Type 0
+  abbrev pub SendCalls : T × P → Option ℕ → Calls T P W → Answers T P → SendEnding (T × P)
+      → Type 0
   SendCalls pair ticket made reply ending =
       IsBack pair ending × SendMade pair ticket made reply ending
 
   -- the calls of a bulk send of these pairs
-  abbrev pub SendvCalls : {Z : Type 0} → Ahead (IntoIter (T × P) Z) (T × P) → Option ℕ
-      → Calls T P W → Answers T P
-      → Ending (SendEnd (Ahead (IntoIter (T × P) Z) (T × P)))
-      (Ahead (IntoIter (T × P) Z) (T × P)) → Type 0
+  abbrev pub SendvCalls : {Z : Type 0} → Items (T × P) Z → Option ℕ → Calls T P W → Answers T P
+      → SendEnding (Items (T × P) Z) → Type 0
   SendvCalls {Z} msgs ticket (call.TrySendv pairs) (answer.TrySendv reply) ending =
       (ticket ≡ None) × (pairs ≡ list_in msgs)
-      × ((known : SendReply (Ahead (IntoIter (T × P) Z) (T × P)))
-      × (reply ≡ listed known) × Tried send_answer (λ rest. Err (Full rest)) known ending)
+      × ((known : SendReply (Items (T × P) Z)) × (reply ≡ listed known)
+      × Tried send_answer (λ rest. Err (Full rest)) known ending)
   SendvCalls {Z} msgs ticket (call.PollSendv pairs given waker) (answer.PollSendv polled) ending =
       (given ≡ ticket) × (pairs ≡ list_in msgs)
-      × ((known : SendPoll (Ahead (IntoIter (T × P) Z) (T × P)))
-      × (polled ≡ listed_poll known) × (ending ≡ polled_to known))
+      × ((known : SendPoll (Items (T × P) Z)) × (polled ≡ listed_poll known)
+      × (ending ≡ polled_to known))
   SendvCalls msgs ticket made reply ending = ⊥
 
 module _ {T P W : Type 0} (cmp : P → P → Ordering) (is_clone : W → W → Type 0) (capacity : ℕ)

@@ -1,4 +1,4 @@
-use Rattle.priority_channel_witnessed.proofs.Histories.{history_more}
+use Rattle.priority_channel_witnessed.proofs.Histories.{history_more, legal_of}
 use Rattle.priority_channel_witnessed.proofs.Leaving.{shared_more}
 use Rattle.priority_channel_witnessed.proofs.journal.Journal.enter.Goals as goal
 
@@ -10,7 +10,7 @@ invariant_of-self g c =
 pub enter-requires-clause-legal : goal.enter-requires-clause-legal
 enter-requires-clause-legal g c =
     let step = c.requires.step in
-    record { state = _; run = history_more g.P.Ord.cmp g.W.Clone.is_clone _ _ _ _ _ _ (rw (← c.self.view_is) at step.1) step.2 }
+    legal_of g.P.Ord.cmp g.W.Clone.is_clone _ _ _ _ (history_more g.P.Ord.cmp g.W.Clone.is_clone _ _ _ _ _ _ (rw (← c.self.view_is) at step.1) step.2)
 
 pub returns-clause-leads : goal.returns-clause-leads
 returns-clause-leads g c =
