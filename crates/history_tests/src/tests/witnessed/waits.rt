@@ -32,6 +32,17 @@ impl<R: Clock> Clock for Counting<'_, R> {
     }
 }
 
+fn deadline<R: Host>(rt: &R) -> Instant {
+    let now = Instant::now(rt).expect(rt, "a clock");
+    now.checked_add(limit())
+        .expect(rt, "a time that the clock has")
+}
+
+fn expect_past<R: Host>(rt: &R, deadline: Instant) {
+    let now = Instant::now(rt).expect(rt, "a clock");
+    expect_equal(rt, deadline <= now, true);
+}
+
 /// A receive from an empty channel, and sends into one that is full with a pair. A waiter whose
 /// time has passed is listed no more. Then calls without time: each is a try, which asks for no
 /// memory, so the request that is to be refused never comes. Of three pairs by one call one is sent
@@ -54,10 +65,18 @@ pub(super) fn end_in_time<'a, J: Recording, R: Host>(
     expect_equal(rt, late, Err(RecvTimeoutError::Timeout));
     let is_right = readings < 20 && took >= limit();
     expect_equal(rt, (readings, took, is_right), (readings, took, true));
+    let end = deadline(rt);
+    let late = channel.recv_deadline(rt, &mut pass, end);
+    expect_equal(rt, late, Err(RecvTimeoutError::Timeout));
+    expect_past(rt, end);
     let (_, wakes) = channel.try_send(rt, &mut pass, 1, 5);
     expect_equal(rt, count(wakes), 0);
     let late = channel.send_timeout(rt, &mut pass, 2, 6, limit());
     expect_equal(rt, late, Err(SendTimeoutError::Timeout((2, 6))));
+    let end = deadline(rt);
+    let late = channel.send_deadline(rt, &mut pass, 2, 6, end);
+    expect_equal(rt, late, Err(SendTimeoutError::Timeout((2, 6))));
+    expect_past(rt, end);
     let (_, wakes) = channel.try_recv(rt, &mut pass);
     expect_equal(rt, count(wakes), 0);
 
@@ -78,7 +97,12 @@ pub(super) fn end_in_time<'a, J: Recording, R: Host>(
 
     let pairs = Vec::from_array(alloc, [(7u64, 1u64), (8, 1), (9, 1)]).expect(rt, "memory");
     let sent = channel.sendv_timeout(rt, &mut pass, pairs.into_iter().peekable(), limit());
-    let error = sent.err().expect(rt, "room for one and not for three");
+    let rest = sent.err().expect(rt, "room for one and not for three");
+    expect_equal(rt, rest.is_timeout(), true);
+    let end = deadline(rt);
+    let sent = channel.sendv_deadline(rt, &mut pass, rest.into_inner(), end);
+    expect_past(rt, end);
+    let error = sent.err().expect(rt, "room for none");
     let told = (error.is_timeout(), error.into_inner().count());
     expect_equal(rt, told, (true, 2));
     passes.push(pass).expect(rt, "its own place");
