@@ -40,13 +40,13 @@ fn deadline<R: Host>(rt: &R) -> Instant {
 
 fn expect_past<R: Host>(rt: &R, deadline: Instant) {
     let now = Instant::now(rt).expect(rt, "a clock");
-    expect_equal(rt, deadline <= now, true);
+    expect_equal(rt, (deadline, now, deadline <= now), (deadline, now, true));
 }
 
-/// A receive from an empty channel, and sends into one that is full with a pair. A waiter whose
-/// time has passed is listed no more. Then calls without time: each is a try, which asks for no
-/// memory, so the request that is to be refused never comes. Of three pairs by one call one is sent
-/// in the end.
+/// A receive from an empty channel, and sends into one that is full with a pair. None ends before
+/// its limit or its deadline, and a waiter whose time has passed is listed no more. Then calls
+/// without time: each is a try, which asks for no memory, so the request that is to be refused
+/// never comes. Of three pairs by one call one is sent in the end.
 pub(super) fn end_in_time<'a, J: Recording, R: Host>(
     rt: &R,
     alloc: Alloc<'a>,
@@ -71,8 +71,10 @@ pub(super) fn end_in_time<'a, J: Recording, R: Host>(
     expect_past(rt, end);
     let (_, wakes) = channel.try_send(rt, &mut pass, 1, 5);
     expect_equal(rt, count(wakes), 0);
+    let end = deadline(rt);
     let late = channel.send_timeout(rt, &mut pass, 2, 6, limit());
     expect_equal(rt, late, Err(SendTimeoutError::Timeout((2, 6))));
+    expect_past(rt, end);
     let end = deadline(rt);
     let late = channel.send_deadline(rt, &mut pass, 2, 6, end);
     expect_equal(rt, late, Err(SendTimeoutError::Timeout((2, 6))));
@@ -96,7 +98,9 @@ pub(super) fn end_in_time<'a, J: Recording, R: Host>(
     expect_equal(rt, alloc.refuse_none(), true);
 
     let pairs = Vec::from_array(alloc, [(7u64, 1u64), (8, 1), (9, 1)]).expect(rt, "memory");
+    let end = deadline(rt);
     let sent = channel.sendv_timeout(rt, &mut pass, pairs.into_iter().peekable(), limit());
+    expect_past(rt, end);
     let rest = sent.err().expect(rt, "room for one and not for three");
     expect_equal(rt, rest.is_timeout(), true);
     let end = deadline(rt);

@@ -45,3 +45,6 @@ returns-in-Ok-clause-cost g c =
     let one = c.try_recv-first.ensures.cost in
     let more = c.receive_more-more.ensures.cost in
     (omega (arith, total, count, one.0, more.0), omega (arith, one.1, more.1), λ known. more.2 (one.2 known))
+
+pub returns-in-Err-clause-pending : goal.returns-in-Err-clause-pending
+returns-in-Err-clause-pending g c = search rules

@@ -22,3 +22,6 @@ loop-sent-preserved g c =
       limit = λ h. omega (arith, longer, one, ready.0, ready.2);
       cost = omega (arith, push_costs c.loop-sent.sent (length c.loop-sent.bag.pending) (length c.push.new.self.pending) (omega (arith, same, longer, one)), c.push.ensures.cost, c.loop-sent.invariant.cost, ap (λ (b : Contents g.row.T.Denot g.row.P.Denot). b.comparisons) c.prepare.ensures.same);
     }
+
+pub returns-then-not-prepare-clause-moved : goal.returns-then-not-prepare-clause-moved
+returns-then-not-prepare-clause-moved g c = search rules

@@ -1,5 +1,9 @@
+use Rattle.std.proofs.Common.{rules}
 use Rattle.priority_channel_witnessed.proofs.Leaving.{exact, out_apart, all_calls}
 use Rattle.priority_channel_witnessed.proofs.journal.Journal.try_end.Goals as goal
+
+pub end-requires : goal.end-requires
+end-requires g c = search rules
 
 pub returns-clause-apart : goal.returns-clause-apart
 returns-clause-apart g c =
