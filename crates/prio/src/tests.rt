@@ -109,7 +109,8 @@ fn answers_each_line(rt: HostRuntime) {
         ),
         ("reserved 10", "ok\n"),
         (
-            "unbounded\ncapacity\nsendv 1 a 3 c 2 b\nrecv\nrecv\nclose\nsend 4 d\nsendv\nrecv\nrecv\nlen\n",
+            "unbounded\ncapacity\nsendv 1 a 3 c 2 b\nrecv\nrecv\nclose\n\
+             send 4 d\nsendv\nrecv\nrecv\nlen\n",
             "ok\nnone\nok\nc 3\nb 2\ntrue\nclosed\nclosed 0\na 1\nclosed\n0\n",
         ),
         // A bulk send that just fills the channel is `ok`, and into a full one even an empty one is
@@ -120,7 +121,8 @@ fn answers_each_line(rt: HostRuntime) {
         ),
         // So it is into a reserved channel, and on a closed channel nothing is sent.
         (
-            "reserved 2\nsendv\nlen\nsendv -1 a 0 b 1 c 2 d\nlen\nclose\nsendv 3 e 4 f\nlen\nrecv\nrecv\nrecv\n",
+            "reserved 2\nsendv\nlen\nsendv -1 a 0 b 1 c 2 d\nlen\nclose\nsendv 3 e 4 f\nlen\n\
+             recv\nrecv\nrecv\n",
             "ok\nok\n0\nfull 2\n2\ntrue\nclosed 2\n2\nb 0\na -1\nclosed\n",
         ),
         // Pairs of one bulk send with equal priorities come out in its order.

@@ -87,7 +87,8 @@ fn answers_a_send_that_is_refused_memory(rt: HostRuntime) {
 fn answers_a_bulk_send_that_is_refused_memory(rt: HostRuntime) {
     assert_answers_refusals(
         &rt,
-        "unbounded\ncapacity\nsendv 1 a 3 c 2 b\nrecv\nrecv\nclose\nsend 4 d\nsendv\nrecv\nrecv\nlen\n",
+        "unbounded\ncapacity\nsendv 1 a 3 c 2 b\nrecv\nrecv\nclose\n\
+         send 4 d\nsendv\nrecv\nrecv\nlen\n",
         "ok\nnone\nok\nc 3\nb 2\ntrue\nclosed\nclosed 0\na 1\nclosed\n0\n",
         &[
             "ok\nnone\nmemory 1\nc 3\na 1\ntrue\nclosed\nclosed 0\nclosed\nclosed\n0\n",

@@ -11,7 +11,8 @@ const ROUNDS: u64 = 400;
 // How many threads close a channel.
 const CLOSES: usize = 16;
 
-// Waits until `count` threads have arrived. The watchdog of each test limits the wait.
+// Waits until `count` threads have arrived. It does not sleep, so that they go on at the same
+// moment. The watchdog of each test limits the wait.
 fn meet(arrived: &AtomicUsize, count: usize) {
     arrived.fetch_add(1, Ordering::SeqCst);
     for _ in 0..u64::MAX {
