@@ -102,7 +102,8 @@ pub(super) fn end_in_time<'a, J: Recording, R: Host>(
     let sent = channel.sendv_timeout(rt, &mut pass, pairs.into_iter().peekable(), limit());
     expect_past(rt, end);
     let rest = sent.err().expect(rt, "room for one and not for three");
-    expect_equal(rt, rest.is_timeout(), true);
+    let told = (rest.is_timeout(), channel.len(rt, &mut pass));
+    expect_equal(rt, told, (true, 1));
     let end = deadline(rt);
     let sent = channel.sendv_deadline(rt, &mut pass, rest.into_inner(), end);
     expect_past(rt, end);
