@@ -10,7 +10,7 @@ use crate::tests::{expect_equal_at, expect_true};
 use async_priority_channel::{bounded, bounded_reserved};
 use refusing::Refusing;
 use std::thread;
-use std::time::Duration;
+use std::time::{Duration, Instant};
 
 // A wait asks for a waiter, and for an entry in the list of those that wait. A batch asks for its
 // memory too, a loop never fails, and a task asks for more.
@@ -94,31 +94,43 @@ fn a_loop_asks_once_a_wait_and_goes_on_without_memory(rt: HostRuntime) {
     let alloc = Refusing::new(rt.alloc());
     let (tx, rx) = bounded_reserved(&rt, &alloc, 1).expect(&rt, "a channel");
     let send = |number: u64| {
+        // However long the loop takes on a busy machine.
+        wait_until(&rt, || tx.is_empty());
         let_others_wait(&rt);
         expect_true(&rt, tx.try_send(number, 0).is_ok(), "there is room");
-        alloc.count()
     };
-    let (received, (asked, in_vain)) = beside(
+    let (received, (asked, in_vain, millis)) = beside(
         &rt,
         "a loop that waits again and again",
         || rx.iter().take(17).count(),
         || {
-            let before = send(0);
+            send(0);
+            let before = alloc.count();
             for number in 1..15u64 {
                 send(number);
             }
+            wait_until(&rt, || tx.is_empty());
             let_others_wait(&rt);
+            let refused_from = alloc.count();
+            let begun = Instant::now(&rt).expect(&rt, "a clock");
             alloc.refuse_all();
-            let begun = send(15);
-            thread::sleep(&rt, Duration::from_millis(200));
-            let ended = send(16);
-            (begun.saturating_sub(before), ended.saturating_sub(begun))
+            send(15);
+            wait_until(&rt, || alloc.count() > refused_from.wrapping_add(20));
+            let in_vain = alloc.count().saturating_sub(refused_from);
+            let took = begun.elapsed(&rt).expect(&rt, "a clock");
+            send(16);
+            (
+                refused_from.saturating_sub(before),
+                in_vain,
+                took.as_millis(),
+            )
         },
     );
     // With a waiter of its own each of the waits would ask twice.
     expect_equal_at(&rt, asked, (received, asked < 22), (17, true));
-    // One request a millisecond, or fewer on a busy machine.
-    expect_equal_at(&rt, in_vain, 5 < in_vain && in_vain < 500, true);
+    // At most one request a millisecond.
+    let most = millis.wrapping_add(2);
+    expect_equal_at(&rt, (in_vain, millis), u128::from(in_vain) <= most, true);
 }
 
 // A wait that is over, or a future that is dropped, has left the list. So the next ones find the
