@@ -16,12 +16,12 @@ use std::marker::Model;
 /// A bag of pairs of a message and a priority. `pop` takes out the pair of greatest priority, and
 /// among equals the one pushed first.
 ///
-/// A pair is pushed into a slot that was made before, by `reserved` or `make_slot`. So a push
+/// A pair is pushed into a slot that was made before, by `reserved` or `make_place`. So a push
 /// cannot fail:
 ///
 /// ```
 /// let mut bag = Bag::new(alloc);
-/// bag.make_slot()?;
+/// bag.make_place()?;
 /// bag.push("build", 3);
 /// assert_eq!(rt; bag.pop(), Some(("build", 3)));
 /// ```
@@ -91,7 +91,7 @@ impl<T, P: Ord, A: Allocator> Bag<T, P, A> {
     /// 2^63 - 1 pairs. Then nothing has changed.
     #[inline(always)]
     #[tactic(auto, using(crate::proofs::Kept::length_in_order))]
-    pub fn make_slot(&mut self) -> Result<(), AllocError>
+    pub fn make_place(&mut self) -> Result<(), AllocError>
         ensures same { self.new ≡ record self.old { slots = self.new.slots } }
         ensures slots { OnOk result (length self.new.pending < self.new.slots) }
         ensures kept { self.old.slots ≤ self.new.slots }

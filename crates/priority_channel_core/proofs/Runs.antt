@@ -1,6 +1,6 @@
 -- Runs of the code's calls, one more call at a time.
 use Rattle.std.proofs.lemmas.Slice.Zip.{all_zipped_more}
-use Rattle.std.proofs.Common.{◌≡◌, ℕ, ◌+◌, List, [], ◌∷◌, ◌++◌, length, map, drop, refl, ap, ◌∙◌, append_assoc, drop-drop, arith, Bool, true, Option, IfSome, IfOk, is_ok, OnOk, Result}
+use Rattle.std.proofs.Common.{◌≡◌, ℕ, ◌+◌, List, [], ◌∷◌, ◌++◌, length, map, drop, refl, ap, ◌∙◌, append_assoc, drop-drop, arith, Bool, true, Option, IfSome, IfNone, IfOk, is_ok, OnOk, OnErr, Result, Ok, Err, All}
 use Rattle.std.specs.List.{AllZip}
 use Rattle.std.proofs.lemmas.List.{map-append}
 use Rattle.priority_channel_bag.specs.Prelude.{Changes, PassesFirst}
@@ -110,21 +110,40 @@ module _ {T P W M F : Type 0} (holds : M → List (T × P) → Type 0) (cmp : P 
             Run-more cmp is_clone old mid new run ran r moves,
           )
 
-module _ {T P W M F : Type 0} (meets : F → T × P → Type 0) (made : Call T P W M F) (reply : Answer T P M) (test : F) where
-  pub taking_meets : (taken : Option (T × P)) → made ≡ TakeWhere test → reply ≡ answer.TakeWhere taken → IfSome taken (meets test) → MeetsTest meets made reply
-  taking_meets taken is told met = grind arith
+module _ {T P W M F : Type 0} (passes fails : F → T × P → Type 0) (old new : List (T × P)) (made : Call T P W M F) (reply : Answer T P M) (test : F) where
+  pub taking_meets : (taken : Option (T × P)) → made ≡ TakeWhere test → reply ≡ answer.TakeWhere taken → IfSome taken (passes test) → IfNone taken (All (fails test) old)
+      → MeetsTest passes fails old made reply new
+  taking_meets taken is told met none = grind arith
 
-  pub change_meets : (priority : P) (changed : Result P P) (pending new : List (T × P)) (fails : T × P → Type 0)
-      → made ≡ ChangePriority test priority → reply ≡ answer.ChangePriority changed
-      → IfOk changed (λ was. (change : Changes pending was priority new) × PassesFirst (meets test) fails change) → MeetsTest meets made reply
-  change_meets priority changed pending new fails is told met = grind arith
+  pub change_meets : (priority : P) (changed : Result P P) → made ≡ ChangePriority test priority → reply ≡ answer.ChangePriority changed
+      → IfOk changed (λ was. (change : Changes old was priority new) × PassesFirst (passes test) (fails test) change) → OnErr changed (All (fails test) old)
+      → MeetsTest passes fails old made reply new
+  change_meets priority (Ok before) is told met none = record {
+    taken = λ other pair e r. absurd (cc);
+    none_taken = λ other e r. absurd (cc);
+    changed = λ other given was e r.
+        let by : other ≡ test = cc in let to : given ≡ priority = cc in let from : was ≡ before = cc in
+        rw (by, to, from) met;
+    none_changed = λ other given back e r. absurd (cc);
+  }
+  change_meets priority (Err back) is told met none = record {
+    taken = λ other pair e r. absurd (cc);
+    none_taken = λ other e r. absurd (cc);
+    changed = λ other given was e r. absurd (cc);
+    none_changed = λ other given again e r. let by : other ≡ test = cc in rw by none;
+  }
 
-pub meets_more : {T P W M F : Type 0} (meets : F → T × P → Type 0) (calls left : List (Call T P W M F)) (done : List (Response T P W M)) (next : Call T P W M F) (response : Response T P W M)
-    → next ∷ left ≡ drop (length done) calls → AllMeetTests meets calls done → MeetsTest meets next response.answer → AllMeetTests meets calls (done ++ response ∷ [])
-meets_more meets [] left [] next response is all one = absurd (cc)
-meets_more meets [] left (d ∷ done) next response is all one = absurd (cc)
-meets_more meets (c ∷ calls) left [] next response is all one = let same : next ≡ c = cc in ((rw same at one), tt)
-meets_more meets (c ∷ calls) left (d ∷ done) next response is all one = (all.0, meets_more meets calls left done next response is all.1 one)
+module _ {T P W M F : Type 0} (passes fails : F → T × P → Type 0) (holds : M → List (T × P) → Type 0) (cmp : P → P → Ordering) (is_clone : W → W → Type 0) where
+  pub meets_more : (old mid new : State T P W) (calls left : List (Call T P W M F)) (done : List (Response T P W M)) (next : Call T P W M F) (response : Response T P W M)
+      → next ∷ left ≡ drop (length done) calls → AllMeetTests passes fails holds cmp is_clone old calls done mid
+      → Makes holds cmp is_clone mid next response.answer response.handed new → MeetsTest passes fails mid.pending next response.answer new.pending
+      → AllMeetTests passes fails holds cmp is_clone old calls (done ++ response ∷ []) new
+  meets_more old mid new [] left [] next response is all step one = absurd (cc)
+  meets_more old mid new [] left (d ∷ done) next response is all step one = absurd all
+  meets_more old mid new (c ∷ calls) left [] next response is all step one =
+      let same : next ≡ c = cc in (new, (rw (same, all) at step), (rw (same, all) at one), refl)
+  meets_more old mid new (c ∷ calls) left (d ∷ done) next response is all step one =
+      (all.0, all.1, all.2, meets_more all.0 mid new calls left done next response is all.3 step one)
 
 pub at_ok : {X E : Type 0} {P : Type 0} (r : Result X E) (b : Bool) → b ≡ is_ok r → b ≡ true → OnOk r P → P
 at_ok r b e h p = grind arith

@@ -52,4 +52,4 @@ try_recv_error_text error = try_recv_many_error_text (batch_error_for error)
 
 abbrev pub recv_fault_text : RecvFault → List ℕ
 recv_fault_text (recv_fault.Closed error) = codes "receiving from an empty and closed channel"
-recv_fault_text recv_fault.Memory = codes "no memory for receiving"
+recv_fault_text recv_fault.Memory = codes "no memory for waiting"

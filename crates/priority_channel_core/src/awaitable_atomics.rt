@@ -191,10 +191,28 @@ impl<W, A: Allocator + Copy> AwaitableAtomicCounterAndBit<W, A> {
         (before, Wakes { room, message })
     }
 
-    /// Subtracts from the count, and returns the bit and the count before. If the count falls, the
-    /// waiting senders are taken off to be woken.
+    /// Subtracts one from the count, and returns the bit and the count before. The waiting senders
+    /// are taken off to be woken.
     #[inline(always)]
-    pub fn decr(&mut self, n: u64) -> ((bool, u64), Wakes<W, A>)
+    pub fn decr(&mut self) -> ((bool, u64), Wakes<W, A>)
+        requires { 0 < self.old.word.count }
+        ensures bit { result.0.0 ≡ self.old.word.is_closed }
+        ensures count { result.0.1 ≡ self.old.word.count }
+        ensures handed { result.1 ≡ record { room = self.old.word.waiters.room; message = [] } }
+        ensures word { self.new.word ≡ record self.old.word {
+          count = self.old.word.count - 1;
+          waiters = record self.old.word.waiters { room = [] };
+        } }
+        ensures tickets { HasOwnTickets self.new.word.waiters }
+        ensures comparisons { self.new.comparisons ≡ self.old.comparisons }
+    {
+        self.decr_many(1)
+    }
+
+    /// Subtracts so many from the count, and does else as `decr`. If the count does not fall, nobody
+    /// is taken off.
+    #[inline(always)]
+    pub fn decr_many(&mut self, n: u64) -> ((bool, u64), Wakes<W, A>)
         requires { n ≤ self.old.word.count }
         ensures bit { result.0.0 ≡ self.old.word.is_closed }
         ensures count { result.0.1 ≡ self.old.word.count }
@@ -236,10 +254,40 @@ impl<W, A: Allocator + Copy> AwaitableAtomicCounterAndBit<W, A> {
 }
 
 impl<W: Clone, A: Allocator + Copy> AwaitableAtomicCounterAndBit<W, A> {
-    /// Lists a waiter on a side: under its own ticket if that is in the list of that side,
+    /// Lists a waiter for a message: under its own ticket if that is in the list of those,
     /// otherwise under the next one. None if the clone of the waker or memory for its entry was
     /// refused, or if the numbers ran out. The waiter is then in no list.
-    pub fn listen(&mut self, side: Side, ticket: Option<u64>, waker: &W) -> Option<u64>
+    pub fn listen_incr(&mut self, ticket: Option<u64>, waker: &W) -> Option<u64>
+        ensures enlists { Enlists W.is_clone Side.Message ticket waker.now result
+            self.old.word.waiters self.new.word.waiters }
+        ensures word { self.new.word ≡ record self.old.word { waiters = self.new.word.waiters } }
+        ensures renewed { is_given_listed ticket self.old.word.waiters.message ≡ true
+            → W.is_infallible waker.now → IsSome result }
+        ensures tickets { HasOwnTickets self.new.word.waiters }
+        ensures fits { self.new.word.waiters.next_ticket < 2 ^ 64 }
+        ensures cost { self.new.comparisons
+            ≤ self.old.comparisons + search_bound self.old.word.waiters }
+    {
+        self.listen(Side::Message, ticket, waker)
+    }
+
+    /// Lists a waiter for room, as `listen_incr` does for a message.
+    pub fn listen_decr(&mut self, ticket: Option<u64>, waker: &W) -> Option<u64>
+        ensures enlists { Enlists W.is_clone Side.Room ticket waker.now result
+            self.old.word.waiters self.new.word.waiters }
+        ensures word { self.new.word ≡ record self.old.word { waiters = self.new.word.waiters } }
+        ensures renewed { is_given_listed ticket self.old.word.waiters.room ≡ true
+            → W.is_infallible waker.now → IsSome result }
+        ensures tickets { HasOwnTickets self.new.word.waiters }
+        ensures fits { self.new.word.waiters.next_ticket < 2 ^ 64 }
+        ensures cost { self.new.comparisons
+            ≤ self.old.comparisons + search_bound self.old.word.waiters }
+    {
+        self.listen(Side::Room, ticket, waker)
+    }
+
+    // Lists a waiter on either side.
+    pub(crate) fn listen(&mut self, side: Side, ticket: Option<u64>, waker: &W) -> Option<u64>
         ensures enlists { Enlists W.is_clone side ticket waker.now result self.old.word.waiters
             self.new.word.waiters }
         ensures word { self.new.word ≡ record self.old.word { waiters = self.new.word.waiters } }

@@ -378,7 +378,7 @@ impl fmt::Display for RecvFault {
     fn fmt<W: fmt::Write>(&self, f: &mut fmt::Formatter<W>) -> fmt::Result {
         f.write_str(match self {
             RecvFault::Closed(_) => "receiving from an empty and closed channel",
-            RecvFault::Memory => "no memory for receiving",
+            RecvFault::Memory => "no memory for waiting",
         })
     }
 }

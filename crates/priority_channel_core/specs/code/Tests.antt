@@ -1,20 +1,36 @@
--- What a test told of the pair that was taken out, or whose priority was changed.
-use Rattle.std.specs.Prelude.{◌≡◌, List, take, length, Some, Ok}
-use Rattle.std.specs.List.{AllZip}
-use Rattle.priority_channel_core.specs.Types.{Call, Answer}
+-- What a test told of the pair that was taken out, or whose priority was changed, or of all pairs
+-- where there was none.
+use Rattle.std.specs.Prelude.{◌≡◌, List, [], ◌∷◌, All, Some, None, Ok, Err}
+use Rattle.priority_channel_bag.specs.Prelude.{Changes, PassesFirst}
+use Rattle.priority_channel_core.specs.Types.{Call, Answer, Ordering}
 use Rattle.priority_channel_core.specs.declared.calls.Call.TheVariants.{TakeWhere, ChangePriority}
 use Rattle.priority_channel_core.specs.declared.calls.Answer.TheVariants as answer
-use Rattle.priority_channel_core.specs.code.Calls.{Response}
+use Rattle.priority_channel_core.specs.machine.State.{State}
+use Rattle.priority_channel_core.specs.code.Calls.{Makes, Response}
 
-module _ {T P W M F : Type 0} (meets : F → T × P → Type 0) where
-  -- of a pair whose priority was changed, the answer has the old priority alone
-  pub record MeetsTest (made : Call T P W M F) (reply : Answer T P M) : Type 0 where
+module _ {T P W M F : Type 0} (passes fails : F → T × P → Type 0) where
+  -- a call, and the pending pairs before it and after it
+  pub record MeetsTest (old : List (T × P)) (made : Call T P W M F) (reply : Answer T P M)
+      (new : List (T × P)) : Type 0 where
     pub taken : (test : F) (pair : T × P) → made ≡ TakeWhere test
-        → reply ≡ answer.TakeWhere (Some pair) → meets test pair
+        → reply ≡ answer.TakeWhere (Some pair) → passes test pair
+    pub none_taken : (test : F) → made ≡ TakeWhere test → reply ≡ answer.TakeWhere None
+        → All (fails test) old
     pub changed : (test : F) (priority was : P) → made ≡ ChangePriority test priority
-        → reply ≡ answer.ChangePriority (Ok was) → (msg : T) × meets test (msg, was)
+        → reply ≡ answer.ChangePriority (Ok was)
+        → (change : Changes old was priority new) × PassesFirst (passes test) (fails test) change
+    pub none_changed : (test : F) (priority back : P) → made ≡ ChangePriority test priority
+        → reply ≡ answer.ChangePriority (Err back) → All (fails test) old
 
-  -- of each call that was made
-  abbrev pub AllMeetTests : List (Call T P W M F) → List (Response T P W M) → Type 0
-  AllMeetTests calls done =
-      AllZip (λ made response. MeetsTest made response.answer) (take (length done) calls) done
+  module _ (holds : M → List (T × P) → Type 0) (cmp : P → P → Ordering)
+      (is_clone : W → W → Type 0) where
+    -- of each call that was made, in turn
+    abbrev pub AllMeetTests : State T P W → List (Call T P W M F) → List (Response T P W M)
+        → State T P W → Type 0
+    AllMeetTests old calls [] new = new ≡ old
+    AllMeetTests old [] (response ∷ done) new = ⊥
+    AllMeetTests old (made ∷ calls) (response ∷ done) new =
+        (mid : State T P W)
+        × Makes holds cmp is_clone old made response.answer response.handed mid
+        × MeetsTest old.pending made response.answer mid.pending
+        × AllMeetTests mid calls done new

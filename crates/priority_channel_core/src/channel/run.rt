@@ -1,5 +1,5 @@
 //! Many calls, one after another.
-ghost use Rattle.std.specs.Prelude.{◌≡◌, true, All, length, drop};
+ghost use Rattle.std.specs.Prelude.{◌≡◌, true, false, All, length, drop};
 ghost use Rattle.priority_channel_core.specs.Prelude.{nobody, IsGood, HasList, MayCall, Makes, RunsFront, IsAllowed, AllowsRun, ChangesHandles, MeetsTest, AllMeetTests};
 ghost use Rattle.std.specs.Iterator.Adapters.{peekable_can};
 ghost use Rattle.priority_channel_bag.specs.Prelude.{Tells};
@@ -47,7 +47,7 @@ impl<T, P, W, M, A: Allocator> Response<T, P, W, M, A> {
 /// The result of a run: the responses to the calls that it made, and the calls that it did not
 /// make, both in order.
 #[derive(Drop)]
-pub struct Progress<T, P, W, M, F, A: Allocator = Global> {
+pub struct Ran<T, P, W, M, F, A: Allocator = Global> {
     pub done: Vec<Response<T, P, W, M, A>, A>,
     pub left: Vec<Call<T, P, W, M, F>, A>,
 }
@@ -65,13 +65,14 @@ impl<T: Drop, P: Ord + Drop, W: Clone, A: Allocator + Copy> PriorityQueueChannel
     pub fn run<I: Iterator<Item = (T, P)>, F: Fn(&T, &P) -> bool + Drop>(
         &mut self,
         mut calls: Vec<Call<T, P, W, Peekable<I>, F>, A>,
-    ) -> Progress<T, P, W, Peekable<I>, F, A>
+    ) -> Ran<T, P, W, Peekable<I>, F, A>
         requires allowed { AllowsRun self.old.state calls.items }
         requires callable { All (MayCall (peekable_can I.can_next) F.IsAlwaysCallable) calls.items }
         ensures run { RunsFront (HasList I.next_gives) P.cmp W.is_clone self.old.state calls.items
             result.done.items result.left.items self.new.state }
-        ensures meets { AllMeetTests (λ test pair. Tells F.Fn test pair true) calls.items
-            result.done.items }
+        ensures meets { AllMeetTests (λ test pair. Tells F.Fn test pair true)
+            (λ test pair. Tells F.Fn test pair false) (HasList I.next_gives) P.cmp W.is_clone
+            self.old.state calls.items result.done.items self.new.state }
 
         // This holds whether or not each iterator has one list: the calls that were not made are
         // left, and can be run from here.
@@ -92,7 +93,7 @@ impl<T: Drop, P: Ord + Drop, W: Clone, A: Allocator + Copy> PriorityQueueChannel
         calls.reverse();
         // Reads the field so that the prover learns its invariant.
         let _ = &self.word;
-        Progress { done, left: calls }
+        Ran { done, left: calls }
     }
 
     #[tactic(auto, using(crate::proofs::Runs::makes_step, crate::proofs::Runs::makes_performed))]
@@ -104,7 +105,9 @@ impl<T: Drop, P: Ord + Drop, W: Clone, A: Allocator + Copy> PriorityQueueChannel
         requires callable { MayCall (peekable_can I.can_next) F.IsAlwaysCallable call }
         ensures step { Makes (HasList I.next_gives) P.cmp W.is_clone self.old.state call
             result.answer result.handed self.new.state }
-        ensures meets { MeetsTest (λ test pair. Tells F.Fn test pair true) call result.answer }
+        ensures meets { MeetsTest (λ test pair. Tells F.Fn test pair true)
+            (λ test pair. Tells F.Fn test pair false) self.old.state.pending call result.answer
+            self.new.state.pending }
         ensures handles { ChangesHandles self.old.state call self.new.state }
     {
         match call {

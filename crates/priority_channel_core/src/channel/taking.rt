@@ -30,7 +30,7 @@ impl<T, P: Ord, W: Clone, A: Allocator + Copy> PriorityQueueChannel<T, P, W, A> 
     {
         match self.bag.take_where(test) {
             Some(pair) => {
-                let (_, wakes) = self.word.decr(1);
+                let (_, wakes) = self.word.decr();
                 (Some(pair), wakes)
             }
             None => (None, Wakes::nobody(self.alloc)),
@@ -118,7 +118,7 @@ impl<T, P: Ord, W: Clone, A: Allocator + Copy> PriorityQueueChannel<T, P, W, A> 
     {
         let before = self.bag.len();
         self.bag.retain(test, out);
-        let (_, wakes) = self.word.decr(before - self.bag.len());
+        let (_, wakes) = self.word.decr_many(before - self.bag.len());
         wakes
     }
 }

@@ -12,15 +12,15 @@ pub invariant_of-self : goal.invariant_of-self
 invariant_of-self g c =
     let own = c.self.inside in
     let old = state_of own.bag own.word.word own.capacity own.is_reserved own.sender_count own.receiver_count in
-    let new = state_of c.retain.new.self c.decr-wakes.new.self.word own.capacity own.is_reserved own.sender_count own.receiver_count in
+    let new = state_of c.retain.new.self c.decr_many-wakes.new.self.word own.capacity own.is_reserved own.sender_count own.receiver_count in
     let out = c.retain.ensures.taken in
     let long = all_length _ out.0 _ out.2 in
     record {
-      counted = omega (arith, ap (λ w. w.count) c.decr-wakes.ensures.word, c.self.invariant.counted, long, c.len-before.ensures, c.len.ensures);
+      counted = omega (arith, ap (λ w. w.count) c.decr_many-wakes.ensures.word, c.self.invariant.counted, long, c.len-before.ensures, c.len.ensures);
       slots_kept = λ reserved. omega (arith, c.self.invariant.slots_kept reserved, c.retain.ensures.slots);
       good =
-          (takes_in_turn g.P.Ord.cmp g.W.Clone.is_clone old new out.0 _ c.decr-wakes.result.1 (omega (arith, long, c.len-before.ensures, c.len.ensures)) out.2
-          c.decr-wakes.ensures.handed (search rules) c.self.invariant.good c.decr-wakes.ensures.tickets).1;
+          (takes_in_turn g.P.Ord.cmp g.W.Clone.is_clone old new out.0 _ c.decr_many-wakes.result.1 (omega (arith, long, c.len-before.ensures, c.len.ensures)) out.2
+          c.decr_many-wakes.ensures.handed (search rules) c.self.invariant.good c.decr_many-wakes.ensures.tickets).1;
     }
 
 pub returns-clause-good : goal.returns-clause-good
@@ -30,9 +30,9 @@ pub returns-clause-taken : goal.returns-clause-taken
 returns-clause-taken g c =
     let own = c.self.inside in
     let old = state_of own.bag own.word.word own.capacity own.is_reserved own.sender_count own.receiver_count in
-    let new = state_of c.retain.new.self c.decr-wakes.new.self.word own.capacity own.is_reserved own.sender_count own.receiver_count in
+    let new = state_of c.retain.new.self c.decr_many-wakes.new.self.word own.capacity own.is_reserved own.sender_count own.receiver_count in
     let out = c.retain.ensures.taken in
     let count : c.len-before.result - c.len.result ≡ length out.0 = omega (arith, all_length _ out.0 _ out.2, c.len-before.ensures, c.len.ensures) in
-    let taken = takes_in_turn g.P.Ord.cmp g.W.Clone.is_clone old new out.0 _ c.decr-wakes.result.1 count out.2 c.decr-wakes.ensures.handed (search rules)
-    c.self.invariant.good c.decr-wakes.ensures.tickets in
+    let taken = takes_in_turn g.P.Ord.cmp g.W.Clone.is_clone old new out.0 _ c.decr_many-wakes.result.1 count out.2 c.decr_many-wakes.ensures.handed (search rules)
+    c.self.invariant.good c.decr_many-wakes.ensures.tickets in
     (out.0, out.1, rw (← c.self.view_is) taken.0, out.3)

@@ -1,9 +1,9 @@
-use Rattle.std.proofs.Common.{arith, true, length, length-append}
+use Rattle.std.proofs.Common.{refl, arith, true, false, length, length-append}
 use Rattle.std.specs.Iterator.Adapters.{peekable_can}
 use Rattle.std.proofs.lemmas.List.{reverse-append, reverse-reverse}
 use Rattle.std.proofs.lemmas.List.Elements.{All-head, All-tail}
 use Rattle.priority_channel_bag.specs.Prelude.{Tells}
-use Rattle.priority_channel_core.specs.Prelude.{MayCall}
+use Rattle.priority_channel_core.specs.Prelude.{HasList, MayCall}
 use Rattle.priority_channel_core.proofs.Handles.{AllowsRun-first, AllowsRun-more}
 use Rattle.priority_channel_core.proofs.Runs.{RunsFront-none, RunsFront-more, meets_more, at_ok, drop-past}
 use Rattle.priority_channel_core.proofs.channel.PriorityQueueChannel.run.Goals as goal
@@ -13,7 +13,7 @@ pub loop-done-init : goal.loop-done-init
 loop-done-init g c = record {
   allowed = rw (c.reverse.ensures.items, reverse-reverse) c.requires.allowed;
   callable = rw (c.reverse.ensures.items, reverse-reverse) c.requires.callable;
-  meets = rw c.new-done.ensures.items tt;
+  meets = rw c.new-done.ensures.items refl;
   left = rw (c.new-done.ensures.items, c.reverse.ensures.items) (reverse-reverse _);
   runs = rw (c.new-done.ensures.items, c.reverse.ensures.items, reverse-reverse) (RunsFront-none _ _ _ _ _);
 }
@@ -33,8 +33,9 @@ loop-done-preserved g c = record {
   allowed = AllowsRun-more _ _ _ _ c.make.ensures.handles (rw (c.in-Some.ensures.items, reverse-append) at c.loop-done.invariant.allowed);
   callable = All-tail (MayCall (peekable_can g.I.Iterator.can_next) (goal.F-IsAlwaysCallable g)) _ _ (rw (c.in-Some.ensures.items, reverse-append) at c.loop-done.invariant.callable);
   meets = rw (c.push_reserved.ensures.items, c.reserve.ensures.items)
-      (meets_more (λ test pair. Tells g.F.Fn test pair true) c.args.calls.items _ c.loop-done.done.items _ c.make.result
-      (rw (c.in-Some.ensures.items, reverse-append) at c.loop-done.invariant.left) c.loop-done.invariant.meets c.make.ensures.meets);
+      (meets_more (λ test pair. Tells g.F.Fn test pair true) (λ test pair. Tells g.F.Fn test pair false) (HasList g.I.Iterator.next_gives) g.P.Ord.cmp g.W.Clone.is_clone _ _ _
+      c.args.calls.items _ c.loop-done.done.items _ c.make.result
+      (rw (c.in-Some.ensures.items, reverse-append) at c.loop-done.invariant.left) c.loop-done.invariant.meets c.make.ensures.step c.make.ensures.meets);
   left = rw (c.push_reserved.ensures.items, c.reserve.ensures.items, length-append)
       (drop-past (length c.loop-done.done.items) c.args.calls.items _ _ (rw (c.in-Some.ensures.items, reverse-append) at c.loop-done.invariant.left));
   runs = rw (c.push_reserved.ensures.items, c.reserve.ensures.items)

@@ -1,4 +1,4 @@
-use Rattle.std.proofs.Common.{◌≡◌, true, vec_len, reverse, length, drop, All}
+use Rattle.std.proofs.Common.{◌≡◌, true, false, vec_len, reverse, length, drop, All}
 use Rattle.std.specs.Iterator.Adapters.{peekable_can}
 use Rattle.priority_channel_core.specs.Prelude.{HasList, AllowsRun, MayCall, RunsFront, AllMeetTests}
 use Rattle.priority_channel_bag.specs.Prelude.{Tells}
@@ -9,7 +9,8 @@ abbrev pub invariant-loop-done : goal.invariant-loop-done
 invariant-loop-done g l = record {
   allowed : AllowsRun l.self.state (reverse l.calls.items);
   callable : All (MayCall (peekable_can g.I.Iterator.can_next) (goal.F-IsAlwaysCallable g)) (reverse l.calls.items);
-  meets : AllMeetTests (λ test pair. Tells g.F.Fn test pair true) l.fn.calls.items l.done.items;
+  meets : AllMeetTests (λ test pair. Tells g.F.Fn test pair true) (λ test pair. Tells g.F.Fn test pair false) (HasList g.I.Iterator.next_gives) g.P.Ord.cmp g.W.Clone.is_clone
+      l.fn.self.state l.fn.calls.items l.done.items l.self.state;
   left : reverse l.calls.items ≡ drop (length l.done.items) l.fn.calls.items;
   runs : RunsFront (HasList g.I.Iterator.next_gives) g.P.Ord.cmp g.W.Clone.is_clone l.fn.self.state l.fn.calls.items l.done.items (reverse l.calls.items) l.self.state;
 }
