@@ -50,9 +50,9 @@ pub struct Entry<T, P> {
 
 /// There was no memory for the entry of a call, so the call was not made.
 #[derive(Clone, Copy, Debug, Drop, PartialEq, Eq)]
-pub struct NoMemory;
+pub struct NoPlace;
 
-impl fmt::Display for NoMemory {
+impl fmt::Display for NoPlace {
     ghost output = { λ _. Some (codes "no memory for an entry") };
 
     fn fmt<W: fmt::Write>(&self, f: &mut fmt::Formatter<W>) -> fmt::Result {
@@ -60,7 +60,7 @@ impl fmt::Display for NoMemory {
     }
 }
 
-impl Error for NoMemory {}
+impl Error for NoPlace {}
 
 /// A reserved channel, and the history of its calls. Contracts see the channel's state, the
 /// history, and for how many entries there is memory.
@@ -115,7 +115,7 @@ impl<T: Copy, P: Copy + Ord, A: Allocator + Copy> Book<T, P, A> {
     /// entry is refused, the call is not made. That does not happen before `entries` entries are
     /// made.
     #[tactic(auto, using(crate::proofs::Histories::history_more))]
-    pub fn record(&mut self, who: u64, call: Call<T, P>) -> Result<Reply<T, P>, NoMemory>
+    pub fn record(&mut self, who: u64, call: Call<T, P>) -> Result<Reply<T, P>, NoPlace>
         ensures step { IfOk result (λ reply.
             IsStep P.cmp self.old.state call reply self.new.state) }
         ensures entered { IfOk result (λ reply. self.new.history
@@ -127,7 +127,7 @@ impl<T: Copy, P: Copy + Ord, A: Allocator + Copy> Book<T, P, A> {
         ensures legal { IsHistory P.cmp self.new.state.capacity self.new.history self.new.state }
     {
         let Ok(()) = self.history.reserve(1) else {
-            return Err(NoMemory);
+            return Err(NoPlace);
         };
         let reply = make(&mut self.channel, call);
         self.history.push_reserved(Entry { who, call, reply });

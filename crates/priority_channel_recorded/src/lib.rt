@@ -10,7 +10,7 @@ mod chronicle;
 pub mod laws;
 mod recorder;
 
-pub use book::{Book, Call, Entry, NoMemory, Reply};
+pub use book::{Book, Call, Entry, NoPlace, Reply};
 pub use chronicle::{Calls, Fresh, Pass};
 pub use priority_channel_chronicle::Recording;
 pub use recorder::{History, Recorded};

@@ -5,7 +5,7 @@ ghost use Rattle.priority_channel_recorded.specs.History.{entry, IsStep};
 ghost use Rattle.priority_channel_recorded.specs.Log.{IsLegal, names};
 ghost use Rattle.priority_channel_recorded.specs.Passes.{calls_made, AreNew, AreApart, Accounts, IsTold};
 
-use crate::book::{Book, Call, Entry, NoMemory, Reply};
+use crate::book::{Book, Call, Entry, NoPlace, Reply};
 use crate::chronicle::{Calls, Fresh, Log, Pass};
 use priority_channel_chronicle::{Journal, Recording};
 use std::alloc::{AllocError, Allocator, Global};
@@ -42,7 +42,7 @@ impl<T: Copy, P: Copy + Ord, J: Recording, A: Allocator + Copy> Guarded<T, P, J,
         log: &Log<T, P, J>,
         pass: &mut Pass<T, P, J>,
         call: Call<T, P>,
-    ) -> Result<Reply<T, P>, NoMemory>
+    ) -> Result<Reply<T, P>, NoPlace>
         ensures number { pass.new.number ≡ pass.old.number }
         ensures counted { IfOk result (λ _. pass.new.count ≡ pass.old.count + 1) }
         ensures told { IfOk result (λ reply. IsTold P.cmp J.capacity pass.old
@@ -142,13 +142,14 @@ impl<T: Copy, P: Copy + Ord, J: Recording, A: Allocator + Copy> Recorded<T, P, J
     }
 
     /// Makes a call, and enters it with its reply under the pass's number. If memory for the entry
-    /// is refused, the call is not made. That does not happen before `entries` entries are made.
+    /// is refused, the call is not made. That does not happen before `entries` entries are made,
+    /// which is a clause of `Book::record` (`refused`), and none here, where a lock is between.
     pub fn call<R: Wait>(
         &self,
         rt: &R,
         pass: &mut Pass<T, P, J>,
         call: Call<T, P>,
-    ) -> Result<Reply<T, P>, NoMemory>
+    ) -> Result<Reply<T, P>, NoPlace>
         ensures number { pass.new.number ≡ pass.old.number }
         ensures counted { IfOk result (λ _. pass.new.count ≡ pass.old.count + 1) }
         ensures told { IfOk result (λ reply. IsTold P.cmp J.capacity pass.old
