@@ -154,9 +154,15 @@ close_wakes old new events leads closes i t w waits =
 closed_after : (old new : CloseWorld) (event : CloseEvent) → Happens old event new → old.is_closed ≡ true → new.is_closed ≡ true
 closed_after old new event h closed = grind arith
 
-pub stays_closed : (old new : CloseWorld) (events : List CloseEvent) → Leads old events new → old.is_closed ≡ true → new.is_closed ≡ true
+stays_closed : (old new : CloseWorld) (events : List CloseEvent) → Leads old events new → old.is_closed ≡ true → new.is_closed ≡ true
 stays_closed old new [] h closed = ap (λ (world : CloseWorld). world.is_closed) h ∙ closed
 stays_closed old new (event ∷ more) h closed = stays_closed h.0 new more h.2 (closed_after old h.0 event h.1 closed)
+
+pub nobody_comes_to_wait : (old new : CloseWorld) (before after : List CloseEvent) → Leads opening before old → Leads old after new → old.is_closed ≡ true
+    → (i t w : ℕ) → new.watchers i ≢ Waiting t w
+nobody_comes_to_wait old new before after leads more closed i t w is =
+    let still = stays_closed old new after more closed in
+    let opens = (go old new after (nobody_is_forgotten old before leads) more).keeps.open_if_waiting i t w is in absurd (cc)
 
 pub given_once : (earlier later : CloseWorld) (before after : List CloseEvent) → Leads opening before earlier → Leads earlier after later
     → (i t : ℕ) → ticket_of (later.watchers i) ≡ Some t → t < earlier.closers.next_ticket → ticket_of (earlier.watchers i) ≡ Some t

@@ -93,4 +93,4 @@ recv_fault_in_time recv_fault.Memory = recv_timeout.Memory
 abbrev pub recv_timeout_text : RecvTimeoutError → List ℕ
 recv_timeout_text recv_timeout.Timeout = codes "receiving from an empty channel timed out"
 recv_timeout_text recv_timeout.Closed = codes "receiving from an empty and closed channel"
-recv_timeout_text recv_timeout.Memory = codes "no memory for receiving"
+recv_timeout_text recv_timeout.Memory = codes "no memory for waiting"

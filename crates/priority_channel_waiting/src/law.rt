@@ -1,5 +1,5 @@
 //! What follows for all together that wait for the close of a channel.
-ghost use Rattle.std.specs.Prelude.{◌≡◌, ℕ, ◌<◌, true, List, Some};
+ghost use Rattle.std.specs.Prelude.{◌≡◌, ◌≢◌, ℕ, ◌<◌, true, List, Some};
 ghost use Rattle.priority_channel_core.specs.Prelude.{ticket_of, Waiting, Called};
 ghost use Rattle.priority_channel_waiting.specs.CloseLaw.{CloseWorld, CloseEvent, opening, Happens, Leads, NobodyIsForgotten};
 ghost use Rattle.priority_channel_waiting.specs.CloseLaw.CloseEvent.{Looks, Closes};
@@ -13,8 +13,10 @@ pub fn closing_law()
         → Leads opening events old → Happens old Closes new
         → (which ticket waiter : ℕ) → old.watchers which ≡ Waiting ticket waiter
         → new.watchers which ≡ Called ticket waiter }
-    ensures closed { (old new : CloseWorld) (events : List CloseEvent)
-        → Leads old events new → old.is_closed ≡ true → new.is_closed ≡ true }
+    // Nor does anybody come to wait for the close of a closed channel.
+    ensures closed { (old new : CloseWorld) (before after : List CloseEvent)
+        → Leads opening before old → Leads old after new → old.is_closed ≡ true
+        → (which ticket waiter : ℕ) → new.watchers which ≢ Waiting ticket waiter }
     // A ticket that was given by then was that watcher's then.
     ensures once { (earlier later : CloseWorld) (before after : List CloseEvent)
         → Leads opening before earlier → Leads earlier after later

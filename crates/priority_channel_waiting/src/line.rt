@@ -46,8 +46,9 @@ impl<A: Allocator> Model for Line<A> {
       spinning = l.spinning;
     } };
 
-    // If there is no head, the queue is empty; all queued numbers are below `next_number`.
-    ghost invariant = { λ l. (l.first ≡ None → l.others ≡ [])
+    // If there is no head, nobody stands in the queue, and no ticket is listed; all queued numbers
+    // are below `next_number`.
+    ghost invariant = { λ l. (l.first ≡ None → (l.others ≡ []) × (l.ticket ≡ None))
         × All (λ other. other.0 < l.next_number) l.others };
 }
 
@@ -146,7 +147,6 @@ impl<A: Allocator> Line<A> {
         }
         let next_number = number.checked_add(1).ok_or(AllocError)?;
         self.first = Some((number, waiter.clone()?));
-        self.ticket = None;
         self.next_number = next_number;
         Ok(Queued { number })
     }
@@ -191,8 +191,11 @@ impl<A: Allocator> Line<A> {
         Ok(())
     }
 
-    /// The head leaves the queue, and the next thread becomes the head.
-    pub fn move_up(&mut self, lead: Lead) -> Duty
+    /// The head leaves the queue, and the next thread becomes the head. The ticket under which the
+    /// head may be listed comes back.
+    pub fn move_up(&mut self, lead: Lead) -> (Duty, Option<Ticket>)
+        ensures some { IfSome result.1 (λ ticket. self.old.ticket ≡ Some ticket.number) }
+        ensures none { IfNone result.1 (self.old.ticket ≡ None) }
         ensures next { self.old.others ≡ option_to_list self.new.first ++ self.new.others }
         ensures line { self.new ≡ record self.old {
           first = self.new.first;
@@ -201,9 +204,9 @@ impl<A: Allocator> Line<A> {
         } }
     {
         let Lead { number: _ } = lead;
-        self.ticket = None;
+        let ticket = self.take_ticket();
         self.first = self.others.take_first();
-        Duty { seal: () }
+        (Duty { seal: () }, ticket)
     }
 
     /// Takes the ticket under which the head may be listed, for a caller that takes it off the

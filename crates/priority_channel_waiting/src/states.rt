@@ -194,6 +194,8 @@ impl<T: Drop, P: Ord + Drop> SendState<T, P> {
             pair self.old.ticket waker core.old.state result.0 result.1 core.new.state self.new)) }
         ensures blocked { IfSome self.old.kept (λ _. OnPending result.0
             ((core.old.state.is_closed ≡ false) × (room core.old.state ≡ 0))) }
+        ensures done { self.old.kept ≡ None → (result.0 ≡ Poll.Pending) × (result.1 ≡ nobody)
+            × (self.new ≡ self.old) × (core.new ≡ core.old) }
         ensures waits { OnPending result.0 ((result.1 ≡ nobody) × (self.new ≡ self.old)
             × (core.new.state ≡ core.old.state)) }
         ensures handed_back { IfSome (handed_back result.0) (λ pair. self.old.kept ≡ Some pair) }
@@ -344,6 +346,8 @@ impl RecvState {
             kept self.old.ticket waker core.old.state result.0 result.1 core.new.state self.new)) }
         ensures blocked { IfSome self.old.kept (λ _. OnPending result.0
             ((core.old.state.is_closed ≡ false) × (core.old.state.pending ≡ []))) }
+        ensures done { self.old.kept ≡ None → (result.0 ≡ Poll.Pending) × (result.1 ≡ nobody)
+            × (self.new ≡ self.old) × (core.new ≡ core.old) }
         ensures waits { OnPending result.0 ((result.1 ≡ nobody) × (self.new ≡ self.old)
             × (core.new.state ≡ core.old.state)) }
         ensures answered { IfReady result.0 (λ _. self.new ≡ done) }

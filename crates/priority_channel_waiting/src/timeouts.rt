@@ -236,7 +236,7 @@ impl fmt::Display for RecvTimeoutError {
         f.write_str(match self {
             RecvTimeoutError::Timeout => "receiving from an empty channel timed out",
             RecvTimeoutError::Closed => "receiving from an empty and closed channel",
-            RecvTimeoutError::Memory => "no memory for receiving",
+            RecvTimeoutError::Memory => "no memory for waiting",
         })
     }
 }
