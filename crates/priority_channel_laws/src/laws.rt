@@ -8,7 +8,7 @@ ghost use Rattle.priority_channel_core.specs.declared.errors.TryRecvError.TheVar
 ghost use Rattle.priority_channel_core.specs.Prelude.{State, Handed, Run, Operation};
 ghost use Rattle.priority_channel_laws.specs.Accepted.{accepted_in, received_in, changed_in, Conserves, NeverRise};
 ghost use Rattle.priority_channel_laws.specs.World.{World, Event, Happens, IsOpening, Leads};
-ghost use Rattle.priority_channel_laws.specs.WaitingLaw.{NobodyIsForgotten, GivenOnce, CalledBy};
+ghost use Rattle.priority_channel_laws.specs.WaitingLaw.{CanGoOn, NobodyIsForgotten, GivenOnce, CalledBy};
 ghost use Rattle.priority_channel_laws.specs.Threads.{Thread, ThreadWorld, IsUnused};
 ghost use Rattle.priority_channel_laws.specs.Threads.Phase.{Sleeps};
 ghost use Rattle.priority_channel_laws.specs.ThreadEvents.{ThreadEvent, LeadsTo};
@@ -26,7 +26,8 @@ pub fn conservation_law<T, P: Ord, W: Clone>()
         → old.is_closed ≡ true → (new.is_closed ≡ true) × (accepted_in run ≡ []) }
 {}
 
-/// Pairs come out in the order of their priorities.
+/// Pairs come out in the order of their priorities. That two runs over the same calls give the same
+/// ones is `alike_law`.
 pub fn drain_law<T, P: Ord, W: Clone>()
     // Where nothing is accepted and no priority changes, the priorities of the received pairs never
     // rise.
@@ -78,10 +79,10 @@ pub fn waiting_law<T, P: Ord, W: Clone>()
 pub fn queue_law<T, P: Ord>()
     ensures seen_to { (start world : ThreadWorld T P) (events : List (ThreadEvent T P))
         → IsUnused start → LeadsTo P.cmp start events world → NobodySleepsOn world }
-    // The acts of threads do occur: the first thread may come to sleep as the head.
+    // This does occur: the first thread may come to sleep as the head, and the channel may close.
     ensures occurs { (start : ThreadWorld T P) × (world : ThreadWorld T P)
         × (events : List (ThreadEvent T P))
         × IsUnused start × LeadsTo P.cmp start events world
         × (thread : Thread) × (slice_get world.threads 0 ≡ Some thread)
-        × (thread.phase ≡ Sleeps 0) }
+        × (thread.phase ≡ Sleeps 0) × CanGoOn world.state world.side }
 {}
