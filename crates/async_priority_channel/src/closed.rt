@@ -167,7 +167,7 @@ impl<T, P: Ord, R: Wait + Clone, A: Allocator + Copy> Handle<T, P, R, A> {
         cx: &mut Context<'_>,
         ticket: &mut Option<u64>,
         waiter: &mut Option<Waiter<A>>,
-    ) -> Poll<Result<(), AllocError>>
+    ) -> Poll<Result<SeenClosed, AllocError>>
         ensures registered { OnPending result (Covers cx.new (λ source.
             source ≡ self.now.closing)) }
         ensures kept { Keeps cx.old cx.new }
@@ -175,8 +175,8 @@ impl<T, P: Ord, R: Wait + Clone, A: Allocator + Copy> Handle<T, P, R, A> {
         ensures listed { OnPending result (IsSome ticket.new) }
     {
         let given = ticket.take();
-        if self.see_closed().is_some() {
-            return Poll::Ready(Ok(()));
+        if let Some(seen) = self.see_closed() {
+            return Poll::Ready(Ok(seen));
         }
         let Some(waiter) = self.register_for_close(cx, waiter) else {
             self.unlisten(given);
@@ -187,7 +187,7 @@ impl<T, P: Ord, R: Wait + Clone, A: Allocator + Copy> Handle<T, P, R, A> {
                 *ticket = Some(listed);
                 Poll::Pending
             }
-            Watch::Closed(_) => Poll::Ready(Ok(())),
+            Watch::Closed(seen) => Poll::Ready(Ok(seen)),
             Watch::Refused => Poll::Ready(Err(AllocError)),
         }
     }

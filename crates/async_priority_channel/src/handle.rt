@@ -102,9 +102,9 @@ impl<T, P: Ord, R, A: Allocator + Copy> Model for Handle<T, P, R, A> {
 
 /// The core under its lock. Code cannot forget it, since it is not `Drop`: a hold ends by `unlock`,
 /// or by `Handle::release`, which also wakes the waiters that a call took off the lists. These
-/// (`Wakes`) are not `Drop` either. So a call that takes waiters off the lists is followed by
-/// `release`, and no waiter is woken under the lock. A call that may close the channel returns
-/// `Wakes`, so it is followed by `release` too.
+/// (`Wakes`) are not `Drop` either, and each call that may close the channel returns them. Nothing
+/// but `release` takes the waiters out of `Wakes`, once the lock is free. No type says so, since
+/// `Wakes::into_lists` is public.
 pub struct Held<'h, T, P: Ord, A: Allocator + Copy> {
     guarded: MutexGuard<'h, Guarded<T, P, A>>,
 }

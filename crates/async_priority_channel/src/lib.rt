@@ -205,6 +205,7 @@ mod end;
 mod handle;
 mod identity;
 mod iter;
+pub mod laws;
 mod many;
 mod parked;
 mod peek;
@@ -223,9 +224,7 @@ pub use many::RecvMany;
 pub use priority_channel_core::errors::{
     RecvError, RecvFault, SendError, SendFault, TryRecvError, TryRecvManyError, TrySendError,
 };
-pub use priority_channel_laws::laws;
 pub use priority_channel_recorded as recorded;
-pub use priority_channel_waiting::law::closing_law;
 pub use priority_channel_waiting::timeouts::{RecvTimeoutError, SendTimeoutError};
 pub use receiver::{Receiver, Receiving};
 pub use sender::{Sender, Sending};

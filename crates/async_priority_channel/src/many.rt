@@ -26,7 +26,9 @@ impl<T, P: Ord, R: Wait + Clone, A: Allocator + Copy> Receiver<T, P, R, A> {
     ///
     /// The error is that of one receive, also with a `limit` of 0, or `Memory` if there is no
     /// memory for a first message. It first reads the length, and reserves memory for the pending
-    /// messages. If that is refused, as many messages come as there is capacity for.
+    /// messages. If that is refused, as many messages come as there is capacity for. So fewer may
+    /// come than are pending and than `limit`: what other threads send after the length was read
+    /// may have no memory here.
     ///
     /// ```
     /// let (tx, rx) = unbounded(&rt, rt.alloc())?;
@@ -207,7 +209,8 @@ impl<T, P: Ord, R: Wait + Clone, A: Allocator + Copy> Receiver<T, P, R, A> {
     }
 
     /// As `recv_many_blocking`, but as a future, which does nothing until it is polled. If it is
-    /// dropped before it has answered, it takes nothing.
+    /// dropped before it has answered, it takes nothing. A poll may be two steps: it finds nothing,
+    /// and looks again as it is listed.
     ///
     /// ```
     /// let (tx, rx) = unbounded(&rt, rt.alloc())?;

@@ -44,7 +44,7 @@ use crate::handle::Handle;
 use crossbeam_utils::Backoff;
 use priority_channel_core::side::Side;
 use priority_channel_waiting::attempts::{Attempt, Outcome};
-use priority_channel_waiting::line::{Duty, Lead, Line, Listing, Queued};
+use priority_channel_waiting::line::{Duty, Lead, Line, Listing, Queued, Ticket};
 use priority_channel_waiting::timeouts::Ended;
 use priority_channel_waiting::until::Until;
 use priority_channel_waiting::waiter::Waiter;
@@ -139,7 +139,7 @@ impl<T, P: Ord, R: Wait + Clone, A: Allocator + Copy> Handle<T, P, R, A> {
         }
         let mut line = self.line(side);
         let spinner = line.begin_spin();
-        self.unlist(&mut line);
+        self.unlist(line.take_ticket());
         drop(line);
         let outcome = self.look_for_a_while(call);
         let mut line = self.line(side);
@@ -169,9 +169,9 @@ impl<T, P: Ord, R: Wait + Clone, A: Allocator + Copy> Handle<T, P, R, A> {
         Outcome::Blocked(rest)
     }
 
-    // Takes the head of the queue off the channel's list.
-    fn unlist(&self, line: &mut Line<A>) {
-        if let Some(ticket) = line.take_ticket() {
+    // Takes the head of the queue off the channel's list, if it has a ticket there.
+    fn unlist(&self, ticket: Option<Ticket>) {
+        if let Some(ticket) = ticket {
             let mut held = self.hold();
             ticket.give_up(held.core());
             held.unlock();
@@ -281,8 +281,8 @@ impl<T, P: Ord, R: Wait + Clone, A: Allocator + Copy> Handle<T, P, R, A> {
     // Promotes the next thread in the queue to the head.
     fn hand_on(&self, side: Side, lead: Lead) {
         let mut line = self.line(side);
-        self.unlist(&mut line);
-        let duty = line.move_up(lead);
+        let (duty, ticket) = line.move_up(lead);
+        self.unlist(ticket);
         self.rouse(side, &mut line, duty);
     }
 

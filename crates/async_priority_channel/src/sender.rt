@@ -106,9 +106,10 @@ impl<T: Drop, P: Ord + Drop, R: Wait + Clone, A: Allocator + Copy> Sender<T, P, 
     }
 
     /// Sends all messages, as there is room. This is a future: each poll sends a prefix, and the
-    /// future waits with the rest. What it sent stays sent, also if it is dropped or ends in an
-    /// error. Its errors are those of `send`, and give back the rest. The iterator is called and
-    /// dropped as by `try_sendv`.
+    /// future waits with the rest. A poll that has to wait looks twice, in two steps, and may send
+    /// in both. What it sent stays sent, also if it is dropped or ends in an error, as where the
+    /// channel is closed between the two. Its errors are those of `send`, and give back the rest.
+    /// The iterator is called and dropped as by `try_sendv`.
     ///
     /// ```
     /// let (tx, rx) = bounded(&rt, rt.alloc(), 1)?;

@@ -76,8 +76,11 @@ impl<S: Role, T, P: Ord, R: Wait + Clone, A: Allocator + Copy> Future
         let polled = end
             .handle
             .poll_closed(cx, &mut self.ticket, &mut self.waiter);
-        self.is_done = matches!(&polled, Poll::Ready(_));
-        polled
+        let Poll::Ready(waited) = polled else {
+            return Poll::Pending;
+        };
+        self.is_done = true;
+        Poll::Ready(waited.map(|_seen| ()))
     }
 }
 

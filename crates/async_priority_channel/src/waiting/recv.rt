@@ -19,7 +19,7 @@ use std::sync::Wait;
 /// The error is `Closed` if no message can come any more, or `Memory` if memory was refused.
 pub type Recv<'a, T, P, R, A = Global> = Waiting<'a, Receiving, (), One, T, P, R, A>;
 
-impl<T: Drop, P: Ord + Drop, R: Wait + Clone, A: Allocator + Copy> Future for Recv<'_, T, P, R, A> {
+impl<T, P: Ord, R: Wait + Clone, A: Allocator + Copy> Future for Recv<'_, T, P, R, A> {
     type Output = Result<(T, P), RecvFault>;
 
     ghost needs = { λ f source. source ≡ f.channel.message };

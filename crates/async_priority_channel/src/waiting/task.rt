@@ -36,7 +36,7 @@ impl<'a, S: Role, K, N, T, P: Ord, R: Wait + Clone, A: Allocator + Copy> Model
     ghost view = { λ f. record { channel = f.end.now; state = f.task.state } };
 }
 
-impl<S: Role, K: Drop, N, T: Drop, P: Ord + Drop, R: Wait + Clone, A: Allocator + Copy> Drop
+impl<S: Role, K: Drop, N, T, P: Ord, R: Wait + Clone, A: Allocator + Copy> Drop
     for Waiting<'_, S, K, N, T, P, R, A> {
     fn drop(self) {
         let Waiting { end, task } = self;
