@@ -1,0 +1,148 @@
+//! What errors print, what they tell, and which of them are equal.
+use super::{expect_equal, expect_equal_at};
+use async_priority_channel::{
+    RecvError, RecvFault, SendError, SendFault, TryRecvError, TrySendError,
+};
+use std::alloc::AllocGlobal;
+use std::error::Error;
+use std::fmt::Debug;
+use std::process::Abort;
+
+// A message that can be neither printed nor compared.
+#[derive(Drop)]
+struct Opaque;
+
+const SEND_FULL: &str = "sending into a full channel";
+
+const SEND_CLOSED: &str = "sending into a closed channel";
+
+const SEND_MEMORY: &str = "no memory for sending";
+
+const RECV_EMPTY: &str = "receiving from an empty channel";
+
+const RECV_CLOSED: &str = "receiving from an empty and closed channel";
+
+const WAIT_MEMORY: &str = "no memory for waiting";
+
+// What `{}` prints.
+fn expect_text<R: Abort + AllocGlobal>(rt: &R, error: impl Error, wanted: &str) {
+    let printed = format!(in rt.alloc(); "{error}").expect(rt, "memory");
+    expect_equal(rt, printed.as_str(), wanted);
+}
+
+// What `{:?}` prints.
+fn expect_debug<R: Abort + AllocGlobal>(rt: &R, error: impl Error, wanted: &str) {
+    let printed = format!(in rt.alloc(); "{error:?}").expect(rt, "memory");
+    expect_equal(rt, printed.as_str(), wanted);
+}
+
+#[test]
+fn texts_of_the_errors(rt: HostRuntime) {
+    expect_text(&rt, TryRecvError::Empty, RECV_EMPTY);
+    expect_text(&rt, TryRecvError::Closed, RECV_CLOSED);
+    expect_text(&rt, TrySendError::Full(1), SEND_FULL);
+    expect_text(&rt, SendError(1), SEND_CLOSED);
+}
+
+#[test]
+fn debug_texts_of_the_errors(rt: HostRuntime) {
+    expect_debug(&rt, SendError(1), "SendError(..)");
+    expect_debug(&rt, TrySendError::Full(1), "Full(..)");
+    expect_debug(&rt, TrySendError::Closed(1), "Closed(..)");
+    expect_debug(&rt, TrySendError::Memory(1), "Memory(..)");
+    expect_equal(&rt, TrySendError::Memory(1).is_full(), false);
+    expect_equal(&rt, TrySendError::Memory(1).is_closed(), false);
+    // These are derived.
+    expect_debug(&rt, RecvError, "RecvError");
+    expect_debug(&rt, TryRecvError::Empty, "Empty");
+    expect_debug(&rt, TryRecvError::Closed, "Closed");
+}
+
+#[test]
+fn texts_of_the_refusals_for_memory(rt: HostRuntime) {
+    let closed = SendFault::Closed(SendError(1));
+    expect_text(&rt, TrySendError::Memory(1), SEND_MEMORY);
+    expect_text(&rt, SendFault::Memory(1), SEND_MEMORY);
+    expect_text(&rt, closed, SEND_CLOSED);
+    expect_text(&rt, RecvFault::Memory, WAIT_MEMORY);
+}
+
+// Of an error that holds what cannot be printed.
+fn expect_both<R: Abort + AllocGlobal>(rt: &R, error: impl Error, text: &str, debug: &str) {
+    let printed = format!(in rt.alloc(); "{error} / {error:?}").expect(rt, "memory");
+    let wanted = format!(in rt.alloc(); "{text} / {debug}").expect(rt, "memory");
+    expect_equal(rt, printed.as_str(), wanted.as_str());
+}
+
+#[test]
+fn each_error_prints_its_texts_whatever_it_holds(rt: HostRuntime) {
+    let closed = SendFault::Closed(SendError(Opaque));
+    expect_both(&rt, SendError(Opaque), SEND_CLOSED, "SendError(..)");
+    expect_text(&rt, RecvError, RECV_CLOSED);
+    expect_both(&rt, TrySendError::Full(Opaque), SEND_FULL, "Full(..)");
+    expect_both(&rt, TrySendError::Closed(Opaque), SEND_CLOSED, "Closed(..)");
+    expect_both(&rt, TrySendError::Memory(Opaque), SEND_MEMORY, "Memory(..)");
+    expect_text(&rt, TryRecvError::Empty, RECV_EMPTY);
+    expect_text(&rt, TryRecvError::Closed, RECV_CLOSED);
+    expect_both(&rt, closed, SEND_CLOSED, "Closed(..)");
+    expect_both(&rt, SendFault::Memory(Opaque), SEND_MEMORY, "Memory(..)");
+    expect_text(&rt, RecvFault::Closed(RecvError), RECV_CLOSED);
+    expect_text(&rt, RecvFault::Memory, WAIT_MEMORY);
+}
+
+#[test]
+fn errors_tell_their_variant(rt: HostRuntime) {
+    for (error, is_full, is_closed) in [
+        (TrySendError::Full(1), true, false),
+        (TrySendError::Closed(1), false, true),
+        (TrySendError::Memory(1), false, false),
+    ] {
+        let told = (error.is_full(), error.is_closed());
+        expect_equal_at(&rt, error, told, (is_full, is_closed));
+    }
+    for (error, is_empty, is_closed) in [
+        (TryRecvError::Empty, true, false),
+        (TryRecvError::Closed, false, true),
+    ] {
+        let told = (error.is_empty(), error.is_closed());
+        expect_equal_at(&rt, error, told, (is_empty, is_closed));
+    }
+}
+
+// Each is equal to itself and its clone, and to no other of the list.
+fn expect_all_differ<X: PartialEq + Clone + Debug + Drop>(rt: &impl Abort, errors: &[X]) {
+    for (one, error) in errors.iter().enumerate() {
+        expect_equal_at(rt, one, error.clone().expect(rt, "a clone") == *error, true);
+        for (other, another) in errors.iter().enumerate() {
+            expect_equal_at(rt, (one, other), *error == *another, one == other);
+        }
+    }
+}
+
+#[test]
+fn errors_are_equal_where_variant_and_content_are(rt: HostRuntime) {
+    expect_all_differ(&rt, &[SendError(1), SendError(2)]);
+    expect_all_differ(
+        &rt,
+        &[
+            TrySendError::Full(1),
+            TrySendError::Full(2),
+            TrySendError::Closed(1),
+            TrySendError::Closed(2),
+            TrySendError::Memory(1),
+            TrySendError::Memory(2),
+        ],
+    );
+    expect_all_differ(
+        &rt,
+        &[
+            SendFault::Memory(1),
+            SendFault::Memory(2),
+            SendFault::Closed(SendError(1)),
+            SendFault::Closed(SendError(2)),
+        ],
+    );
+    expect_all_differ(&rt, &[RecvError]);
+    expect_all_differ(&rt, &[TryRecvError::Empty, TryRecvError::Closed]);
+    expect_all_differ(&rt, &[RecvFault::Closed(RecvError), RecvFault::Memory]);
+}

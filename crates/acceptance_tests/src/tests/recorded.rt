@@ -1,0 +1,172 @@
+//! Recorded channels, with one pass and with several.
+//!
+//! A function that uses a channel with a history is generic in its names, and its caller picks
+//! them. So each example is a scene, and one function plays them all.
+ghost use Rattle.std.specs.Prelude.{◌≡◌, ◌<◌, ◌^◌, IfOk, OnErr};
+ghost use Rattle.std.specs.Ordering.{nat_cmp};
+ghost use Rattle.priority_channel_recorded.specs.History.{entry};
+ghost use Rattle.priority_channel_recorded.specs.Log.{names};
+ghost use Rattle.priority_channel_recorded.specs.Passes.{IsTold};
+
+use super::watch::within;
+use super::{Host, expect_equal};
+use async_priority_channel::recorded::{
+    Call, Entry, Fresh, History, NoPlace, Pass, Recorded, Recording, Reply,
+};
+use passes::{call_again, come_back};
+use refusing::Refusing;
+use std::alloc::{AllocError, Global};
+use std::marker::Brand;
+use steps::{Step, play, play_until_refused};
+use threads::{Work, call_on_threads};
+
+mod memory;
+mod passes;
+mod steps;
+mod threads;
+
+type Alloc<'a> = &'a Refusing<Global>;
+
+type Recorder<'a, J> = Recorded<u64, u64, J, Alloc<'a>>;
+
+type Caller<J> = Pass<u64, u64, J>;
+
+type Passes<'a, J> = Vec<Caller<J>, Alloc<'a>>;
+
+type Made = Entry<u64, u64>;
+
+/// What is played on a recorder.
+#[derive(Clone, Copy)]
+enum Scene<'s> {
+    /// The steps, one after the other.
+    Steps(&'s [Step]),
+    /// The calls until one is refused its entry, and then what is pending is received.
+    UntilRefused(&'s [Step]),
+    /// Each pass on a thread of its own.
+    Threads(Work),
+    ComesBack,
+    CallAgain,
+}
+
+/// What the callers kept: their calls with the replies, each caller's in its order, and how many
+/// calls were refused their entry.
+#[derive(Drop)]
+struct Kept {
+    made: Vec<Made>,
+    refused: u64,
+}
+
+/// What a scene left.
+#[derive(Drop)]
+struct Told<'a> {
+    refused: u64,
+    history: History<u64, u64, Alloc<'a>>,
+}
+
+// Plays a scene on a recorder for so many pairs, entries and passes. The entries under each number
+// are what its caller kept. The error is that memory was refused for the recorder.
+fn record<'a, R: Host>(
+    rt: &R,
+    alloc: Alloc<'a>,
+    scene: Scene<'_>,
+    cap: u64,
+    entries: usize,
+    passes: usize,
+) -> Result<Told<'a>, AllocError>
+    requires positive { 0 < cap }
+    requires fits { cap < 2 ^ 63 }
+{
+    let sizes = (cap, entries, passes);
+    record_as::<Brand, R>(rt, alloc, scene, Fresh::new(cap, passes), sizes)
+}
+
+fn record_as<'a, J: Recording + Send + Sync, R: Host>(
+    rt: &R,
+    alloc: Alloc<'a>,
+    scene: Scene<'_>,
+    fresh: Fresh<u64, u64>,
+    sizes: (u64, usize, usize),
+) -> Result<Told<'a>, AllocError>
+    requires positive { 0 < sizes.0 }
+    requires fits { sizes.0 < 2 ^ 63 }
+    requires names { fresh ≡ names J.log J.capacity J.is_reserved J.name J.parts }
+    requires capacity { fresh.capacity ≡ sizes.0 }
+    requires passes { fresh.passes ≡ sizes.2 }
+{
+    let (cap, entries, count) = sizes;
+    let made = Recorder::<J>::new(alloc, fresh, cap, entries, count);
+    let (recorder, mut passes) = made?;
+    let mut kept = Kept {
+        made: Vec::new(rt.alloc()),
+        refused: 0,
+    };
+    within(
+        rt,
+        "the end of a scene",
+        || act(rt, alloc, scene, &recorder, &mut passes, &mut kept),
+    );
+    if passes.len() != count {
+        panic!(rt; "a pass is missing");
+    }
+    let history = recorder.end(rt, passes);
+    expect_kept(rt, count, &kept.made, history.entries());
+    let refused = kept.refused;
+    Ok(Told { refused, history })
+}
+
+// Gives the passes back that it takes.
+fn act<'a, J: Recording + Send + Sync, R: Host>(
+    rt: &R,
+    alloc: Alloc<'a>,
+    scene: Scene<'_>,
+    recorder: &Recorder<'a, J>,
+    passes: &mut Passes<'a, J>,
+    kept: &mut Kept,
+) {
+    match scene {
+        Scene::Steps(steps) => play(rt, alloc, recorder, passes, kept, steps),
+        Scene::UntilRefused(steps) => play_until_refused(rt, recorder, passes, kept, steps),
+        Scene::Threads(work) => call_on_threads(rt, alloc, recorder, passes, kept, work),
+        Scene::ComesBack => come_back(rt, recorder, passes, kept),
+        Scene::CallAgain => call_again(rt, alloc, recorder, passes, kept),
+    }
+}
+
+// Makes a call, and keeps it with its reply. After a refusal the pass has seen what it had seen.
+fn call_and_keep<'a, J: Recording, R: Host>(
+    rt: &R,
+    recorder: &Recorder<'a, J>,
+    pass: &mut Caller<J>,
+    kept: &mut Kept,
+    call: Call<u64, u64>,
+) -> Result<Reply<u64, u64>, NoPlace>
+    ensures told { IfOk result (λ reply. IsTold nat_cmp J.capacity pass.old
+        (entry pass.old.number call reply) pass.new) }
+    ensures refused { OnErr result (pass.new ≡ pass.old) }
+{
+    let who = pass.number();
+    let told = recorder.call(rt, pass, call);
+    match told {
+        Ok(reply) => {
+            let made = Entry { who, call, reply };
+            kept.made.push(made).expect(rt, "memory");
+        }
+        Err(NoPlace) => kept.refused = kept.refused.wrapping_add(1),
+    }
+    told
+}
+
+// No entry stands under another number.
+fn expect_kept<R: Host>(rt: &R, passes: usize, kept: &[Made], entries: &[Made]) {
+    expect_equal(rt, entries.len(), kept.len());
+    for number in 0..passes {
+        let who = number as u64;
+        expect_equal(rt, under(rt, entries, who), under(rt, kept, who));
+    }
+}
+
+// Those under one number, in their order.
+fn under<R: Host>(rt: &R, entries: &[Made], who: u64) -> Vec<Made> {
+    let own = entries.iter().copied().filter(|entry| entry.who == who);
+    own.collect(rt.alloc()).expect(rt, "memory")
+}

@@ -1,0 +1,64 @@
+//! Each request for memory of a recorded history is refused in turn.
+use super::steps::SEVEN;
+use super::{Made, Scene, record};
+use crate::tests::{Host, expect_equal, expect_equal_at};
+use async_priority_channel::recorded::{Call, Reply};
+use refusing::Refusing;
+
+type Pair = (u64, u64);
+
+// What a channel accepted, and what came out of it.
+fn accepted_and_received<R: Host>(rt: &R, entries: &[Made]) -> (Vec<Pair>, Vec<Pair>) {
+    let mut accepted = Vec::new(rt.alloc());
+    let mut received = Vec::new(rt.alloc());
+    for entry in entries {
+        match (entry.call, entry.reply) {
+            (Call::TrySend(msg, priority), Reply::Sent(Ok(()))) => {
+                accepted.push((msg, priority)).expect(rt, "memory");
+            }
+            (Call::TryRecv, Reply::Received(Ok(pair))) => {
+                received.push(pair).expect(rt, "memory");
+            }
+            _ => {}
+        }
+    }
+    (accepted, received)
+}
+
+// Each request is refused in turn, on recorders with memory for so many entries. Until then the
+// answers are those of ample memory. Then what was accepted is received. Tells how many recorders
+// were refused, and how many calls.
+fn refuse_in_turn<R: Host>(rt: &R, entries: usize) -> (u64, u64) {
+    let alloc = Refusing::new(rt.alloc());
+    let (mut recorders, mut calls) = (0u64, 0u64);
+    for round in alloc.rounds() {
+        let n = round.expect(rt, "a request");
+        alloc.refuse_nth(n);
+        let told = record(rt, &alloc, Scene::UntilRefused(&SEVEN), 2, entries, 1);
+        let met_none = alloc.refuse_none();
+        let Ok(told) = told else {
+            expect_equal_at(rt, n, met_none, false);
+            recorders = recorders.wrapping_add(1);
+            continue;
+        };
+        expect_equal_at(rt, n, told.refused == 0, met_none);
+        calls = calls.wrapping_add(told.refused);
+        let (mut accepted, mut received) = accepted_and_received(rt, told.history.entries());
+        accepted.sort().expect(rt, "memory");
+        received.sort().expect(rt, "memory");
+        expect_equal_at(rt, n, received, accepted);
+    }
+    (recorders, calls)
+}
+
+// A recorder asks for its passes, for its channel, and for the entries that it is to have room for,
+// if any. Calls ask for more of them: with room for eight the last receive, whose entry is the
+// ninth.
+//
+// each request for memory is refused in turn
+#[test]
+fn a_recorder_refuses_what_has_no_memory(rt: HostRuntime) {
+    expect_equal(&rt, refuse_in_turn(&rt, 8), (3, 1));
+    let (recorders, calls) = refuse_in_turn(&rt, 0);
+    expect_equal(&rt, (recorders, calls > 0), (2, true));
+}

@@ -1,0 +1,182 @@
+//! Calls of one thread, with their answers.
+ghost use Rattle.std.specs.Prelude.{◌<◌, ◌^◌};
+
+use super::{Alloc, Caller, Kept, Made, Passes, Recorder, Scene, call_and_keep, record};
+use crate::tests::{Host, expect_equal};
+use async_priority_channel::TrySendError;
+use async_priority_channel::recorded::{Book, Call, Entry, NoPlace, Recording, Reply};
+use refusing::Refusing;
+
+/// One step of an example.
+#[derive(Clone, Copy)]
+pub enum Step {
+    /// The pass of this number makes a call, is answered so, and has then this count.
+    Call(u64, Call<u64, u64>, Result<Reply<u64, u64>, NoPlace>, u64),
+    /// Passes 0 and 1 meet.
+    Meet,
+    /// The next request for memory is refused.
+    RefuseNext,
+}
+
+/// Seven calls on a channel for two.
+pub const SEVEN: [Step; 7] = [
+    Step::Call(0, Call::TrySend(1, 5), Ok(Reply::Sent(Ok(()))), 1),
+    Step::Call(0, Call::TrySend(2, 9), Ok(Reply::Sent(Ok(()))), 2),
+    Step::Call(
+        0,
+        Call::TrySend(3, 1),
+        Ok(Reply::Sent(Err(TrySendError::Full((3, 1))))),
+        3,
+    ),
+    Step::Call(0, Call::TryRecv, Ok(Reply::Received(Ok((2, 9)))), 4),
+    Step::Call(0, Call::Close, Ok(Reply::Bool(true)), 5),
+    Step::Call(
+        0,
+        Call::TrySend(4, 4),
+        Ok(Reply::Sent(Err(TrySendError::Closed((4, 4))))),
+        6,
+    ),
+    Step::Call(0, Call::Len, Ok(Reply::Len(1)), 7),
+];
+
+const REFUSED_AN_ENTRY: [Step; 4] = [
+    Step::RefuseNext,
+    Step::Call(0, Call::TrySend(1, 1), Err(NoPlace), 0),
+    Step::Call(0, Call::TrySend(1, 1), Ok(Reply::Sent(Ok(()))), 1),
+    Step::Call(0, Call::Len, Ok(Reply::Len(1)), 2),
+];
+
+const TWO_PASSES: [Step; 4] = [
+    Step::Call(0, Call::TrySend(1, 5), Ok(Reply::Sent(Ok(()))), 1),
+    Step::Meet,
+    Step::Call(1, Call::TryRecv, Ok(Reply::Received(Ok((1, 5)))), 1),
+    Step::Call(0, Call::Len, Ok(Reply::Len(0)), 2),
+];
+
+// Plays the steps. The answers are those that they name.
+pub(super) fn play<'a, J: Recording, R: Host>(
+    rt: &R,
+    alloc: Alloc<'a>,
+    recorder: &Recorder<'a, J>,
+    passes: &mut Passes<'a, J>,
+    kept: &mut Kept,
+    steps: &[Step],
+) {
+    for step in steps {
+        match *step {
+            Step::Call(who, call, wanted, count) => {
+                let pass = passes.get_mut(who as usize).expect(rt, "a pass");
+                let told = call_and_keep(rt, recorder, pass, kept, call);
+                expect_equal(rt, (call, told, pass.count()), (call, wanted, count));
+            }
+            Step::Meet => meet(rt, recorder, passes),
+            Step::RefuseNext => alloc.refuse_nth(1),
+        }
+    }
+}
+
+fn meet<'a, J: Recording, R: Host>(rt: &R, recorder: &Recorder<'a, J>, passes: &mut Passes<'a, J>) {
+    let mut second = passes.pop().expect(rt, "a pass");
+    let mut first = passes.pop().expect(rt, "a pass");
+    let counts = (first.count(), second.count());
+    recorder.meet(&mut first, &mut second);
+    expect_equal(rt, (first.number(), second.number()), (0, 1));
+    expect_equal(rt, (first.count(), second.count()), counts);
+    passes.push(first).expect(rt, "its own place");
+    passes.push(second).expect(rt, "its own place");
+}
+
+// Plays the calls of pass 0 until one is refused its entry, which leaves its count. Then it
+// receives what is pending.
+pub(super) fn play_until_refused<'a, J: Recording, R: Host>(
+    rt: &R,
+    recorder: &Recorder<'a, J>,
+    passes: &mut Passes<'a, J>,
+    kept: &mut Kept,
+    steps: &[Step],
+) {
+    let pass = passes.get_mut(0).expect(rt, "a pass");
+    for (step, made) in steps.iter().zip(0..u64::MAX) {
+        let Step::Call(_, call, wanted, _) = *step else {
+            panic!(rt; "not a call");
+        };
+        let told = call_and_keep(rt, recorder, pass, kept, call);
+        if told == Err(NoPlace) {
+            expect_equal(rt, pass.count(), made);
+            break;
+        }
+        expect_equal(rt, (made, told), (made, wanted));
+    }
+    receive_rest(rt, recorder, pass, kept);
+}
+
+fn receive_rest<'a, J: Recording, R: Host>(
+    rt: &R,
+    recorder: &Recorder<'a, J>,
+    pass: &mut Caller<J>,
+    kept: &mut Kept,
+) {
+    // Two pairs, a refusal, and the answer that there are no more.
+    for _ in 0..4u64 {
+        let told = call_and_keep(rt, recorder, pass, kept, Call::TryRecv);
+        if let Ok(Reply::Received(Err(_))) = told {
+            return;
+        }
+    }
+    panic!(rt; "it was never empty");
+}
+
+// The entries of the steps' calls.
+fn entries_of<R: Host>(rt: &R, steps: &[Step]) -> Vec<Made> {
+    let mut entries = Vec::new(rt.alloc());
+    for step in steps {
+        if let Step::Call(who, call, Ok(reply), _) = *step {
+            entries
+                .push(Entry { who, call, reply })
+                .expect(rt, "memory");
+        }
+    }
+    entries
+}
+
+// Plays the steps, and compares the whole history. What was refused stands nowhere in it.
+fn expect_history<R: Host>(
+    rt: &R,
+    steps: &[Step],
+    cap: u64,
+    entries: usize,
+    passes: usize,
+    refused: u64,
+)
+    requires positive { 0 < cap }
+    requires fits { cap < 2 ^ 63 }
+{
+    let alloc = Refusing::new(rt.alloc());
+    let told = record(rt, &alloc, Scene::Steps(steps), cap, entries, passes);
+    let told = told.expect(rt, "a recorder");
+    let wanted = entries_of(rt, steps);
+    expect_equal(rt, told.history.entries(), wanted.as_slice());
+    expect_equal(rt, told.refused, refused);
+}
+
+#[test]
+fn a_recorded_history_of_seven_calls(rt: HostRuntime) {
+    expect_history(&rt, &SEVEN, 2, 8, 1, 0);
+    let mut book = Book::new(rt.alloc(), 2, 8).expect(&rt, "a book");
+    for step in SEVEN {
+        if let Step::Call(who, call, wanted, _) = step {
+            expect_equal(&rt, (call, book.record(who, call)), (call, wanted));
+        }
+    }
+    expect_equal(&rt, book.history(), entries_of(&rt, &SEVEN).as_slice());
+}
+
+#[test]
+fn an_entry_is_refused_memory(rt: HostRuntime) {
+    expect_history(&rt, &REFUSED_AN_ENTRY, 1, 0, 1, 1);
+}
+
+#[test]
+fn two_passes_meet(rt: HostRuntime) {
+    expect_history(&rt, &TWO_PASSES, 2, 8, 2, 0);
+}

@@ -1,0 +1,180 @@
+//! Threads with a pass each, which call at once.
+use super::{Alloc, Caller, Kept, Made, Passes, Recorder, Scene, call_and_keep, record};
+use crate::tests::{Host, expect_equal};
+use async_priority_channel::recorded::{Call, Recording, Reply};
+use async_priority_channel::{TryRecvError, TrySendError};
+use refusing::Refusing;
+use std::alloc::Global;
+use std::sync::atomic::{AtomicUsize, Ordering};
+use std::{mem, thread};
+
+/// The calls of each thread.
+#[derive(Clone, Copy)]
+pub enum Work {
+    Mixed,
+    Close,
+}
+
+const CALLS: u64 = 1000;
+
+const CAPACITY: u64 = 3;
+
+impl Work {
+    fn count(self) -> u64 {
+        match self {
+            Work::Mixed => CALLS,
+            Work::Close => 1,
+        }
+    }
+
+    fn call(self, who: u64, i: u64) -> Call<u64, u64> {
+        match self {
+            Work::Mixed => mixed_call(who, i),
+            Work::Close => Call::Close,
+        }
+    }
+}
+
+fn mixed_call(who: u64, i: u64) -> Call<u64, u64> {
+    let msg = who.wrapping_mul(CALLS).wrapping_add(i);
+    match i.wrapping_add(who) % 4 {
+        0 => Call::TrySend(msg, i % 7),
+        1 => Call::TryRecv,
+        2 => Call::Len,
+        _ => Call::TrySend(msg, i % 5),
+    }
+}
+
+// Waits until `count` threads have arrived. It does not sleep, so that they go on at the same
+// moment.
+fn arrive(arrived: &AtomicUsize, count: usize) {
+    arrived.fetch_add(1, Ordering::SeqCst);
+    for _ in 0..u64::MAX {
+        if arrived.load(Ordering::SeqCst) >= count {
+            return;
+        }
+        thread::yield_now();
+    }
+}
+
+// The calls of one thread, and what it kept of them. There is memory for all entries.
+fn call_often<'a, J: Recording, R: Host>(
+    rt: &R,
+    recorder: &Recorder<'a, J>,
+    mut pass: Caller<J>,
+    work: Work,
+) -> (Caller<J>, Kept) {
+    let who = pass.number();
+    let mut kept = Kept {
+        made: Vec::new(rt.alloc()),
+        refused: 0,
+    };
+    for i in 0..work.count() {
+        let told = call_and_keep(rt, recorder, &mut pass, &mut kept, work.call(who, i));
+        expect_equal(rt, (who, i, told.is_ok()), (who, i, true));
+    }
+    expect_equal(rt, (who, pass.count()), (who, work.count()));
+    (pass, kept)
+}
+
+/// Each pass calls on a thread of its own.
+pub(super) fn call_on_threads<'a, J: Recording + Send + Sync, R: Host>(
+    rt: &R,
+    alloc: Alloc<'a>,
+    recorder: &Recorder<'a, J>,
+    passes: &mut Passes<'a, J>,
+    kept: &mut Kept,
+    work: Work,
+) {
+    let all = mem::replace(passes, Vec::new(alloc));
+    let count = all.len();
+    let arrived = AtomicUsize::new(0);
+    let called = thread::map_vec(
+        rt,
+        all,
+        &|pass| {
+            arrive(&arrived, count);
+            call_often(rt, recorder, pass, work)
+        },
+    );
+    for (pass, own) in called.expect(rt, "memory for the passes") {
+        passes.push(pass).expect(rt, "memory");
+        kept.made.extend_from_slice(&own.made).expect(rt, "memory");
+    }
+}
+
+/// A channel as a plain list of its pairs, in the order of their acceptance.
+#[derive(Drop)]
+struct PlainList {
+    pending: Vec<(u64, u64)>,
+}
+
+impl PlainList {
+    fn new(alloc: Global) -> Self {
+        PlainList {
+            pending: Vec::new(alloc),
+        }
+    }
+
+    // None to a call that the threads do not make.
+    fn answer<R: Host>(&mut self, rt: &R, call: Call<u64, u64>) -> Option<Reply<u64, u64>> {
+        match call {
+            Call::TrySend(msg, priority) => Some(self.send(rt, (msg, priority))),
+            Call::TryRecv => Some(self.receive()),
+            Call::Len => Some(Reply::Len(self.pending.len() as u64)),
+            _ => None,
+        }
+    }
+
+    fn send<R: Host>(&mut self, rt: &R, pair: (u64, u64)) -> Reply<u64, u64> {
+        if self.pending.len() as u64 >= CAPACITY {
+            return Reply::Sent(Err(TrySendError::Full(pair)));
+        }
+        self.pending.push(pair).expect(rt, "memory");
+        Reply::Sent(Ok(()))
+    }
+
+    // The first of those that no pair exceeds in priority.
+    fn receive(&mut self) -> Reply<u64, u64> {
+        let greatest = self.pending.iter().map(|pair| pair.1).max();
+        let at = self
+            .pending
+            .iter()
+            .position(|pair| Some(pair.1) == greatest);
+        match at {
+            Some(at) => Reply::Received(Ok(self.pending.remove(at))),
+            None => Reply::Received(Err(TryRecvError::Empty)),
+        }
+    }
+}
+
+#[test]
+fn four_threads_record_a_thousand_calls_each(rt: HostRuntime) {
+    let alloc = Refusing::new(rt.alloc());
+    let told = record(&rt, &alloc, Scene::Threads(Work::Mixed), CAPACITY, 4000, 4);
+    let told = told.expect(&rt, "a recorder");
+    let entries = told.history.entries();
+    expect_equal(&rt, entries.len(), 4000);
+    let mut list = PlainList::new(rt.alloc());
+    for entry in entries {
+        let wanted = list.answer(&rt, entry.call);
+        expect_equal(&rt, (*entry, Some(entry.reply)), (*entry, wanted));
+    }
+}
+
+fn count_replies(entries: &[Made], was_open: bool) -> usize {
+    entries
+        .iter()
+        .filter(|entry| entry.reply == Reply::Bool(was_open))
+        .count()
+}
+
+#[test]
+fn sixteen_threads_close_a_recorded_channel(rt: HostRuntime) {
+    let alloc = Refusing::new(rt.alloc());
+    let told = record(&rt, &alloc, Scene::Threads(Work::Close), 1, 16, 16);
+    let told = told.expect(&rt, "a recorder");
+    let entries = told.history.entries();
+    let (closes, others) = (count_replies(entries, true), count_replies(entries, false));
+    expect_equal(&rt, (entries.len(), closes, others), (16, 1, 15));
+}

@@ -1,0 +1,148 @@
+//! The states of futures by their names, polled on the core.
+use super::answers::{
+    handed, ready_received, ready_sent, ready_sent_many, text, told, told_pair, told_pending,
+};
+use super::ledger::Ledger;
+use super::on_core::Core;
+use super::words::{Bulk, Text, pair, waker};
+use crate::tests::Host;
+use async_priority_channel::waiting::{RecvState, SendState, SendvState};
+use futures::task::Poll;
+
+#[derive(Drop)]
+pub enum State {
+    Send(SendState<Text, u64>),
+    Sendv(SendvState<Bulk>),
+    Recv(RecvState),
+}
+
+impl State {
+    pub fn new<R: Host>(rt: &R, ledger: &mut Ledger, call: &[Text]) -> Self {
+        match call {
+            ["send", word] => {
+                let (msg, priority) = pair(rt, *word);
+                ledger.submit(rt, (msg, priority));
+                State::Send(SendState::new(msg, priority))
+            }
+            ["sendv", words @ ..] => State::Sendv(SendvState::new(ledger.submit_many(rt, words))),
+            ["recv"] => State::Recv(RecvState::new()),
+            _ => panic!(rt; "no state of {call:?}"),
+        }
+    }
+
+    fn ticket(&self) -> Option<u64> {
+        match self {
+            State::Send(send) => send.ticket(),
+            State::Sendv(sendv) => sendv.ticket(),
+            State::Recv(recv) => recv.ticket(),
+        }
+    }
+
+    fn is_done(&self) -> bool {
+        match self {
+            State::Send(send) => send.is_done(),
+            State::Sendv(sendv) => sendv.is_done(),
+            State::Recv(recv) => recv.is_done(),
+        }
+    }
+
+    pub fn make<R: Host>(
+        &mut self,
+        rt: &R,
+        ledger: &mut Ledger,
+        core: &mut Core<'_>,
+        call: &[Text],
+    ) -> String {
+        match call {
+            ["poll", word] => self.poll(rt, ledger, core, waker(rt, *word)),
+            ["give_up"] => self.give_up(rt, ledger, core),
+            ["ticket"] => told(rt, self.ticket()),
+            ["is_done"] => told(rt, self.is_done()),
+            _ => panic!(rt; "a state has no call {call:?}"),
+        }
+    }
+
+    fn poll<R: Host>(
+        &mut self,
+        rt: &R,
+        ledger: &mut Ledger,
+        core: &mut Core<'_>,
+        waker: u64,
+    ) -> String {
+        match self {
+            State::Send(send) => poll_send(rt, ledger, core, send, waker),
+            State::Sendv(sendv) => poll_sendv(rt, ledger, core, sendv, waker),
+            State::Recv(recv) => poll_recv(rt, ledger, core, recv, waker),
+        }
+    }
+
+    fn give_up<R: Host>(&mut self, rt: &R, ledger: &mut Ledger, core: &mut Core<'_>) -> String {
+        let kept = match self {
+            State::Send(send) => {
+                let Some(pair) = send.give_up_on(core) else {
+                    return text(rt, "None");
+                };
+                ledger.end(rt, pair);
+                told_pair(rt, pair)
+            }
+            State::Sendv(sendv) => {
+                let Some(rest) = sendv.give_up_on(core) else {
+                    return text(rt, "None");
+                };
+                told(rt, ledger.keep(rt, rest))
+            }
+            State::Recv(recv) => {
+                let Some(()) = recv.give_up_on(core) else {
+                    return text(rt, "None");
+                };
+                text(rt, "()")
+            }
+        };
+        format!(in rt.alloc(); "Some({kept})").expect(rt, "memory")
+    }
+}
+
+fn poll_send<R: Host>(
+    rt: &R,
+    ledger: &mut Ledger,
+    core: &mut Core<'_>,
+    send: &mut SendState<Text, u64>,
+    waker: u64,
+) -> String {
+    let (polled, wakes) = send.poll_on(core, &waker);
+    let told = match polled {
+        Poll::Ready(sent) => ready_sent(rt, ledger, sent),
+        Poll::Pending => told_pending(rt, send.ticket()),
+    };
+    handed(rt, told, wakes)
+}
+
+fn poll_sendv<R: Host>(
+    rt: &R,
+    ledger: &mut Ledger,
+    core: &mut Core<'_>,
+    sendv: &mut SendvState<Bulk>,
+    waker: u64,
+) -> String {
+    let (polled, wakes) = sendv.poll_on(core, &waker);
+    let told = match polled {
+        Poll::Ready(sent) => ready_sent_many(rt, ledger, sent),
+        Poll::Pending => told_pending(rt, sendv.ticket()),
+    };
+    handed(rt, told, wakes)
+}
+
+fn poll_recv<R: Host>(
+    rt: &R,
+    ledger: &mut Ledger,
+    core: &mut Core<'_>,
+    recv: &mut RecvState,
+    waker: u64,
+) -> String {
+    let (polled, wakes) = recv.poll_on(core, &waker);
+    let told = match polled {
+        Poll::Ready(received) => ready_received(rt, ledger, received),
+        Poll::Pending => told_pending(rt, recv.ticket()),
+    };
+    handed(rt, told, wakes)
+}

@@ -1,0 +1,20 @@
+//! Examples of which each request for memory is refused in turn.
+use super::rows::{CHANNELS, CORE};
+use super::script::Ground::{Core, Handles};
+use super::script::play_refused;
+
+#[test]
+fn each_request_for_memory_is_refused_in_turn(rt: HostRuntime) {
+    for ground in [Core, Handles] {
+        play_refused(&rt, ground, CHANNELS, "three sends come out by priority");
+        play_refused(
+            &rt,
+            ground,
+            CHANNELS,
+            "a bulk send of a hundred into ten places",
+        );
+    }
+    // On the core a clone takes no memory.
+    play_refused(&rt, Handles, CHANNELS, "twenty clones and their drops");
+    play_refused(&rt, Core, CORE, "a bulk send's state over five pairs");
+}

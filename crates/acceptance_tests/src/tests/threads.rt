@@ -1,0 +1,228 @@
+//! Handles on many threads.
+use super::watch::within;
+use super::{Host, expect_equal, expect_equal_at, expect_true, wait_for};
+use async_priority_channel::{Ends, Receiver, RecvError, RecvFault, Sender, bounded, unbounded};
+use std::sync::atomic::{AtomicUsize, Ordering};
+use std::thread;
+use std::time::Duration;
+
+// Each of ten threads has a receiver.
+fn close_ten_receivers<R: Host>(rt: &R) {
+    let (tx, rx) = bounded::<u64, u64, _, _>(rt, rt.alloc(), 10).expect(rt, "a channel");
+    let (answers, was_open) = thread::join(
+        rt,
+        || thread::map_indices(rt, rt.alloc(), 10, &|_| receive_once(rt, &rx)),
+        || {
+            // So that they are likely to wait by then.
+            thread::sleep(rt, Duration::from_millis(30));
+            tx.close()
+        },
+    );
+    expect_true(rt, was_open, "a close before");
+    let answers = answers.expect(rt, "memory");
+    expect_equal(rt, answers.len(), 10);
+    for answer in answers {
+        expect_equal(rt, answer, Err(RecvFault::Closed(RecvError)));
+    }
+}
+
+fn receive_once<R: Host>(rt: &R, rx: &Receiver<u64, u64, R>) -> Result<(u64, u64), RecvFault> {
+    let own = rx.clone().expect(rt, "a receiver");
+    wait_for(rt, own.recv())
+}
+
+#[test]
+fn a_close_ends_ten_receiving_threads(rt: HostRuntime) {
+    within(&rt, "ten receives", || close_ten_receivers(&rt));
+}
+
+fn send_numbers<R: Host>(rt: &R, tx: &Sender<u64, u64, R>, first: u64, count: u64) {
+    let own = tx.clone().expect(rt, "a sender");
+    for i in 0..count {
+        let number = first.wrapping_add(i);
+        let sent = wait_for(rt, own.send(number, number));
+        expect_equal_at(rt, number, sent, Ok(()));
+    }
+}
+
+fn receive_numbers<R: Host>(rt: &R, rx: &Receiver<u64, u64, R>, count: u64) -> Vec<u64> {
+    let own = rx.clone().expect(rt, "a receiver");
+    let mut numbers = Vec::new(rt.alloc());
+    for _ in 0..count {
+        let received = wait_for(rt, own.recv());
+        let (number, _) = received.ok().expect(rt, "the channel is open");
+        numbers.push(number).expect(rt, "memory");
+    }
+    numbers
+}
+
+/// How many threads, and how many messages of each.
+type Crew = (usize, u64);
+
+fn send_on_threads<R: Host>(rt: &R, tx: &Sender<u64, u64, R>, (senders, each): Crew) {
+    let send = |number| send_numbers(rt, tx, each.wrapping_mul(number as u64), each);
+    let sent = thread::map_indices(rt, rt.alloc(), senders, &send);
+    expect_true(rt, sent.is_ok(), "memory");
+}
+
+fn receive_on_threads<R: Host>(
+    rt: &R,
+    rx: &Receiver<u64, u64, R>,
+    (receivers, each): Crew,
+) -> Vec<u64> {
+    let receive = |_| receive_numbers(rt, rx, each);
+    let received = thread::map_indices(rt, rt.alloc(), receivers, &receive);
+    let mut came = Vec::new(rt.alloc());
+    for numbers in received.expect(rt, "memory") {
+        came.extend(numbers.into_iter()).expect(rt, "memory");
+    }
+    came
+}
+
+// Each number comes once.
+fn exchange<R: Host>(rt: &R, ends: Ends<u64, u64, R>, senders: Crew, receivers: Crew) {
+    let (tx, rx) = ends;
+    let ((), mut came) = thread::join(
+        rt,
+        || send_on_threads(rt, &tx, senders),
+        || receive_on_threads(rt, &rx, receivers),
+    );
+    came.sort().expect(rt, "memory");
+    expect_equal(rt, came.len(), senders.0.saturating_mul(senders.1 as usize));
+    for (place, number) in came.iter().enumerate() {
+        expect_equal(rt, *number, place as u64);
+    }
+}
+
+// On a channel with no limit, and on one for ten.
+fn exchange_on_both<R: Host>(rt: &R, senders: Crew, receivers: Crew) {
+    let ends = unbounded(rt, rt.alloc()).expect(rt, "a channel");
+    let go = || exchange(rt, ends, senders, receivers);
+    within(rt, "an exchange without a limit", go);
+    let ends = bounded(rt, rt.alloc(), 10).expect(rt, "a channel");
+    let go = || exchange(rt, ends, senders, receivers);
+    within(rt, "an exchange over ten places", go);
+}
+
+#[test]
+fn one_sender_and_one_receiver_a_thousand_messages(rt: HostRuntime) {
+    exchange_on_both(&rt, (1, 1000), (1, 1000));
+}
+
+#[test]
+fn ten_senders_and_one_receiver(rt: HostRuntime) {
+    exchange_on_both(&rt, (10, 500), (1, 5000));
+}
+
+#[test]
+fn one_sender_and_ten_receivers(rt: HostRuntime) {
+    exchange_on_both(&rt, (1, 5000), (10, 500));
+}
+
+const CLOSES: usize = 16;
+
+// Waits until so many have arrived, so that they go on at the same moment.
+fn meet(arrived: &AtomicUsize, count: usize) {
+    arrived.fetch_add(1, Ordering::SeqCst);
+    for _ in 0..u64::MAX {
+        if arrived.load(Ordering::SeqCst) >= count {
+            return;
+        }
+        thread::yield_now();
+    }
+}
+
+fn close_by_own<R: Host>(rt: &R, tx: &Sender<u64, u64, R>, arrived: &AtomicUsize) -> bool {
+    let own = tx.clone().expect(rt, "a sender");
+    meet(arrived, CLOSES);
+    own.close()
+}
+
+fn close_by_sixteen<R: Host>(rt: &R) {
+    let (tx, rx) = bounded::<u64, u64, _, _>(rt, rt.alloc(), 1).expect(rt, "a channel");
+    let arrived = AtomicUsize::new(0);
+    let closes = thread::map_indices(rt, rt.alloc(), CLOSES, &|_| close_by_own(rt, &tx, &arrived));
+    let closes = closes.expect(rt, "memory");
+    let count = closes.iter().filter(|was_open| **was_open).count();
+    expect_equal(rt, (closes.len(), count, rx.is_closed()), (16, 1, true));
+}
+
+#[test]
+fn sixteen_threads_close_one_channel(rt: HostRuntime) {
+    within(&rt, "sixteen closes", || close_by_sixteen(&rt));
+}
+
+const NUMBERS: u64 = 10;
+
+// How many tries a side makes at most.
+const TRIES: u64 = 10_000_000;
+
+/// One of the two sides.
+#[derive(Drop)]
+struct Side<'a, R: Host> {
+    rt: &'a R,
+    tx: &'a Sender<u64, u64, R>,
+    rx: &'a Receiver<u64, u64, R>,
+    tries: u64,
+}
+
+impl<'a, R: Host> Side<'a, R> {
+    fn new(rt: &'a R, tx: &'a Sender<u64, u64, R>, rx: &'a Receiver<u64, u64, R>) -> Self {
+        Side {
+            rt,
+            tx,
+            rx,
+            tries: 0,
+        }
+    }
+
+    fn send(&mut self, number: u64) {
+        for _ in self.tries..TRIES {
+            self.tries = self.tries.wrapping_add(1);
+            if self.tx.try_send(number, number).is_ok() {
+                return;
+            }
+            thread::yield_now();
+        }
+        panic!(self.rt; "{TRIES} tries, the last to send {number}");
+    }
+
+    fn receive(&mut self) -> u64 {
+        for _ in self.tries..TRIES {
+            self.tries = self.tries.wrapping_add(1);
+            if let Ok((number, _)) = self.rx.try_recv() {
+                return number;
+            }
+            thread::yield_now();
+        }
+        panic!(self.rt; "{TRIES} tries, the last to receive");
+    }
+}
+
+// Sends each number once the one before has come back.
+fn ping<R: Host>(mut side: Side<'_, R>) {
+    for i in 1..=NUMBERS {
+        side.send(i);
+        expect_equal(side.rt, side.receive(), i);
+    }
+}
+
+// Sends back what it receives.
+fn pong<R: Host>(mut side: Side<'_, R>) {
+    for _ in 0..NUMBERS {
+        let number = side.receive();
+        side.send(number);
+    }
+}
+
+// One thread that ran the sides one after the other could not end.
+#[test]
+fn two_threads_play_ping_pong(rt: HostRuntime) {
+    let (there_tx, there_rx) = bounded(&rt, rt.alloc(), 1).expect(&rt, "a channel");
+    let (back_tx, back_rx) = bounded(&rt, rt.alloc(), 1).expect(&rt, "a channel");
+    thread::join(
+        &rt,
+        || ping(Side::new(&rt, &there_tx, &back_rx)),
+        || pong(Side::new(&rt, &back_tx, &there_rx)),
+    );
+}

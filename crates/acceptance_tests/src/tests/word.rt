@@ -1,0 +1,34 @@
+//! The word of a channel: the count of its messages, and whether it is closed.
+use super::{expect_equal, expect_true};
+use priority_channel_core::awaitable_atomics::{AwaitableAtomicCounterAndBit, Wakes};
+use std::process::Abort;
+
+type Word = AwaitableAtomicCounterAndBit<u64>;
+
+/// What a call answered that is to hand out nobody.
+pub fn unwoken<X, W: Drop>(rt: &impl Abort, (answer, wakes): (X, Wakes<W>)) -> X {
+    let (room, message) = wakes.into_lists();
+    let is_nobody = room.is_empty() && message.is_empty();
+    expect_true(rt, is_nobody, "somebody is handed out");
+    answer
+}
+
+#[test]
+fn the_word_counts_and_closes(rt: HostRuntime) {
+    let mut word = Word::new(rt.alloc(), 5);
+    expect_equal(&rt, unwoken(&rt, word.set_bit()), false);
+    expect_equal(&rt, word.load(), (true, 5));
+    expect_equal(&rt, unwoken(&rt, word.incr(2)), (true, 5));
+    expect_equal(&rt, word.load(), (true, 7));
+    expect_equal(&rt, unwoken(&rt, word.decr()), (true, 7));
+    expect_equal(&rt, unwoken(&rt, word.incr(0)), (true, 6));
+    expect_equal(&rt, unwoken(&rt, word.set_bit()), true);
+}
+
+#[test]
+fn the_word_at_its_greatest_count(rt: HostRuntime) {
+    let mut word = Word::new(rt.alloc(), 9223372036854775807);
+    expect_equal(&rt, word.load(), (false, 9223372036854775807));
+    expect_equal(&rt, unwoken(&rt, word.decr()), (false, 9223372036854775807));
+    expect_equal(&rt, word.load(), (false, 9223372036854775806));
+}
