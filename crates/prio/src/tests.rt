@@ -1,4 +1,5 @@
 //! Whole scripts, with their answers.
+mod examples;
 mod failures;
 mod memory;
 mod refusals;
@@ -79,15 +80,6 @@ fn assert_run<R: Host>(rt: &R, script: &[u8], status: u8, answers: &str, faults:
 #[test]
 fn answers_each_line(rt: HostRuntime) {
     let cases = [
-        (EXAMPLE, "ok\nok\nfull\nx 5\nempty\n"),
-        (
-            "reserved 3\nsend -2 a\nsend 0 b\nsend -1 c\nrecv\nrecv\nrecv\n",
-            "ok\nok\nok\nok\nb 0\nc -1\na -2\n",
-        ),
-        (
-            "reserved 1\nrecv\nclose\nclose\nsend 0 z\nrecv\n",
-            "ok\nempty\ntrue\nfalse\nclosed\nclosed\n",
-        ),
         // What is pending when the channel closes can be received.
         (
             "reserved 1\nsend 1 a\nclose\nrecv\nrecv\n",
@@ -98,28 +90,14 @@ fn answers_each_line(rt: HostRuntime) {
             "reserved 4\nsend 1 a\nsend 1 b\nsend 1 c\nrecv\nrecv\nrecv\n",
             "ok\nok\nok\nok\na 1\nb 1\nc 1\n",
         ),
-        (
-            "bounded 5\nsendv 1 a 1 b 1 c\nrecv\nrecv\nrecv\n",
-            "ok\nok\na 1\nb 1\nc 1\n",
-        ),
         // The extreme priorities, the first and the last character of words, no last line feed.
         (
             "reserved 2\nsend -9223372036854775808 !\nsend 9223372036854775807 ~\nrecv\nrecv",
             "ok\nok\nok\n~ 9223372036854775807\n! -9223372036854775808\n",
         ),
         ("reserved 10", "ok\n"),
-        (
-            "unbounded\ncapacity\nsendv 1 a 3 c 2 b\nrecv\nrecv\nclose\n\
-             send 4 d\nsendv\nrecv\nrecv\nlen\n",
-            "ok\nnone\nok\nc 3\nb 2\ntrue\nclosed\nclosed 0\na 1\nclosed\n0\n",
-        ),
-        // A bulk send that just fills the channel is `ok`, and into a full one even an empty one is
-        // refused.
-        (
-            "bounded 2\nsendv 1 a 2 b 3 c\nsendv\nrecv\nsendv 9 d\nsendv\n",
-            "ok\nfull 1\nfull 0\nb 2\nok\nfull 0\n",
-        ),
-        // So it is into a reserved channel, and on a closed channel nothing is sent.
+        // Into a reserved channel as many are sent as there is room for, and on a closed channel
+        // none.
         (
             "reserved 2\nsendv\nlen\nsendv -1 a 0 b 1 c 2 d\nlen\nclose\nsendv 3 e 4 f\nlen\n\
              recv\nrecv\nrecv\n",
@@ -136,10 +114,6 @@ fn answers_each_line(rt: HostRuntime) {
             "bounded 1\ncapacity\nlen\nsend 1 a\nlen",
             "ok\n1\n0\nok\n1\n",
         ),
-        (
-            "bounded 1\nsend -9223372036854775808 m\nrecv",
-            "ok\nok\nm -9223372036854775808\n",
-        ),
         // A capacity takes no memory before pairs come.
         (
             "bounded 9223372036854775808\ncapacity\nsend 1 a\nrecv\n",
@@ -155,12 +129,6 @@ fn answers_each_line(rt: HostRuntime) {
     for (script, answers) in cases {
         assert_run(&rt, script.as_bytes(), 0, answers, "");
     }
-}
-
-#[test]
-fn has_no_memory_for_the_largest_capacity(rt: HostRuntime) {
-    let script = b"reserved 9223372036854775807\nrecv\n";
-    assert_run(&rt, script, 3, "", "line 1: no memory\n");
 }
 
 // Longer than the buffers are.

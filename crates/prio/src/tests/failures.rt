@@ -52,6 +52,7 @@ fn lines_in(pieces: usize) -> usize {
         .count()
 }
 
+// prio: each read and each write fails in turn
 #[test]
 fn stops_at_a_failed_read(rt: HostRuntime) {
     for n in 0..READS + 1 {
@@ -150,6 +151,7 @@ fn assert_stops_at_failure<R: Host>(rt: &R, mut answers: FailingWriter, answered
     );
 }
 
+// prio: each read and each write fails in turn
 #[test]
 fn stops_at_a_failed_write(rt: HostRuntime) {
     // Each answer is written by itself, since the reader gives less than two lines at a time.
