@@ -4,7 +4,6 @@ use std::process::Abort;
 
 mod bag;
 mod calls;
-mod errors;
 mod iterators;
 mod lists;
 mod long;

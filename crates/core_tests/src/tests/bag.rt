@@ -1,4 +1,5 @@
-//! The bag compares seldom and keeps its order, in either heap.
+//! The bag compares seldom and keeps its order also once a send has made room, which arranges it as
+//! another heap.
 use super::{expect_equal, expect_true};
 use priority_channel_core::bag::Bag;
 use priority_channel_core::comparisons::Comparisons;
@@ -81,23 +82,20 @@ type Counting<'a> = Bag<u64, Counted<'a>>;
 const MANY: u64 = 1024;
 
 // Pushes to each length, beside the bound on the comparisons of one push.
-fn fill<'a>(rt: &impl Abort, bag: &mut Counting<'a>, count: &'a Cell<u64>, heap: &str) {
+fn fill<'a>(rt: &impl Abort, bag: &mut Counting<'a>, count: &'a Cell<u64>) {
     let mut value: u64 = 1;
     for length in 1..=MANY {
         value = value.wrapping_mul(1103515245).wrapping_add(12345) % 0x8000_0000;
-        bag.make_slot().expect(rt, "memory");
+        bag.make_place().expect(rt, "memory");
         assert!(rt; bag.can_push());
         count.set(0);
         bag.push(length, Counted { value, count });
-        assert!(rt;
-            count.get() <= digits_of(length),
-            "a push to {length} of the {heap}"
-        );
+        assert!(rt; count.get() <= digits_of(length), "a push to {length}");
     }
 }
 
 // Pops from each length.
-fn drain(rt: &impl Abort, bag: &mut Counting<'_>, count: &Cell<u64>, heap: &str) {
+fn drain(rt: &impl Abort, bag: &mut Counting<'_>, count: &Cell<u64>) {
     let mut last = u64::MAX;
     for length in (1..=MANY).rev() {
         count.set(0);
@@ -105,11 +103,8 @@ fn drain(rt: &impl Abort, bag: &mut Counting<'_>, count: &Cell<u64>, heap: &str)
             panic!(rt; "{length} are to be pending");
         };
         let most = digits_of(length).wrapping_mul(2);
-        assert!(rt; count.get() <= most, "a pop from {length} of the {heap}");
-        assert!(rt;
-            priority.value <= last,
-            "the order of the {heap}, at {length}"
-        );
+        assert!(rt; count.get() <= most, "a pop from {length}");
+        assert!(rt; priority.value <= last, "the order at {length}");
         last = priority.value;
     }
 }
@@ -134,19 +129,17 @@ fn displace<'a>(rt: &impl Abort, bag: &mut Counting<'a>, count: &'a Cell<u64>) {
 
 // Also comparisons that go past the counter are seen here.
 #[test]
-fn a_bag_compares_seldom_at_each_length(rt: HostRuntime) {
+fn a_bag_that_has_made_room_compares_seldom_at_each_length(rt: HostRuntime) {
     let cell = Cell::new(0);
     let count = &cell;
     let mut bag: Counting<'_> = Bag::new(rt.alloc());
-    fill(&rt, &mut bag, count, "binary heap");
-    drain(&rt, &mut bag, count, "binary heap");
     // From this call on the pairs lie as another heap.
     assert!(rt; bag.can_push());
     let displaced = bag.displace(0, Counted { value: 0, count });
     expect_true(&rt, displaced.is_err(), "nothing to displace");
-    fill(&rt, &mut bag, count, "interval heap");
+    fill(&rt, &mut bag, count);
     displace(&rt, &mut bag, count);
-    drain(&rt, &mut bag, count, "interval heap");
+    drain(&rt, &mut bag, count);
     // What counts them for the contracts.
     expect_equal(&rt, size_of::<Comparisons>(), 0);
 }

@@ -6,9 +6,7 @@ fn a_reserved_channel_needs_no_memory(rt: HostRuntime) {
     play(
         &rt,
         "
-        reserved 2; refuse all
-        try_send a1; try_send b2; try_send c3 = Err(Full(('c', 3)))
-        try_recv = Ok(('b', 2)); try_send c3; pending = (2, false, true)
+        reserved 2; refuse all; try_send a1; try_send c3
         poll_send - 1 d4 = Ready(Err(Memory(('d', 4))))   # to wait takes some
         clone_sender = true; clone_receiver = true; handles = (2, 2)
         change_priority c2 = Ok(3); change_priority d9 = Err(9)
@@ -27,19 +25,11 @@ fn what_is_refused_comes_back_and_waits_no_more(rt: HostRuntime) {
     play(
         &rt,
         "
-        bounded 10; refuse all
-        try_send a5 = Err(Memory(('a', 5))); try_send_evicting a5 = Err(Memory(('a', 5)))
-        try_recv = Err(Empty); refuse none = false; try_send a5; try_recv = Ok(('a', 5))
-
-        bounded 10; refuse 1; try_sendv a0 b1 = Err(Memory([('a', 0), ('b', 1)]))
-        pending = (0, true, false); try_sendv a0 b1; try_recv = Ok(('b', 1))
+        bounded 10; refuse all; try_send_evicting a5 = Err(Memory(('a', 5)))
+        try_recv = Err(Empty); refuse none = false
 
         bounded 1; try_send a1; refuse 1   # a batch needs no memory
         try_recv_many 2 = (Ok(1), [('a', 1)]); refuse none = true
-
-        bounded 1; poll_recv - 1 = Pending((), 0)
-        refuse 1; poll_recv 0 2 = Ready(Err(Memory))   # the clone of the waker
-        refuse none = false; try_send a1
 
         bounded 1; try_send a1; poll_send - 1 b2 = Pending(('b', 2), 0)
         refuse 1; poll_send 0 2 b2 = Ready(Err(Memory(('b', 2))))

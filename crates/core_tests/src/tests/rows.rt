@@ -1,71 +1,21 @@
-//! The worked examples of calls, each with its answer and the waiters that it wakes.
+//! Calls of the core, each with its answer and the waiters that it wakes, beside the examples of
+//! `acceptance_tests`.
 use super::script::play;
 
 #[test]
-fn sends_and_receives_answer_as_worked_by_hand(rt: HostRuntime) {
+fn sends_batches_and_handles_answer_as_worked_by_hand(rt: HostRuntime) {
     play(
         &rt,
         "
-        # the greatest priority comes first
-        unbounded; try_send f0; try_send b2; try_send z1; try_recv = Ok(('b', 2))
-        bounded 1; try_send f0; try_recv = Ok(('f', 0))
-        unbounded; try_send a1; try_send c3; try_send b2
-        try_recv = Ok(('c', 3)); try_recv = Ok(('b', 2)); try_recv = Ok(('a', 1))
-        unbounded   # of equal ones the first that was accepted
-        try_send a1; try_send b1; try_send c2; try_send d1
-        try_recv = Ok(('c', 2)); try_recv = Ok(('a', 1)); try_recv = Ok(('b', 1))
-        try_recv = Ok(('d', 1))
-        bounded 3   # also across receives
-        try_send a0; try_send b0; try_recv = Ok(('a', 0)); try_send c0; try_send d0
-        try_recv = Ok(('b', 0)); try_recv = Ok(('c', 0)); try_recv = Ok(('d', 0))
-
-        # a send is refused by the first cause
-        bounded 3; try_send a1; try_send c3; try_send b2; close = true
-        try_send d4 = Err(Closed(('d', 4)))   # though it is full too
-        try_recv = Ok(('c', 3)); try_recv = Ok(('b', 2)); try_recv = Ok(('a', 1))
-        try_recv = Err(Closed)
-        bounded 2; close = true
-        try_send d4 = Err(Closed(('d', 4))); try_recv = Err(Closed); close = false
-        bounded 1; try_send x5
-        try_send y9 = Err(Full(('y', 9)))   # though it is more urgent
-        try_recv = Ok(('x', 5)); try_recv = Err(Empty)
-        reserved 1; try_send x5; try_send y9 = Err(Full(('y', 9)))
-        try_recv = Ok(('x', 5)); try_recv = Err(Empty)
-
-        # a bulk send takes what there is room for
-        bounded 10; try_sendv a0 b1; try_recv = Ok(('b', 1)); try_recv = Ok(('a', 0))
-        try_sendv a0 b0 c0 d0 e0 f0 g0 h0 i0 j0 k0 l0 = Err(Full([('k', 0), ('l', 0)]))
-        pending = (10, false, true)
-        bounded 10; is_closed = false; close = true; is_closed = true
-        try_sendv a0 b1 = Err(Closed([('a', 0), ('b', 1)])); pending = (0, true, false)
-        bounded 2; try_sendv a0 b1; pending = (2, false, true)   # just filling is no refusal
-        bounded 1; try_sendv; try_send x5   # nothing is refused where a pair would be
-        try_sendv = Err(Full([])); close = true; try_sendv = Err(Closed([])); close = false
-        bounded 1; poll_recv - 1 = Pending((), 0)   # and wakes nobody
-        try_sendv; try_send x1 = Ok(()), message [(0, 1)]
-
-        # a channel tells how full it is
-        bounded 1; capacity = Some(1)
-        bounded 9; capacity = Some(9)
-        bounded 9223372036854775808; capacity = Some(9223372036854775808)
-        bounded 18446744073709551615; capacity = None
-        unbounded; capacity = None
-        bounded 2; pending = (0, true, false); try_send a0; pending = (1, false, false)
-        try_send b0; pending = (2, false, true); try_recv = Ok(('a', 0))
-        pending = (1, false, false)
+        # what a bulk send leaves, and what comes back
+        bounded 3; try_sendv a0 b0 c0 d0 e0 = Err(Full([('d', 0), ('e', 0)]))
+        pending = (3, false, true); close = true; try_sendv f0 = Err(Closed([('f', 0)]))
+        pending = (3, false, true); try_recv = Ok(('a', 0)); unbounded; capacity = None
 
         # the last handle of a side closes
         bounded 2; handles = (1, 1); clone_sender = true; clone_receiver = true
         clone_receiver = true; handles = (2, 3); drop_receiver; drop_sender; drop_receiver
         handles = (1, 1); is_closed = false
-        bounded 2; try_send a1; drop_sender; is_closed = true; handles = (0, 1)
-        try_recv = Ok(('a', 1)); try_recv = Err(Closed)
-        bounded 1; drop_receiver; handles = (1, 0); is_closed = true
-        try_send a1 = Err(Closed(('a', 1)))
-        reserved 1; drop_sender; handles = (0, 1); is_closed = true
-        drop_receiver; handles = (0, 0); try_send a1 = Err(Closed(('a', 1)))
-        reserved 1; drop_sender; clone_sender = true   # a clone opens nothing
-        handles = (1, 1); is_closed = true; drop_sender; handles = (0, 1)
         bounded 1; poll_recv - 1 = Pending((), 0)   # the last one lets all go on
         clone_sender = true; drop_sender; drop_sender = (), message [(0, 1)]
         bounded 1; try_send a1; poll_send - 1 b1 = Pending(('b', 1), 0)
@@ -143,22 +93,10 @@ fn waiters_are_woken_as_worked_by_hand(rt: HostRuntime) {
     play(
         &rt,
         "
-        # a waiter has a ticket, and its newest waker
-        bounded 1; poll_recv - 1 = Pending((), 0); poll_recv 0 2 = Pending((), 0)
-        try_send a1 = Ok(()), message [(0, 2)]; poll_recv 0 2 = Ready(Ok(('a', 1)))
-        bounded 1; poll_recv 9 1 = Pending((), 0); give_up 9   # nobody has this ticket
+        # a ticket that nobody has
+        bounded 1; poll_recv 9 1 = Pending((), 0); give_up 9
         poll_recv 18446744073709551615 2 = Pending((), 1); give_up 18446744073709551614
         try_send a1 = Ok(()), message [(0, 1), (1, 2)]
-        bounded 1; poll_recv - 1 = Pending((), 0); poll_recv - 1 = Pending((), 1)
-        poll_recv - 1 = Pending((), 2); poll_recv - 1 = Pending((), 3)
-        poll_recv - 1 = Pending((), 4); give_up 2; give_up 2; poll_recv 3 2 = Pending((), 3)
-        try_send a1 = Ok(()), message [(0, 1), (1, 1), (3, 2), (4, 1)]
-        bounded 1; poll_recv - 1 = Pending((), 0); try_send a1 = Ok(()), message [(0, 1)]
-        poll_send 0 1 b2 = Pending(('b', 2), 1)   # a ticket of the other side is not kept
-        poll_recv 1 2 = Ready(Ok(('a', 1))), room [(1, 1)]; pending = (0, true, false)
-        bounded 1; poll_recv - 1 = Pending((), 0); poll_recv - 2 = Pending((), 1)
-        close = true, message [(0, 1), (1, 2)]
-        poll_recv 0 1 = Ready(Err(Closed(RecvError))); close = false
 
         # a send waits for room
         bounded 1; try_send a1

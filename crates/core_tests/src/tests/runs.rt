@@ -3,7 +3,7 @@ use super::calls::{Pairs, pairs, said, said_to};
 use super::expect_equal;
 use priority_channel_core::calls::Call;
 use priority_channel_core::channel::PriorityQueueChannel;
-use priority_channel_core::channel::run::{Progress, Response};
+use priority_channel_core::channel::run::{Ran, Response};
 use refusing::Refusing;
 use std::alloc::{AllocGlobal, Allocator, Global};
 use std::process::Abort;
@@ -64,13 +64,13 @@ fn run_refused<R: Abort + AllocGlobal>(rt: &R, alloc: &Refusing<Global>, n: u64)
     ];
     let calls = calls.expect(rt, "calls");
     alloc.refuse_nth(n);
-    let Progress { done, left } = core.run(calls);
+    let Ran { done, left } = core.run(calls);
     let met_none = alloc.refuse_none();
     let made = done.len();
     let told = (n, left.is_empty(), made.wrapping_add(left.len()));
     expect_equal(rt, told, (n, met_none, ANSWERS.len()));
     expect_answers(rt, done, 0);
-    let Progress { done, left } = core.run(left);
+    let Ran { done, left } = core.run(left);
     expect_equal(rt, left.len(), 0);
     expect_answers(rt, done, made);
 }
