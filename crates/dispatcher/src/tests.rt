@@ -4,6 +4,7 @@ use crate::admit::admit_lines;
 use crate::desk::Desk;
 use crate::reports::Reports;
 use crate::worker::work;
+use async_priority_channel::{Receiver, unbounded};
 use std::alloc::AllocGlobal;
 use std::fmt::Debug;
 use std::io::{self, BufReader, ErrorKind, Read, Write};
@@ -51,6 +52,10 @@ impl Read for Lines {
 // In milliseconds.
 const PATIENCE: u64 = 10_000;
 
+fn new_count<R: Abort + AllocGlobal>(rt: &R) -> Arc<AtomicUsize> {
+    Arc::new(rt.alloc(), AtomicUsize::new(0)).expect(rt, "memory")
+}
+
 fn await_count<R: Abort + Clock>(rt: &R, read: &AtomicUsize, wanted: usize) {
     for _ in 0..PATIENCE {
         if read.load(Ordering::SeqCst) == wanted {
@@ -70,7 +75,7 @@ fn end_one<R: Abort + Wait + Clone>(rt: &R, desk: &Desk<R>) {
 
 #[test]
 fn a_line_is_not_read_before_there_is_a_place(rt: HostRuntime) {
-    let read = Arc::new(rt.alloc(), AtomicUsize::new(0)).expect(&rt, "memory");
+    let read = new_count(&rt);
     let lines = Lines {
         rest: b"a 1 x\nb 2 x\nc 3 x\n",
         read: Arc::try_clone(&read).expect(&rt, "memory"),
@@ -89,6 +94,66 @@ fn a_line_is_not_read_before_there_is_a_place(rt: HostRuntime) {
     await_count(&rt, &read, 4);
     admitting.join(&rt).expect(&rt, "lines are admitted");
     expect_equal(&rt, desk.jobs().count(), 1);
+}
+
+// Holds the end of each line until it is let go, and counts the lines that are flushed.
+#[derive(Drop)]
+struct Held<R: Wait + Clone> {
+    let_go: Receiver<(), u64, R>,
+    flushed: Arc<AtomicUsize>,
+}
+
+impl<R: Wait + Clone> Write for Held<R> {
+    fn write(&mut self, bytes: &[u8]) -> io::Result<usize> {
+        if bytes == b"\n".as_slice() {
+            let _ = self.let_go.recv_blocking();
+        }
+        Ok(bytes.len())
+    }
+
+    fn flush(&mut self) -> io::Result<()> {
+        self.flushed.fetch_add(1, Ordering::SeqCst);
+        Ok(())
+    }
+}
+
+// With one place no line is read while a job is done, and while its report is written.
+#[test]
+fn a_place_is_free_once_its_job_is_told(rt: HostRuntime) {
+    let (read, flushed) = (new_count(&rt), new_count(&rt));
+    let (go_on, let_go) = unbounded(&rt, rt.alloc()).expect(&rt, "a channel");
+    let lines = Lines {
+        rest: b"a 1 x\nb 2 x\n",
+        read: Arc::try_clone(&read).expect(&rt, "memory"),
+    };
+    let held = Held {
+        let_go,
+        flushed: Arc::try_clone(&flushed).expect(&rt, "memory"),
+    };
+    let (intake, desk) = Desk::open(&rt, 1).expect(&rt, "a desk");
+    let admitting = thread::spawn(&rt, move || {
+        let lines = BufReader::new(rt.alloc(), lines)?;
+        admit_lines(&rt, lines, &intake, &Reports::new(io::sink()))
+    })
+    .expect(&rt, "a thread");
+    let working = thread::spawn(&rt, move || work(&rt, &desk, &Reports::new(held)));
+    let working = working.expect(&rt, "a thread");
+    await_count(&rt, &read, 1);
+    expect_equal(&rt, go_on.try_send((), 0u64), Ok(()));
+    await_count(&rt, &read, 2);
+    expect_equal(&rt, flushed.load(Ordering::SeqCst), 1);
+    expect_equal(&rt, go_on.try_send((), 0), Ok(()));
+    admitting.join(&rt).expect(&rt, "lines are admitted");
+    working.join(&rt).expect(&rt, "jobs are done");
+}
+
+#[test]
+fn a_job_that_is_not_taken_is_an_error(rt: HostRuntime) {
+    let (intake, desk) = Desk::open(&rt, 2).expect(&rt, "a desk");
+    drop(desk.close_on_drop());
+    let reports = Reports::new(io::sink());
+    let admitted = admit_lines(&rt, b"a 1 x\n".as_slice(), &intake, &reports);
+    expect_equal(&rt, admitted.is_err(), true);
 }
 
 // Whoever reads the reports has gone.
@@ -117,6 +182,17 @@ fn nothing_more_is_admitted_once_a_worker_has_failed(rt: HostRuntime) {
         Err(ErrorKind::BrokenPipe),
     );
     drop(desk); // with the last worker
+    let more = admit_lines(&rt, b"b 1 x\n".as_slice(), &intake, &reports);
+    expect_equal(&rt, more.is_err(), true);
+}
+
+#[test]
+fn nothing_more_is_admitted_though_another_worker_is_left(rt: HostRuntime) {
+    let (intake, desk) = Desk::open(&rt, 4).expect(&rt, "a desk");
+    let _other = desk.clone().expect(&rt, "a desk");
+    let reports = Reports::new(NoReader);
+    admit_lines(&rt, b"a 1 x\n".as_slice(), &intake, &reports).expect(&rt, "a line is admitted");
+    expect_equal(&rt, work(&rt, &desk, &reports).is_err(), true);
     let more = admit_lines(&rt, b"b 1 x\n".as_slice(), &intake, &reports);
     expect_equal(&rt, more.is_err(), true);
 }
