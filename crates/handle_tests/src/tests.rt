@@ -6,7 +6,6 @@ use script::Host;
 use std::fmt::Debug;
 use std::process::Abort;
 
-mod bulk;
 mod contracts;
 mod drops;
 mod examples;

@@ -10,7 +10,6 @@ use std::thread::Threads;
 use std::time::Clock;
 
 mod books;
-mod recorded;
 mod replay;
 mod watch;
 mod witnessed;

@@ -1,17 +1,21 @@
-//! A message is dropped outside the channel's lock, whatever it is that goes with it.
-use super::{expect_equal_at, is_pending};
+//! A message is dropped outside the channel's lock, whatever it is that goes with it, and so is a
+//! priority.
+use super::{expect_equal, expect_equal_at, is_pending};
 use async_priority_channel::{Receiver, Sender, bounded};
 use futures::test::MockTask;
+use rank::Rank;
 use std::iter::once;
 use std::sync::Wait;
 use std::thread;
 use std::time::{Clock, Duration};
 
+mod rank;
+
 fn long() -> Duration {
     Duration::from_secs(5)
 }
 
-// A message whose drop asks another thread to use the channel, and tells whether it could.
+// A message or a part of a priority: its drop asks another thread to use the channel, and tells whether it could.
 struct Asking<R: Wait + Clone + Clock> {
     ask: Sender<(), (), R>,
     used: Receiver<(), (), R>,
@@ -27,9 +31,9 @@ impl<R: Wait + Clone + Clock> Drop for Asking<R> {
 }
 
 // Uses the channel once it is asked to.
-fn use_once<T: Drop, R: Wait + Clone + Clock>(
+fn use_once<T: Drop, P: Ord + Drop, R: Wait + Clone + Clock>(
     asked: &Receiver<(), (), R>,
-    tx: &Sender<T, u64, R>,
+    tx: &Sender<T, P, R>,
     use_it: &Sender<(), (), R>,
 ) -> bool {
     let was_asked = asked.recv_timeout(long()).is_ok();
@@ -96,4 +100,22 @@ fn a_message_is_dropped_outside_the_lock(rt: HostRuntime) {
         expect_equal_at(&rt, by, (is_dropped, is_asked), (true, true));
         expect_equal_at(&rt, by, tells.try_recv(), Ok((true, ())));
     }
+}
+
+// Where no message is chosen, its priority is not needed.
+#[test]
+fn an_unused_priority_is_dropped_outside_the_lock(rt: HostRuntime) {
+    let (ask, asked) = bounded(&rt, rt.alloc(), 1).expect(&rt, "a channel");
+    let (use_it, used) = bounded(&rt, rt.alloc(), 1).expect(&rt, "a channel");
+    let (told, tells) = bounded(&rt, rt.alloc(), 1).expect(&rt, "a channel");
+    let (tx, rx) = bounded(&rt, rt.alloc(), 1).expect(&rt, "a channel");
+    expect_equal(&rt, tx.try_send('a', Rank::new(1, None)).is_ok(), true);
+    let unused = Rank::new(2, Some(Asking { ask, used, told }));
+    let (is_changed, is_asked) = thread::join(
+        &rt,
+        || rx.change_priority(|_, _| false, unused).is_some(),
+        || use_once(&asked, &tx, &use_it),
+    );
+    expect_equal(&rt, (is_changed, is_asked), (false, true));
+    expect_equal(&rt, tells.try_recv(), Ok((true, ())));
 }

@@ -1,7 +1,7 @@
 //! Weak handles, and to which channel handles belong.
 use super::script::Host;
 use super::{expect_equal, expect_equal_at};
-use async_priority_channel::{End, Role, bounded};
+use async_priority_channel::{End, Role, bounded, unbounded};
 
 // A weak handle counts for nothing beside the last of its side, and opens nothing behind it.
 fn expect_closed_by_last<S: Role, O: Role, R: Host>(
@@ -56,6 +56,19 @@ fn a_receivers_guard_lets_go_with_the_last_receiver(rt: HostRuntime) {
     drop(rx.close_on_drop());
     drop(rx);
     expect_equal(&rt, tx.len(), 0);
+}
+
+// A weak handle keeps the channel, and would keep the sender that is pending there.
+#[test]
+fn a_receivers_guard_lets_go_where_no_sender_is_left(rt: HostRuntime) {
+    let (answer, answers) = unbounded::<(), u64, _, _>(&rt, rt.alloc()).expect(&rt, "a channel");
+    let (tx, rx) = unbounded(&rt, rt.alloc()).expect(&rt, "a channel");
+    expect_equal(&rt, tx.try_send(answer, 0u64).is_ok(), true);
+    let weak = tx.downgrade().expect(&rt, "a weak handle");
+    drop(rx.close_on_drop());
+    drop(tx);
+    drop(rx);
+    expect_equal(&rt, (weak.is_closed(), answers.is_closed()), (true, true));
 }
 
 // Of each two channels of many, those are the same that are one.

@@ -47,7 +47,8 @@ fn errors_of_receives_print_why(rt: HostRuntime) {
     let empty = "receiving from an empty channel / Empty";
     let closed = "receiving from an empty and closed channel / Closed";
     let late = "receiving from an empty channel timed out / Timeout";
-    let memory = "no memory for receiving / Memory";
+    let batch = "no memory for receiving / Memory";
+    let memory = "no memory for waiting / Memory";
     let error = "receiving from an empty and closed channel / RecvError";
     let fault = "receiving from an empty and closed channel / Closed(RecvError)";
     expect_texts(&rt, RecvError, error);
@@ -55,7 +56,7 @@ fn errors_of_receives_print_why(rt: HostRuntime) {
     expect_texts(&rt, TryRecvError::Closed, closed);
     expect_texts(&rt, TryRecvManyError::Empty, empty);
     expect_texts(&rt, TryRecvManyError::Closed, closed);
-    expect_texts(&rt, TryRecvManyError::Memory, memory);
+    expect_texts(&rt, TryRecvManyError::Memory, batch);
     expect_texts(&rt, RecvFault::Closed(RecvError), fault);
     expect_texts(&rt, RecvFault::Memory, memory);
     expect_texts(&rt, RecvTimeoutError::Timeout, late);

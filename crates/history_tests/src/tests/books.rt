@@ -1,7 +1,7 @@
 //! Books, which one caller has.
 use super::expect_equal;
 use priority_channel_core::errors::{TryRecvError, TrySendError};
-use priority_channel_recorded::{Book, Call, Entry, NoMemory, Reply};
+use priority_channel_recorded::{Book, Call, Entry, NoPlace, Reply};
 use refusing::Refusing;
 
 // Calls on a channel for two, and what they answer.
@@ -34,7 +34,7 @@ fn a_book_enters_what_was_answered_where_it_has_a_place(rt: HostRuntime) {
     for (call, reply) in ROWS {
         expect_equal(&rt, (call, book.record(7, call)), (call, Ok(reply)));
     }
-    expect_equal(&rt, book.record(7, Call::TrySend(5, 5)), Err(NoMemory));
+    expect_equal(&rt, book.record(7, Call::TrySend(5, 5)), Err(NoPlace));
     for ((call, reply), entry) in ROWS.iter().zip(book.history()) {
         let (who, call, reply) = (7, *call, *reply);
         expect_equal(&rt, *entry, Entry { who, call, reply });

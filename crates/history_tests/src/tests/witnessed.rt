@@ -6,7 +6,7 @@ ghost use Rattle.priority_channel_witnessed.specs.Log.{names};
 use super::Host;
 use super::replay::explain_four_threads;
 use super::watch::within;
-use late::receive_late;
+use late::{receive_at_the_end, receive_late};
 use passes::come_and_go;
 use priority_channel_core::awaitable_atomics::Wakes;
 use priority_channel_core::channel::PriorityQueueChannel;
@@ -41,6 +41,7 @@ pub enum Scene {
     Futures,
     Limits,
     LateMessage,
+    LastMoment,
     Threads,
     MixedThreads,
 }
@@ -100,6 +101,7 @@ fn act<'a, J: Recording + Send + Sync, R: Host>(
         Scene::Futures => poll_futures(rt, alloc, channel, passes),
         Scene::Limits => end_in_time(rt, alloc, channel, passes),
         Scene::LateMessage => receive_late(rt, alloc, channel, passes),
+        Scene::LastMoment => receive_at_the_end(rt, channel, passes),
         Scene::Threads => call_on_four_threads(rt, alloc, channel, passes),
         Scene::MixedThreads => explain_four_threads(rt, alloc, channel, passes),
     }

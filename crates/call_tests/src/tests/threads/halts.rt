@@ -4,11 +4,14 @@
 use super::clocks::{Paced, Plan, Times, second};
 use super::either::{Either, TIMED, block, closed, done, long, refused};
 use super::places::{PLACES, Place, at, before};
+use super::watch::beside;
 use super::{Threaded, wait_until};
 use crate::tests::driver::all::ALL;
-use crate::tests::driver::calls::{Call, Way, is_for_close};
+use crate::tests::driver::calls::{Call, Input, Pairs, Way, is_for_close};
+use crate::tests::driver::receive::receive;
 use crate::tests::driver::reply::Outcome;
 use crate::tests::{Host, expect_equal_at, new_task, ready};
+use async_priority_channel::bounded_reserved;
 use refusing::Refusing;
 use std::alloc::{Allocator, Global};
 use std::sync::atomic::{AtomicBool, Ordering};
@@ -206,6 +209,42 @@ fn a_call_that_looks_again_finds_what_has_come(rt: HostRuntime) {
             let round = (call, Place::First, Coming::Early, 1);
             let halt = Halt::Request(&alloc);
             wait_with_a_halt(&rt, round, (&rt, &alloc), &ends, halt);
+        }
+    }
+}
+
+// Two messages come as a batch halts at its second request. The first is for its own memory.
+fn receive_with_a_halt<R: Threaded>(rt: &R, call: Call) {
+    let alloc = Refusing::new(rt.alloc());
+    let (tx, rx) = bounded_reserved(rt, &alloc, 2).expect(rt, "a channel");
+    let input = Input {
+        pairs: Pairs::new(7, 2, u64::MAX),
+        most: 2,
+        limit: long(),
+        chosen: 7,
+    };
+    alloc.hold_nth(2);
+    let (reply, could) = beside(
+        rt,
+        ("what comes as a batch halts", call),
+        || receive(rt, &alloc, &rx, call, input),
+        || {
+            wait_until(rt, || alloc.is_holding());
+            let could = tx.try_send(7, 7).is_ok() && tx.try_send(8, 8).is_ok();
+            alloc.let_go();
+            could
+        },
+    );
+    let got = (reply.outcome, reply.pairs.len(), could);
+    expect_equal_at(rt, call, got, (Outcome::Done, 2, true));
+}
+
+// It brings all that has come, and not the first alone.
+#[test]
+fn a_batch_that_looks_again_brings_all_that_has_come(rt: HostRuntime) {
+    for call in ALL {
+        if matches!(call, Call::RecvMany(_)) && call.way() != Way::Try {
+            receive_with_a_halt(&rt, call);
         }
     }
 }

@@ -1,10 +1,14 @@
-//! A message that comes after the first try of a receive that is refused memory to wait.
-use super::{Channel, Passes, Scene, play};
+//! Messages that come after the first try of a receive: of one that is refused memory to wait, and
+//! of one whose time is over.
+use super::{Alloc, Caller, Channel, Passes, Scene, play};
 use crate::tests::{Host, expect_equal, wait_for};
 use priority_channel_witnessed::{Recording, wake_all};
 use refusing::Refusing;
 use std::alloc::{Allocator, Global};
-use std::thread;
+use std::cell::{Cell, RefCell};
+use std::sync::Wait;
+use std::time::{Clock, Duration};
+use std::{io, thread};
 
 /// The last try finds it.
 pub(super) fn receive_late<J: Recording + Send + Sync, A: Allocator + Copy + Send + Sync, R: Host>(
@@ -42,4 +46,66 @@ pub(super) fn receive_late<J: Recording + Send + Sync, A: Allocator + Copy + Sen
 #[test]
 fn a_receive_without_memory_finds_what_has_come(rt: HostRuntime) {
     expect_equal(&rt, play(&rt, Scene::LateMessage, 1, 2, 2), 0);
+}
+
+fn limit() -> Duration {
+    Duration::from_secs(60)
+}
+
+/// A clock. At its third reading, the one after a wait is listed, a pass sends, and the time is
+/// over.
+#[derive(Drop)]
+struct Bringing<'x, 'a, J: Recording, R> {
+    rt: &'x R,
+    readings: Cell<u64>,
+    channel: &'x Channel<J, Alloc<'a>>,
+    sender: RefCell<Caller<J, Alloc<'a>>>,
+}
+
+impl<J: Recording, R: Wait> Wait for Bringing<'_, '_, J, R> {}
+
+impl<J: Recording, R: Host> Clock for Bringing<'_, '_, J, R> {
+    fn monotonic(&self) -> io::Result<Duration> {
+        self.readings.set(self.readings.get().wrapping_add(1));
+        let now = self.rt.monotonic()?;
+        if self.readings.get() < 3 {
+            return Ok(now);
+        }
+        if let Ok(mut sender) = self.sender.try_borrow_mut() {
+            let (_, wakes) = self.channel.try_send(self.rt, &mut sender, 1, 5);
+            wake_all(self.rt, wakes);
+        }
+        Ok(now.saturating_add(limit()))
+    }
+
+    fn since_1970(&self) -> io::Result<Duration> {
+        self.rt.since_1970()
+    }
+}
+
+/// The last look finds it.
+pub(super) fn receive_at_the_end<'a, J: Recording, R: Host>(
+    rt: &R,
+    channel: &Channel<J, Alloc<'a>>,
+    passes: &mut Passes<J, Alloc<'a>>,
+) {
+    let mut receiver = passes.pop().expect(rt, "a pass");
+    let sender = passes.pop().expect(rt, "a pass");
+    let bringing = Bringing {
+        rt,
+        readings: Cell::new(0),
+        channel,
+        sender: RefCell::new(sender),
+    };
+    let received = channel.recv_timeout(&bringing, &mut receiver, limit());
+    expect_equal(rt, received, Ok((1, 5)));
+    passes
+        .push(bringing.sender.into_inner())
+        .expect(rt, "its own place");
+    passes.push(receiver).expect(rt, "its own place");
+}
+
+#[test]
+fn a_receive_whose_time_is_over_finds_what_has_come(rt: HostRuntime) {
+    expect_equal(&rt, play(&rt, Scene::LastMoment, 1, 2, 2), 0);
 }
