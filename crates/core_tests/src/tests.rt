@@ -2,7 +2,6 @@
 use std::fmt::Debug;
 use std::process::Abort;
 
-mod bag;
 mod calls;
 mod iterators;
 mod lists;

@@ -1,8 +1,10 @@
-//! How often the heap of a bag compares priorities.
+//! How often the heap of a bag compares priorities, also once it has made room.
 use super::expect_equal_at;
 use priority_channel_core::bag::Bag;
+use priority_channel_core::comparisons::Comparisons;
 use std::cell::Cell;
 use std::cmp::Ordering;
+use std::mem::size_of;
 use std::process::Abort;
 
 /// A priority whose comparisons add to a shared count.
@@ -135,4 +137,38 @@ fn comparisons_of_the_heap_at_each_length_from_1_to_1024(rt: HostRuntime) {
     fill(&rt, &mut bag, count);
     drain(&rt, &mut bag, count);
     expect_equal_at(&rt, "the end", bag.len(), 0);
+}
+
+// Displaces as many pairs as there are, the least first, by greater ones.
+fn displace<'a>(rt: &impl Abort, bag: &mut Counting<'a>, count: &'a Cell<u64>) {
+    let most = most_of_pop(MANY).wrapping_add(1);
+    let mut last = 0;
+    for number in 0..MANY {
+        let value = (number ^ 0x2aa).wrapping_add(0x8000_0000);
+        assert!(rt; bag.can_push());
+        count.set(0);
+        let displaced = bag.displace(number, Counted { value, count });
+        let (_, least) = displaced.ok().expect(rt, "a pair that makes room");
+        assert!(rt;
+            count.get() <= most && last <= least.value,
+            "displacement {number}"
+        );
+        last = least.value;
+    }
+}
+
+// From the first displacement on the pairs lie as another heap, which keeps these bounds.
+#[test]
+fn a_heap_that_has_made_room_compares_as_seldom(rt: HostRuntime) {
+    let cell = Cell::new(0);
+    let count = &cell;
+    let mut bag: Counting<'_> = Bag::new(rt.alloc());
+    assert!(rt; bag.can_push());
+    let displaced = bag.displace(0, Counted { value: 0, count });
+    expect_equal_at(&rt, "nothing to displace", displaced.is_err(), true);
+    fill(&rt, &mut bag, count);
+    displace(&rt, &mut bag, count);
+    drain(&rt, &mut bag, count);
+    // What counts them for the contracts takes no bytes.
+    expect_equal_at(&rt, "bytes", size_of::<Comparisons>(), 0);
 }
