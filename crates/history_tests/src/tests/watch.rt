@@ -5,8 +5,9 @@ use std::sync::atomic::{AtomicBool, Ordering};
 use std::thread;
 use std::time::{Clock, Duration};
 
-// For how many milliseconds it lets a wait last, and somewhat longer on a busy machine.
-const PATIENCE: u64 = 5_000;
+// For how many milliseconds it lets a wait last, and somewhat longer on a busy machine. What takes
+// a moment on an idle one takes seconds beside many other processes.
+const PATIENCE: u64 = 25_000;
 
 /// Waits, and fails if that lasts too long.
 pub fn within<R: Host, T, F: FnOnce() -> T>(rt: &R, what: &str, wait: F) -> T
