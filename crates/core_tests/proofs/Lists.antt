@@ -9,7 +9,7 @@ use Rattle.priority_channel_core.specs.declared.calls.Answer.TheVariants as answ
 
 module _ {T P W : Type 0} where
   accepted_in_place : (old new : State T P W) (pairs : List (T × P)) (reply : SendReply (List (T × P))) (handed : Handed W)
-      → old.is_closed ≡ false → old.is_reserved ≡ true → old.accepted + length pairs < 2 ^ 64
+      → old.is_closed ≡ false → old.is_reserved ≡ true → old.accepted + old.held + length pairs < 2 ^ 64
       → Sends old pairs reply handed new → new.pending ≡ old.pending ++ take (room old) pairs
   accepted_in_place old new pairs (Ok done) handed opened reserved numbers sends =
       ap (λ s. s.pending) sends.2.1.new_is
@@ -27,7 +27,7 @@ module _ {T P W : Type 0} where
   pub accepted_of_list : {M : Type 0} (holds : M → List (T × P) → Type 0) (cmp : P → P → Ordering) (is_clone : W → W → Type 0)
       (old new : State T P W) (msgs : M) (pairs : List (T × P)) (reply : SendReply M) (handed : Handed W)
       → holds msgs pairs → Performs holds cmp is_clone old (call.TrySendv msgs) (answer.TrySendv reply) handed new
-      → old.is_closed ≡ false → old.is_reserved ≡ true → old.accepted + length pairs < 2 ^ 64
+      → old.is_closed ≡ false → old.is_reserved ≡ true → old.accepted + old.held + length pairs < 2 ^ 64
       → new.pending ≡ old.pending ++ take (room old) pairs
   accepted_of_list holds cmp is_clone old new msgs pairs reply handed list performs opened reserved numbers =
       let (told, same, step) = performs.at (call.TrySendv pairs) (pairs, refl, list) in

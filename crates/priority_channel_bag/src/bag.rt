@@ -89,8 +89,6 @@ impl<T, P: Ord, A: Allocator> Bag<T, P, A> {
 
     /// Makes a slot for one more pair, if none is free. It fails only if memory is refused, or at
     /// 2^63 - 1 pairs. Then nothing has changed.
-    #[inline(always)]
-    #[tactic(auto, using(crate::proofs::Kept::length_in_order))]
     pub fn make_place(&mut self) -> Result<(), AllocError>
         ensures same { self.new ≡ record self.old { slots = self.new.slots } }
         ensures slots { OnOk result (length self.new.pending < self.new.slots) }
@@ -99,7 +97,22 @@ impl<T, P: Ord, A: Allocator> Bag<T, P, A> {
         ensures full { OnErr result (self.old.slots ≤ length self.old.pending) }
         ensures err { OnErr result (self.new ≡ self.old) }
     {
-        self.items.reserve(1)
+        self.make_place_beside(0)
+    }
+
+    /// The same beside so many free slots, which are for others.
+    #[inline(always)]
+    #[tactic(auto, using(crate::proofs::Kept::length_in_order))]
+    pub fn make_place_beside(&mut self, held: u64) -> Result<(), AllocError>
+        requires { held < 2 ^ 63 }
+        ensures same { self.new ≡ record self.old { slots = self.new.slots } }
+        ensures slots { OnOk result (length self.new.pending + held < self.new.slots) }
+        ensures kept { self.old.slots ≤ self.new.slots }
+        ensures limit { self.new.slots < 2 ^ 63 }
+        ensures full { OnErr result (self.old.slots ≤ length self.old.pending + held) }
+        ensures err { OnErr result (self.new ≡ self.old) }
+    {
+        self.items.reserve(held as usize + 1)
     }
 
     /// The number of pending pairs.
@@ -112,11 +125,18 @@ impl<T, P: Ord, A: Allocator> Bag<T, P, A> {
     }
 
     /// Whether a number is left for another pair.
-    #[inline(always)]
     pub fn can_push(&self) -> bool
         ensures { IsTrue result ↔ (self.now.accepted + 1 < 2 ^ 64) }
     {
-        self.accepted < u64::MAX
+        self.can_push_beside(0)
+    }
+
+    /// The same beside so many numbers, which are for others.
+    #[inline(always)]
+    pub fn can_push_beside(&self, held: u64) -> bool
+        ensures { IsTrue result ↔ (self.now.accepted + held + 1 < 2 ^ 64) }
+    {
+        self.accepted < u64::MAX - held
     }
 
     /// Adds a pair.

@@ -46,7 +46,7 @@ module _ {S T P W : Type 0} (steps : S → Option (T × P) → S → Type 0) (ol
         (Err (Full k.0), (k.0, refl, k.2), (sent.front, k.1, omega (arith, sent.long, filled), inr (more.at k.0 k.2), (opened, sent.adds)));
   }
 
-  pub replies_cut : HasMore steps left → n < room old → (old.is_reserved ≡ false) ⊎ (old.accepted + n ≡ 2 ^ 64 - 1)
+  pub replies_cut : HasMore steps left → n < room old → (old.is_reserved ≡ false) ⊎ (old.accepted + old.held + n ≡ 2 ^ 64 - 1)
       → Replies (HasList steps) old msgs (Err (Memory left)) handed new
   replies_cut more within why = record {
     at = λ pairs has.

@@ -19,11 +19,12 @@ module _ {T P W : Type 0} (bag bag' : Contents T P) (word word' : Word W) (hande
   pub adds : AddsFront Old front handed New
   adds = rw (pending, accepted, risen, handed_is, ← long) (record { handed_is = refl; new_is = refl })
 
-  pub sound_adds : IsSound bag word Old → word.is_closed ≡ false → n ≤ capacity - length bag.pending → bag.slots ≤ bag'.slots
-      → length bag'.pending < 2 ^ 63 → bag'.accepted < 2 ^ 64 → HasOwnTickets word'.waiters → IsSound bag' word' New
-  sound_adds sound opened within grown limit fits orderly =
+  pub sound_adds : IsSound bag word Old → word.is_closed ≡ false → n ≤ capacity - (length bag.pending + word.held) → bag.slots ≤ bag'.slots
+      → length bag'.pending + word.held ≤ bag'.slots
+      → length bag'.pending + word.held < 2 ^ 63 → bag'.accepted + word.held < 2 ^ 64 → HasOwnTickets word'.waiters → IsSound bag' word' New
+  sound_adds sound opened within grown kept limit fits orderly =
       let a = adds in grind (arith, length-append, nat_tests)
 
-  pub refused_in_channel : IsSound bag word Old → n < capacity - length bag.pending → bag.slots ≤ bag'.slots → bag'.accepted < 2 ^ 64
-      → (bag'.accepted + 1 < 2 ^ 64 → bag'.slots ≤ length bag'.pending) → (is_reserved ≡ false) ⊎ (bag.accepted + n ≡ 2 ^ 64 - 1)
+  pub refused_in_channel : IsSound bag word Old → n < capacity - (length bag.pending + word.held) → bag.slots ≤ bag'.slots → bag'.accepted + word.held < 2 ^ 64
+      → (bag'.accepted + word.held + 1 < 2 ^ 64 → bag'.slots ≤ length bag'.pending + word.held) → (is_reserved ≡ false) ⊎ (bag.accepted + word.held + n ≡ 2 ^ 64 - 1)
   refused_in_channel sound within grown fits full = grind (arith, length-append)

@@ -1,9 +1,10 @@
 -- What a displacement is in the channel, and what it is to take out a pair that a test chooses.
-use Rattle.std.proofs.Common.{◌≡◌, ◌+◌, ◌<◌, ◌^◌, false, List, ◌∷◌, length, length-append, refl, arith, Some, Ok, is_lt}
+use Rattle.std.proofs.Common.{◌≡◌, ℕ, ◌+◌, ◌-◌, ◌<◌, ◌^◌, Bool, false, List, [], ◌∷◌, length, sym, subst, length-append, refl, arith, Some, Ok, is_lt}
 use Rattle.std.proofs.lemmas.List.Elements.{recursion_from_All}
 use Rattle.priority_channel_bag.proofs.Kept.{every_part}
-use Rattle.priority_channel_bag.specs.Prelude.{TakesOne, NoneBelow, Displaces}
-use Rattle.priority_channel_core.specs.Prelude.{State, Handed, nobody, room, IsGood, Evicts, Frees, HasOwnTickets, SomeBelow, Ordering}
+use Rattle.priority_channel_bag.specs.Prelude.{Contents, TakesOne, NoneBelow, Displaces}
+use Rattle.priority_channel_core.specs.Prelude.{State, Handed, nobody, room, IsGood, Evicts, Frees, HasOwnTickets, SomeBelow, Ordering, Word, bit_at, state_of, IsSound}
+use Rattle.priority_channel_core.proofs.Closing.{good_settled}
 
 pub none_or_some : {T P : Type 0} (cmp : P → P → Ordering) (pending : List (T × P)) (priority : P) → SomeBelow cmp pending priority → NoneBelow cmp pending priority → ⊥
 none_or_some {T} {P} cmp pending priority some none =
@@ -21,7 +22,7 @@ one_below cmp pending new pair out displaced = record {
 
 module _ {T P W : Type 0} (cmp : P → P → Ordering) (old new : State T P W) (pair out : T × P) where
   pub evicts_displaced : IsGood old → old.is_closed ≡ false → room old ≡ 0 → Displaces cmp old.pending pair out new.pending
-      → new ≡ record old { pending = new.pending; accepted = old.accepted + 1 } → old.accepted + 1 < 2 ^ 64 → Evicts cmp old pair (Ok (Some out)) nobody new × IsGood new
+      → new ≡ record old { pending = new.pending; accepted = old.accepted + 1 } → old.accepted + old.held + 1 < 2 ^ 64 → Evicts cmp old pair (Ok (Some out)) nobody new × IsGood new
   evicts_displaced good opened full displaced is fits =
       let long : length old.pending ≡ length displaced.rest + 1 = grind (arith, length-append) in (
         (
@@ -33,4 +34,23 @@ module _ {T P W : Type 0} (cmp : P → P → Ordering) (old new : State T P W) (
       )
 
 pub good_frees : {T P W : Type 0} (old new : State T P W) (handed : Handed W) → Frees old handed new → (pair : T × P) → TakesOne old.pending pair new.pending → IsGood old → HasOwnTickets new.waiters → IsGood new
-good_frees old new handed frees pair taken good tickets = grind (arith, length-append)
+good_frees {T} {P} {W} old new handed frees pair taken good tickets =
+    let long : length old.pending ≡ length new.pending + 1 = grind (arith, length-append) in
+    subst (λ (s : State T P W). IsGood s) (sym frees.1)
+    (good_settled old new.pending long good (subst (λ (s : State T P W). HasOwnTickets s.waiters) frees.1 tickets))
+
+-- one pair was taken out of the bag, and the word has fallen
+module _ {T P W : Type 0} (bag bag' : Contents T P) (word word' : Word W) (handed : Handed W) (capacity : ℕ) (is_reserved : Bool) (senders receivers : ℕ) where
+  abbrev Old : State T P W
+  Old = state_of bag word capacity is_reserved senders receivers
+
+  abbrev New : State T P W
+  New = state_of bag' word' capacity is_reserved senders receivers
+
+  pub frees_one : IsSound bag word Old → (pair : T × P) → TakesOne bag.pending pair bag'.pending → bag'.accepted ≡ bag.accepted
+      → handed ≡ record { room = word.waiters.room; message = [] }
+      → word' ≡ record word { is_closed = bit_at word (word.count - 1) word.held; count = word.count - 1; waiters = record word.waiters { room = [] } }
+      → Frees Old handed New
+  frees_one sound pair taken accepted handed_is fallen =
+      let same : word.count - 1 ≡ length bag'.pending = let counted = sound.counted in grind (arith, length-append) in
+      (handed_is, rw (fallen, accepted, same) refl)

@@ -17,6 +17,6 @@ module _ {T P W : Type 0} where
   refuses_full s pairs none opened = ([], refl, sym none, inl none, (opened, adds_none s))
 
   pub refuses_first : (s : State T P W) (pairs : List (T × P)) → 0 < length pairs → 0 < room s → s.is_closed ≡ false
-      → (s.is_reserved ≡ false) ⊎ (s.accepted + 1 ≡ 2 ^ 64) → Sends s pairs (Err (Memory pairs)) nobody s
+      → (s.is_reserved ≡ false) ⊎ (s.accepted + s.held + 1 ≡ 2 ^ 64) → Sends s pairs (Err (Memory pairs)) nobody s
   refuses_first s pairs some more opened why =
       ([], refl, more, some, (opened, adds_none s), grind arith)

@@ -6,7 +6,7 @@ pub use Rattle.priority_channel_core.specs.Future.Task.{Recv, Send, Sendv}
 pub use Rattle.priority_channel_core.specs.Lines.{IsFirst, Lined, Lists}
 pub use Rattle.priority_channel_core.specs.Waiters.{enlist, Enlists, HasOwnTickets, no_waiters, on_side, search_bound, unlist, Waiters}
 pub use Rattle.priority_channel_core.specs.Waiting.{fresh, is_given_listed, is_listed, IsListing, IsRising, listing, Listing, with_waker, without, without_given}
-pub use Rattle.priority_channel_core.specs.Word.{closed_bit, count_below, CountedWord, Word}
+pub use Rattle.priority_channel_core.specs.Word.{bit_at, closed_bit, count_below, CountedWord, Word}
 pub use Rattle.priority_channel_core.specs.code.Allowed.{AllowsRun, AllowsSide, ChangesCount, ChangesHandles, count_after, DropsFindHandles, IsAllowed}
 pub use Rattle.priority_channel_core.specs.code.Answers.{SameAnswer}
 pub use Rattle.priority_channel_core.specs.code.Calls.{AtSomePlace, Makes, MayCall, Performs, Response, RunsFront, SameButPlace, SameCall, SameOperation, SamePoll, SameReply}
@@ -17,13 +17,14 @@ pub use Rattle.priority_channel_core.specs.code.Many.{in_turn, Placed, receives,
 pub use Rattle.priority_channel_core.specs.code.Replies.{kept_by, OnFull, OnMemory, OnMemoryFault, waits_under}
 pub use Rattle.priority_channel_core.specs.code.Room.{HasMemory, HasNumber, HasRoom, IsFull, SomeBelow}
 pub use Rattle.priority_channel_core.specs.code.Tests.{AllMeetTests, MeetsTest}
-pub use Rattle.priority_channel_core.specs.Types.{Ordering, SendReply, SendEnd, SendPoll, RecvReply, RecvEnd, RecvPoll, Answer, Call, CorePoll, Pending, Ready, RecvError, RecvFault, SendFault, TryRecvError, TrySendError, Closed, Full, Memory, Side, Message, Room}
+pub use Rattle.priority_channel_core.specs.Types.{Ordering, SendReply, SendEnd, SendPoll, RecvReply, RecvEnd, RecvPoll, LeaseReply, Answer, Call, CorePoll, Pending, Ready, RecvError, RecvFault, SendFault, TryRecvError, TrySendError, Closed, Full, Memory, Side, Message, Room}
 pub use Rattle.priority_channel_core.specs.declared.channel.bulk.Stop.{Stop}
 pub use Rattle.priority_channel_core.specs.machine.Evicts.{Evicts, MakesRoom}
 pub use Rattle.priority_channel_core.specs.machine.Good.{IsGood}
-pub use Rattle.priority_channel_core.specs.machine.OtherCalls.{capacity_told, ChangesPriority, Clones, Closes, Drops, Frees, Looks, Receives, Shuts, Takes}
+pub use Rattle.priority_channel_core.specs.machine.OtherCalls.{capacity_told, ChangesPriority, Clones, Closes, Drops, EndsWhenDone, Frees, Looks, Receives, Shuts, Takes}
+pub use Rattle.priority_channel_core.specs.machine.Places.{FreesPlace, is_last, Leases, Puts, Reserves}
 pub use Rattle.priority_channel_core.specs.machine.Polls.{Ends, Polls, recv_answer, send_answer}
 pub use Rattle.priority_channel_core.specs.machine.Run.{Operation, Run}
 pub use Rattle.priority_channel_core.specs.machine.Sends.{Accepts, AddsFront, as_list, Refuses, Sends}
-pub use Rattle.priority_channel_core.specs.machine.State.{Handed, nobody, opening, room, State}
+pub use Rattle.priority_channel_core.specs.machine.State.{Handed, is_done, IsGoingOn, IsOver, nobody, opening, room, settled, State}
 pub use Rattle.priority_channel_core.specs.machine.Step.{Answers, Calls, Moves, Step}

@@ -29,6 +29,10 @@ SendPoll K = CorePoll (SendEnd K) K
 abbrev pub RecvReply : Type 0 → Type 0
 RecvReply A = Result A TryRecvError
 
+-- the reply to a receive whose place stays held
+abbrev pub LeaseReply : Type 0 → Type 0
+LeaseReply A = Result A TryRecvManyError
+
 abbrev pub RecvEnd : Type 0 → Type 0
 RecvEnd A = Result A RecvFault
 

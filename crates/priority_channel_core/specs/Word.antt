@@ -1,11 +1,18 @@
--- The word of a channel; `count` is of pending pairs.
-use Rattle.std.specs.Prelude.{ℕ, ◌%◌, ◌^◌, Bool, List, [], nat_le}
+-- The word of a channel; `count` is of pending pairs, `held` of places that are held.
+use Rattle.std.specs.Prelude.{ℕ, ◌%◌, ◌^◌, ◌&&◌, ◌||◌, ◌==◌, Bool, List, [], nat_le}
 use Rattle.priority_channel_core.specs.Waiters.{Waiters}
 
 pub record Word (W : Type 0) : Type 0 where
   pub is_closed : Bool
   pub count : ℕ
+  pub held : ℕ
+  -- the bit is set once the count and the held places have fallen to nothing
+  pub ends : Bool
   pub waiters : Waiters W
+
+-- the bit, once the count and the held places have fallen to these
+abbrev pub bit_at : {W : Type 0} → Word W → ℕ → ℕ → Bool
+bit_at word count held = word.is_closed || (word.ends && ((count == 0) && (held == 0)))
 
 pub record CountedWord (W : Type 0) : Type 0 where
   pub word : Word W

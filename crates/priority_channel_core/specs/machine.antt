@@ -3,6 +3,7 @@ pub mod State
 pub mod Good
 pub mod Sends
 pub mod Evicts
+pub mod Places
 pub mod OtherCalls
 pub mod Polls
 pub mod Step

@@ -3,8 +3,8 @@
 //!
 //! The small calls of the hot path are forced inline. Otherwise their results would be written to
 //! memory and read back at once.
-ghost use Rattle.std.specs.Prelude.{◌≡◌, ◌+◌, ◌-◌, ◌<◌, ◌≤◌, ◌^◌, ◌==◌, if◌then◌else◌, [], IsSome, true, false, Some};
-ghost use Rattle.priority_channel_core.specs.Word.{nobody};
+ghost use Rattle.std.specs.Prelude.{◌≡◌, ◌+◌, ◌-◌, ◌<◌, ◌≤◌, ◌^◌, ◌&&◌, ◌||◌, ◌==◌, if◌then◌else◌, [], IsSome, true, false, Some};
+ghost use Rattle.priority_channel_core.specs.Word.{bit_at, nobody};
 ghost use Rattle.priority_channel_core.specs.Prelude.{is_given_listed, HasOwnTickets, no_waiters, on_side, unlist, Enlists, search_bound, closed_bit, count_below};
 
 use crate::side::Side;
@@ -58,6 +58,7 @@ impl<W, A: Allocator + Copy> Wakes<W, A> {
 /// A count below 2^63 and a closed bit, in one word, with two lists of waiters: senders wait for
 /// the count to fall, so that there is room; receivers wait for it to rise, so that there is a
 /// message. The name is the Rust crate's. Nothing is atomic here, since a lock guards the channel.
+/// Beside the count stands how many places are held.
 ///
 /// A waiter is known by its ticket, a number that is given once. A call that wakes waiters moves
 /// whole lists out, so it takes no memory.
@@ -72,6 +73,8 @@ impl<W, A: Allocator + Copy> Wakes<W, A> {
 pub struct AwaitableAtomicCounterAndBit<W, A: Allocator = Global> {
     alloc: A,
     packed: u64,
+    held: u64,
+    ends: bool,
     room_waiters: WaitingList<W, A>,
     message_waiters: WaitingList<W, A>,
     next_ticket: u64,
@@ -87,6 +90,8 @@ impl<W, A: Allocator> Model for AwaitableAtomicCounterAndBit<W, A> {
       word = record {
         is_closed = closed_bit a.packed;
         count = count_below a.packed;
+        held = a.held;
+        ends = a.ends;
         waiters = record {
           room = a.room_waiters;
           message = a.message_waiters;
@@ -118,6 +123,8 @@ impl<W, A: Allocator + Copy> AwaitableAtomicCounterAndBit<W, A> {
         ensures word { result.word ≡ record {
           is_closed = false;
           count = value;
+          held = 0;
+          ends = false;
           waiters = no_waiters;
         } }
         ensures tickets { HasOwnTickets result.word.waiters }
@@ -125,6 +132,8 @@ impl<W, A: Allocator + Copy> AwaitableAtomicCounterAndBit<W, A> {
         AwaitableAtomicCounterAndBit {
             alloc,
             packed: value,
+            held: 0,
+            ends: false,
             room_waiters: WaitingList::new(alloc),
             message_waiters: WaitingList::new(alloc),
             next_ticket: 0,
@@ -139,6 +148,120 @@ impl<W, A: Allocator + Copy> AwaitableAtomicCounterAndBit<W, A> {
         ensures count { result.1 ≡ self.now.word.count }
     {
         unpack(self.packed)
+    }
+
+    /// How many places are held.
+    #[inline(always)]
+    pub fn held(&self) -> u64
+        ensures { result ≡ self.now.word.held }
+    {
+        self.held
+    }
+
+    /// From now on the bit is set once the count and the held places have fallen to nothing.
+    pub fn end_at_nothing(&mut self)
+        ensures word { self.new.word ≡ record self.old.word { ends = true } }
+        ensures tickets { HasOwnTickets self.new.word.waiters }
+        ensures comparisons { self.new.comparisons ≡ self.old.comparisons }
+    {
+        self.ends = true;
+    }
+
+    // Sets the bit if the count and the held places have fallen to nothing, and it ends then.
+    #[inline(always)]
+    fn settle(&mut self)
+        ensures word { self.new.word ≡ record self.old.word {
+          is_closed = bit_at self.old.word self.old.word.count self.old.word.held;
+        } }
+        ensures tickets { HasOwnTickets self.new.word.waiters }
+        ensures comparisons { self.new.comparisons ≡ self.old.comparisons }
+    {
+        if self.ends && self.held == 0 && self.load().1 == 0 {
+            self.packed |= CLOSED_BIT;
+        }
+    }
+
+    /// One more place is held.
+    pub fn hold(&mut self)
+        requires { self.old.word.held + 1 < 2 ^ 63 }
+        ensures word { self.new.word
+            ≡ record self.old.word { held = self.old.word.held + 1 } }
+        ensures tickets { HasOwnTickets self.new.word.waiters }
+        ensures comparisons { self.new.comparisons ≡ self.old.comparisons }
+    {
+        self.held += 1;
+    }
+
+    /// One of the count is a held place from now on. Nobody is woken, since no room comes free.
+    pub fn lend(&mut self)
+        requires counted { 0 < self.old.word.count }
+        requires fits { self.old.word.held + 1 < 2 ^ 63 }
+        ensures word { self.new.word ≡ record self.old.word {
+          count = self.old.word.count - 1;
+          held = self.old.word.held + 1;
+        } }
+        ensures tickets { HasOwnTickets self.new.word.waiters }
+        ensures comparisons { self.new.comparisons ≡ self.old.comparisons }
+    {
+        self.packed -= 1;
+        self.held += 1;
+    }
+
+    /// A held place is one of the count from now on. The waiting receivers are taken off to be
+    /// woken.
+    pub fn fill(&mut self) -> Wakes<W, A>
+        requires held { 0 < self.old.word.held }
+        requires fits { self.old.word.count + 1 < 2 ^ 63 }
+        ensures handed { result ≡ record { room = []; message = self.old.word.waiters.message } }
+        ensures word { self.new.word ≡ record self.old.word {
+          count = self.old.word.count + 1;
+          held = self.old.word.held - 1;
+          waiters = record self.old.word.waiters { message = [] };
+        } }
+        ensures tickets { HasOwnTickets self.new.word.waiters }
+        ensures comparisons { self.new.comparisons ≡ self.old.comparisons }
+    {
+        self.held -= 1;
+        self.packed += 1;
+        Wakes {
+            room: Vec::new(self.alloc),
+            message: self.message_waiters.take(self.alloc),
+        }
+    }
+
+    /// A held place becomes free. The waiting senders are taken off to be woken, and if the bit is
+    /// set by then and no other place is held, the waiting receivers too.
+    pub fn free(&mut self) -> Wakes<W, A>
+        requires held { 0 < self.old.word.held }
+        ensures handed { result ≡ record {
+          room = self.old.word.waiters.room;
+          message = if (self.old.word.is_closed || (self.old.word.ends
+              && (self.old.word.count == 0))) && (self.old.word.held == 1)
+              then self.old.word.waiters.message else [];
+        } }
+        ensures word { self.new.word ≡ record self.old.word {
+          is_closed = bit_at self.old.word self.old.word.count (self.old.word.held - 1);
+          held = self.old.word.held - 1;
+          waiters = record self.old.word.waiters {
+            room = [];
+            message = if (self.old.word.is_closed || (self.old.word.ends
+                && (self.old.word.count == 0))) && (self.old.word.held == 1)
+                then [] else self.old.word.waiters.message;
+          };
+        } }
+        ensures tickets { HasOwnTickets self.new.word.waiters }
+        ensures comparisons { self.new.comparisons ≡ self.old.comparisons }
+    {
+        self.held -= 1;
+        self.settle();
+        let (is_closed, _) = unpack(self.packed);
+        let room = self.room_waiters.take(self.alloc);
+        let message = if is_closed && self.held == 0 {
+            self.message_waiters.take(self.alloc)
+        } else {
+            Vec::new(self.alloc)
+        };
+        Wakes { room, message }
     }
 
     /// Sets the bit, returns the bit before, and takes off all waiters to be woken.
@@ -192,7 +315,7 @@ impl<W, A: Allocator + Copy> AwaitableAtomicCounterAndBit<W, A> {
     }
 
     /// Subtracts one from the count, and returns the bit and the count before. The waiting senders
-    /// are taken off to be woken.
+    /// are taken off to be woken, and the bit may be set.
     #[inline(always)]
     pub fn decr(&mut self) -> ((bool, u64), Wakes<W, A>)
         requires { 0 < self.old.word.count }
@@ -200,6 +323,7 @@ impl<W, A: Allocator + Copy> AwaitableAtomicCounterAndBit<W, A> {
         ensures count { result.0.1 ≡ self.old.word.count }
         ensures handed { result.1 ≡ record { room = self.old.word.waiters.room; message = [] } }
         ensures word { self.new.word ≡ record self.old.word {
+          is_closed = bit_at self.old.word (self.old.word.count - 1) self.old.word.held;
           count = self.old.word.count - 1;
           waiters = record self.old.word.waiters { room = [] };
         } }
@@ -219,6 +343,8 @@ impl<W, A: Allocator + Copy> AwaitableAtomicCounterAndBit<W, A> {
         ensures handed { result.1 ≡ (if n == 0 then nobody
             else record { room = self.old.word.waiters.room; message = [] }) }
         ensures word { self.new.word ≡ record self.old.word {
+          is_closed = if n == 0 then self.old.word.is_closed
+              else bit_at self.old.word (self.old.word.count - n) self.old.word.held;
           count = self.old.word.count - n;
           waiters = record self.old.word.waiters {
             room = if n == 0 then self.old.word.waiters.room else [];
@@ -230,6 +356,7 @@ impl<W, A: Allocator + Copy> AwaitableAtomicCounterAndBit<W, A> {
         let before = unpack(self.packed);
         self.packed -= n;
         let room = if n > 0 {
+            self.settle();
             self.room_waiters.take(self.alloc)
         } else {
             Vec::new(self.alloc)

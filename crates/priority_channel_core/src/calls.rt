@@ -1,5 +1,5 @@
 //! The calls of the core and their answers, as values.
-use crate::errors::{RecvFault, SendFault, TryRecvError, TrySendError};
+use crate::errors::{RecvFault, SendFault, TryRecvError, TryRecvManyError, TrySendError};
 
 /// A call of the core. `M` is the type that holds the pairs of a bulk send: in the code an iterator
 /// that can be peeked, in the definitions a list. `F` is what chooses the pair of a taking or of
@@ -31,6 +31,12 @@ pub enum Call<T, P, W, M, F = fn(&T, &P) -> bool> {
     PollSendv(M, Option<u64>, W),
     PollRecv(Option<u64>, W),
     GiveUp(u64),
+    CloseWhenDone,
+    TryReserve,
+    TryLease,
+    Put(T, P),
+    Free,
+    Held,
 }
 
 /// The answer to the call of the same name.
@@ -58,6 +64,12 @@ pub enum Answer<T, P, M> {
     PollSendv(CorePoll<Result<(), SendFault<M>>, M>),
     PollRecv(CorePoll<Result<(T, P), RecvFault>, ()>),
     GiveUp,
+    CloseWhenDone,
+    TryReserve(Result<(), TrySendError<()>>),
+    TryLease(Result<(T, P), TryRecvManyError>),
+    Put(Result<(), (T, P)>),
+    Free(bool),
+    Held(u64),
 }
 
 /// The answer to a poll: the result, or what the caller keeps for its next poll, with the ticket

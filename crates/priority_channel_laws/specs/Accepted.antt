@@ -1,7 +1,7 @@
 -- What calls accepted, received and changed, read only from the calls and their answers.
 use Rattle.std.specs.Prelude.{◌≡◌, ◌-◌, false, List, [], ◌∷◌, ◌++◌, length, map, take, Some, Ok, Err, AllPairs, flat_map, IsPermutation}
 use Rattle.std.specs.Ordering.{is_gt}
-use Rattle.priority_channel_core.specs.declared.calls.Call.TheVariants.{TrySend, TrySendv, TrySendEvicting, ChangePriority, PollSend, PollSendv}
+use Rattle.priority_channel_core.specs.declared.calls.Call.TheVariants.{TrySend, TrySendv, TrySendEvicting, ChangePriority, PollSend, PollSendv, Put}
 use Rattle.priority_channel_core.specs.declared.calls.Answer.TheVariants as answer
 use Rattle.priority_channel_core.specs.declared.calls.CorePoll.TheVariants.{Ready, Pending}
 use Rattle.priority_channel_core.specs.Prelude.{as_list, Calls, Answers, Operation, Ordering, SendReply, SendPoll}
@@ -28,6 +28,7 @@ module _ {T P : Type 0} where
   abbrev pub received_by : Answers T P → List (T × P)
   received_by (answer.TryRecv (Ok pair)) = pair ∷ []
   received_by (answer.PollRecv (Ready (Ok pair))) = pair ∷ []
+  received_by (answer.TryLease (Ok pair)) = pair ∷ []
   received_by _ = []
 
   -- the pair that made room, and the pair that a test took out; neither is received
@@ -52,7 +53,13 @@ module _ {T P W : Type 0} where
   accepted_by (PollSend msg priority given waker) (answer.PollSend (Ready (Ok done))) =
       (msg, priority) ∷ []
   accepted_by (PollSendv pairs given waker) (answer.PollSendv reply) = poll_sent pairs reply
+  accepted_by (Put msg priority) (answer.Put (Ok done)) = (msg, priority) ∷ []
   accepted_by _ _ = []
+
+  -- of these, the pair that was put in a held place
+  abbrev pub put_by : Calls T P W → Answers T P → List (T × P)
+  put_by (Put msg priority) (answer.Put (Ok done)) = (msg, priority) ∷ []
+  put_by _ _ = []
 
   -- the old priority and the new one
   abbrev pub changed_by : Calls T P W → Answers T P → List (P × P)
@@ -62,6 +69,9 @@ module _ {T P W : Type 0} where
   -- over a whole run, in order
   abbrev pub accepted_in : List (Operation T P W) → List (T × P)
   accepted_in run = flat_map (λ made. accepted_by made.call made.answer) run
+
+  abbrev pub put_in : List (Operation T P W) → List (T × P)
+  put_in run = flat_map (λ made. put_by made.call made.answer) run
 
   abbrev pub received_in : List (Operation T P W) → List (T × P)
   received_in run = flat_map (λ made. received_by made.answer) run

@@ -1,4 +1,6 @@
 pub mod Accepted
+pub mod Places
+pub mod Done
 pub mod Alike
 pub mod World
 pub mod WaitingLaw

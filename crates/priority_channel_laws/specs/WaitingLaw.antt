@@ -1,8 +1,8 @@
 -- What holds of each world that events reach from an opening one.
-use Rattle.std.specs.Prelude.{◌≡◌, ◌≢◌, ℕ, ◌<◌, true, List, [], ◌∷◌, ◌==◌, if◌then◌else◌, length, slice_get, Option, Some, None, ◌⊎◌}
+use Rattle.std.specs.Prelude.{◌≡◌, ◌≢◌, ℕ, ◌+◌, ◌<◌, true, List, [], ◌∷◌, ◌==◌, if◌then◌else◌, length, slice_get, Option, Some, None, ◌⊎◌}
 use Rattle.priority_channel_core.specs.declared.side.Side.{Side}
 use Rattle.priority_channel_core.specs.declared.side.Side.TheVariants.{Room, Message}
-use Rattle.priority_channel_core.specs.Prelude.{on_side, State, Handed, IsGood, Tasks, Futures, ticket_of, Recv, New, Waiting, Called, Done}
+use Rattle.priority_channel_core.specs.Prelude.{on_side, State, Handed, IsOver, IsGood, Tasks, Futures, ticket_of, Recv, New, Waiting, Called, Done}
 use Rattle.priority_channel_laws.specs.World.{World}
 
 abbrev pub waker_of : {W : Type 0} → ℕ → List (ℕ × W) → Option W
@@ -16,8 +16,8 @@ side_of send = Room
 module _ {T P W : Type 0} where
   -- what the future would wait for is there, or never comes
   abbrev pub CanGoOn : State T P W → Side → Type 0
-  CanGoOn s Room = (s.is_closed ≡ true) ⊎ (length s.pending ≢ s.capacity)
-  CanGoOn s Message = (s.is_closed ≡ true) ⊎ (s.pending ≢ [])
+  CanGoOn s Room = (s.is_closed ≡ true) ⊎ (length s.pending + s.held ≢ s.capacity)
+  CanGoOn s Message = IsOver s ⊎ (s.pending ≢ [])
 
   -- a ticket that was given by then was that future's then: no number is given twice
   abbrev pub GivenOnce : World T P W → World T P W → Type 0

@@ -1,12 +1,14 @@
 //! Consequences of the definitions alone.
-ghost use Rattle.std.specs.Prelude.{◌≡◌, ◌+◌, ◌≤◌, true, List, [], ◌∷◌, ◌++◌, length, map, replicate, slice_get, Some, Ok, Err, IsPermutation};
+ghost use Rattle.std.specs.Prelude.{◌≡◌, ◌⊎◌, ◌+◌, ◌≤◌, true, false, List, [], ◌∷◌, ◌++◌, length, map, replicate, slice_get, Some, Ok, Err, IsPermutation};
 ghost use Rattle.std.specs.List.{AllZip};
 ghost use Rattle.priority_channel_laws.specs.Alike.{IsAlike, SameOutcome, SameState};
 ghost use Rattle.priority_channel_core.specs.declared.calls.Call.TheVariants as call;
 ghost use Rattle.priority_channel_core.specs.declared.calls.Answer.TheVariants as answer;
 ghost use Rattle.priority_channel_core.specs.declared.errors.TryRecvError.TheVariants as recv_error;
-ghost use Rattle.priority_channel_core.specs.Prelude.{State, Handed, Run, Operation};
-ghost use Rattle.priority_channel_laws.specs.Accepted.{accepted_in, received_in, changed_in, Conserves, NeverRise};
+ghost use Rattle.priority_channel_core.specs.Prelude.{State, Handed, IsGood, Step, Run, Operation, is_done};
+ghost use Rattle.priority_channel_laws.specs.Accepted.{accepted_in, put_in, received_in, changed_in, Conserves, NeverRise};
+ghost use Rattle.priority_channel_laws.specs.Places.{got_in, given_in};
+ghost use Rattle.priority_channel_laws.specs.Done.{Closes};
 ghost use Rattle.priority_channel_laws.specs.World.{World, Event, Happens, IsOpening, Leads};
 ghost use Rattle.priority_channel_laws.specs.WaitingLaw.{CanGoOn, NobodyIsForgotten, GivenOnce, CalledBy};
 ghost use Rattle.priority_channel_laws.specs.Threads.{Thread, ThreadWorld, IsUnused};
@@ -17,13 +19,15 @@ ghost use Rattle.priority_channel_laws.specs.QueueLaw.{NobodySleepsOn};
 /// No pair is lost, made up or given twice: each pair that was pending or accepted is received,
 /// displaced by one of greater priority, taken out by a test, or still pending. A change of
 /// priority puts another pair with the same message in the place of a pair. A closed channel stays
-/// closed and accepts nothing.
+/// closed, and accepts only what is put in held places. No held place is lost or made up.
 pub fn conservation_law<T, P: Ord, W: Clone>()
     ensures conserved { (old new : State T P W) (run : List (Operation T P W))
         → Run P.cmp W.is_clone old run new → Conserves old.pending run new.pending }
     ensures closed { (old new : State T P W) (run : List (Operation T P W))
         → Run P.cmp W.is_clone old run new
-        → old.is_closed ≡ true → (new.is_closed ≡ true) × (accepted_in run ≡ []) }
+        → old.is_closed ≡ true → (new.is_closed ≡ true) × (accepted_in run ≡ put_in run) }
+    ensures places { (old new : State T P W) (run : List (Operation T P W))
+        → Run P.cmp W.is_clone old run new → new.held + given_in run ≡ old.held + got_in run }
 {}
 
 /// Pairs come out in the order of their priorities. That two runs over the same calls give the same
@@ -34,13 +38,28 @@ pub fn drain_law<T, P: Ord, W: Clone>()
     ensures ordered { (old new : State T P W) (before between after : List (Operation T P W))
         → Run P.cmp W.is_clone old (before ++ between ++ after) new → accepted_in between ≡ []
         → changed_in between ≡ [] → NeverRise P.cmp (received_in between) }
-    // A closed channel gives each pending pair, and then nothing more.
+    // A closed channel of which no place is held gives each pending pair, and then nothing more.
     ensures drained { (old new : State T P W) (run : List (Operation T P W))
-        → Run P.cmp W.is_clone old run new → old.is_closed ≡ true
+        → Run P.cmp W.is_clone old run new → old.is_closed ≡ true → old.held ≡ 0
         → map (λ made. made.call) run ≡ replicate (length old.pending + 1) call.TryRecv
         → (pairs : List (T × P)) × IsPermutation old.pending pairs × NeverRise P.cmp pairs
         × (map (λ made. made.answer) run ≡ map (λ pair. answer.TryRecv (Ok pair)) pairs
         ++ answer.TryRecv (Err recv_error.Closed) ∷ []) }
+{}
+
+/// A channel that is to close when all is done does so in the very step after which nothing is
+/// pending and no place is held.
+pub fn done_law<T, P: Ord, W: Clone>()
+    // Once all is done it is closed, and nobody waits.
+    ensures ended { (old new : State T P W) (run : List (Operation T P W))
+        → IsGood old → Run P.cmp W.is_clone old run new → old.ends_when_done ≡ true
+        → is_done new ≡ true
+        → (new.is_closed ≡ true) × (new.waiters.room ≡ []) × (new.waiters.message ≡ []) }
+    // As long as something is pending or held it is open, unless a call closes it.
+    ensures not_before { (old new : State T P W) (made : Operation T P W)
+        → Step P.cmp W.is_clone old made.call made.answer made.handed new
+        → old.is_closed ≡ false → new.is_closed ≡ true
+        → Closes old made.call ⊎ ((new.ends_when_done ≡ true) × (is_done new ≡ true)) }
 {}
 
 /// Two runs over the same calls have the same outcomes, if each call accepts as many pairs in both

@@ -6,7 +6,7 @@ use Rattle.priority_channel_core.specs.declared.calls.Answer.TheVariants as answ
 use Rattle.priority_channel_core.specs.declared.errors.TrySendError.TheVariants as send_error
 use Rattle.priority_channel_core.specs.declared.errors.TryRecvError.TheVariants as recv_error
 use Rattle.priority_channel_bag.proofs.Extremes.{one_greatest, one_least}
-use Rattle.priority_channel_core.specs.Prelude.{Handed, opening, AddsFront, Sends, Moves, Step, Answers, Operation, Run, Ordering}
+use Rattle.priority_channel_core.specs.Prelude.{Handed, opening, settled, AddsFront, Sends, Moves, Step, Answers, Operation, Run, Ordering}
 use Rattle.priority_channel_recorded.specs.declared.book.Call.{Call}
 use Rattle.priority_channel_recorded.specs.declared.book.Call.TheVariants.{TrySend, TrySendEvicting, TryRecv, Close, IsClosed, IsEmpty, IsFull, Len}
 use Rattle.priority_channel_recorded.specs.declared.book.Reply.{Reply}
@@ -68,7 +68,7 @@ module _ {T P : Type 0} {cmp : P → P → Ordering} (o : IsTotalOrder cmp) wher
   same_state old new other handed others (TrySendEvicting msg priority) (answer.TrySendEvicting (Err (send_error.Memory pair))) (inr m) (inr n) = m.4.1 ∙ sym n.4.1
   same_state old new other handed others TryRecv (answer.TryRecv (Ok pair)) m n =
       let same = one_greatest o old.pending pair pair new.pending other.pending m.0 n.0 in
-      let after : List (T × P) → Machine T P = λ rest. record old { pending = rest; waiters = record old.waiters { room = [] } } in
+      let after : List (T × P) → Machine T P = λ rest. settled (record old { pending = rest; waiters = record old.waiters { room = [] } }) in
       m.1.1 ∙ ap after same.1 ∙ sym n.1.1
   same_state old new other handed others TryRecv (answer.TryRecv (Err recv_error.Closed)) m n = m.2.1 ∙ sym n.2.1
   same_state old new other handed others TryRecv (answer.TryRecv (Err recv_error.Empty)) m n = m.2.1 ∙ sym n.2.1

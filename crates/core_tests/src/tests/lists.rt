@@ -13,7 +13,7 @@ type Core = PriorityQueueChannel<&'static str, u64, u64>;
 fn send_vec(core: &mut Core, pairs: Vec<(&'static str, u64)>)
     requires opened { core.old.state.is_closed ≡ false }
     requires reserved { core.old.state.is_reserved ≡ true }
-    requires numbers { core.old.state.accepted + vec_len pairs < 2 ^ 64 }
+    requires numbers { core.old.state.accepted + core.old.state.held + vec_len pairs < 2 ^ 64 }
     ensures { core.new.state.pending ≡ core.old.state.pending ++ take (room core.old.state)
         pairs.entry.items }
 {

@@ -3,7 +3,7 @@
 use Rattle.std.specs.Prelude.{◌≡◌, ℕ, List, ◌++◌, map, ⊤}
 use Rattle.std.specs.List.{AllZip}
 use Rattle.priority_channel_core.specs.Types.{Call, Answer, Ordering}
-use Rattle.priority_channel_core.specs.declared.calls.Call.TheVariants.{TrySend, TrySendv, TrySendEvicting, TryRecv, TakeWhere, ChangePriority, Close, IsClosed, IsEmpty, IsFull, Len, Capacity, SenderCount, ReceiverCount, CloneSender, CloneReceiver, DropSender, DropReceiver, PollSend, PollSendv, PollRecv, GiveUp}
+use Rattle.priority_channel_core.specs.declared.calls.Call.TheVariants.{TrySend, TrySendv, TrySendEvicting, TryRecv, TakeWhere, ChangePriority, Close, IsClosed, IsEmpty, IsFull, Len, Capacity, SenderCount, ReceiverCount, CloneSender, CloneReceiver, DropSender, DropReceiver, PollSend, PollSendv, PollRecv, GiveUp, CloseWhenDone, TryReserve, TryLease, Put, Free, Held}
 use Rattle.priority_channel_core.specs.machine.State.{State, Handed}
 use Rattle.priority_channel_core.specs.machine.Step.{Step, Calls, Answers}
 use Rattle.priority_channel_core.specs.machine.Run.{Operation, Run}
@@ -59,6 +59,12 @@ module _ {T P W M F : Type 0} (holds : M → List (T × P) → Type 0) where
   SameCall (PollSend msg priority given waker) = Is (PollSend msg priority given waker)
   SameCall (PollRecv given waker) = Is (PollRecv given waker)
   SameCall (GiveUp ticket) = Is (GiveUp ticket)
+  SameCall CloseWhenDone = Is CloseWhenDone
+  SameCall TryReserve = Is TryReserve
+  SameCall TryLease = Is TryLease
+  SameCall (Put msg priority) = Is (Put msg priority)
+  SameCall Free = Is Free
+  SameCall Held = Is Held
 
 module _ {T P W M : Type 0} (holds : M → List (T × P) → Type 0) where
   abbrev pub SameOperation : Response T P W M → Operation T P W → Type 0

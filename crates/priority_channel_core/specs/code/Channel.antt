@@ -2,7 +2,7 @@
 use Rattle.std.specs.Prelude.{◌≡◌, ℕ, ◌+◌, ◌*◌, ◌≤◌, Bool, true, false, if◌then◌else◌, [], length}
 use Rattle.priority_channel_bag.specs.Prelude.{digits, Contents}
 use Rattle.priority_channel_core.specs.Types.{Side, Room, Message}
-use Rattle.priority_channel_core.specs.machine.State.{State, room}
+use Rattle.priority_channel_core.specs.machine.State.{State, room, IsGoingOn}
 use Rattle.priority_channel_core.specs.machine.Good.{IsGood}
 use Rattle.priority_channel_core.specs.Word.{Word}
 
@@ -17,7 +17,9 @@ module _ {T P W : Type 0} where
   state_of bag word capacity is_reserved sender_count receiver_count = record {
     pending = bag.pending;
     accepted = bag.accepted;
+    held = word.held;
     is_closed = word.is_closed;
+    ends_when_done = word.ends;
     capacity = capacity;
     is_reserved = is_reserved;
     sender_count = sender_count;
@@ -28,6 +30,7 @@ module _ {T P W : Type 0} where
   pub record IsSound (bag : Contents T P) (word : Word W) (state : State T P W)
       : Type 0 where
     pub counted : word.count ≡ length bag.pending
+    pub slots_held : length bag.pending + word.held ≤ bag.slots
     pub slots_kept : state.is_reserved ≡ true → state.capacity ≤ bag.slots
     pub good : IsGood state
 
@@ -47,4 +50,4 @@ module _ {T P W : Type 0} where
   -- a call on this side has to wait
   abbrev pub IsBlocked : Side → State T P W → Type 0
   IsBlocked Room s = (s.is_closed ≡ false) × (room s ≡ 0)
-  IsBlocked Message s = (s.is_closed ≡ false) × (s.pending ≡ [])
+  IsBlocked Message s = IsGoingOn s × (s.pending ≡ [])

@@ -6,13 +6,13 @@ use Rattle.priority_channel_core.specs.machine.State.{State}
 
 module _ {T P W : Type 0} where
   abbrev pub HasRoom : State T P W → Type 0
-  HasRoom s = (s.is_closed ≡ false) × (length s.pending < s.capacity)
+  HasRoom s = (s.is_closed ≡ false) × (length s.pending + s.held < s.capacity)
 
   abbrev pub IsFull : State T P W → Type 0
-  IsFull s = (s.is_closed ≡ false) × (length s.pending ≡ s.capacity)
+  IsFull s = (s.is_closed ≡ false) × (length s.pending + s.held ≡ s.capacity)
 
   abbrev pub HasNumber : State T P W → Type 0
-  HasNumber s = s.accepted + 1 < 2 ^ 64
+  HasNumber s = s.accepted + s.held + 1 < 2 ^ 64
 
   abbrev pub HasMemory : State T P W → Type 0
   HasMemory s = (s.is_reserved ≡ true) × HasNumber s

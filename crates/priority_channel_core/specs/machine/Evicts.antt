@@ -1,5 +1,5 @@
 -- A send that makes room: a removal and a send in one step.
-use Rattle.std.specs.Prelude.{◌≡◌, ◌-◌, ◌^◌, ◌⊎◌, false, [], ◌∷◌, Option, Some, None, Result, Ok, Err}
+use Rattle.std.specs.Prelude.{◌≡◌, ◌+◌, ◌-◌, ◌^◌, ◌⊎◌, false, [], ◌∷◌, Option, Some, None, Result, Ok, Err}
 use Rattle.std.specs.declared.cmp.Ordering.TheVariants.{Less}
 use Rattle.priority_channel_bag.specs.Prelude.{TakesLeast, NoneBelow}
 use Rattle.priority_channel_core.specs.Types.{TrySendError, Full, Closed, Memory, Ordering}
@@ -26,5 +26,5 @@ module _ {T P W : Type 0} (cmp : P → P → Ordering) where
   -- as for a send, or the last number of a pair was used
   Evicts old pair (Err (Memory held)) handed new =
       Sends old (pair ∷ []) (Err (Memory (held ∷ []))) handed new
-      ⊎ ((old.is_closed ≡ false) × (room old ≡ 0) × (old.accepted ≡ 2 ^ 64 - 1) × (held ≡ pair)
-      × Refuses old handed new)
+      ⊎ ((old.is_closed ≡ false) × (room old ≡ 0) × (old.accepted + old.held ≡ 2 ^ 64 - 1)
+      × (held ≡ pair) × Refuses old handed new)

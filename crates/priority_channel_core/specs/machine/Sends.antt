@@ -44,4 +44,4 @@ module _ {T P W : Type 0} (old : State T P W) where
   Sends pairs (Err (Memory rest)) handed new =
       (front : List (T × P)) × (pairs ≡ front ++ rest) × (length front < room old)
       × (0 < length rest) × Accepts front handed new
-      × ((old.is_reserved ≡ false) ⊎ (old.accepted + length front ≡ 2 ^ 64 - 1))
+      × ((old.is_reserved ≡ false) ⊎ (old.accepted + old.held + length front ≡ 2 ^ 64 - 1))

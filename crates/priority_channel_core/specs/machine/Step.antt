@@ -1,13 +1,14 @@
 -- One step: a call, its answer, the waiters that it wakes, and the state after it.
-use Rattle.std.specs.Prelude.{ℕ, ◌+◌, ◌-◌, ◌==◌, List, [], ◌∷◌, length, Some}
+use Rattle.std.specs.Prelude.{ℕ, ◌+◌, ◌-◌, ◌==◌, List, [], ◌∷◌, length, Some, true}
 use Rattle.priority_channel_core.specs.Types.{Call, Answer, Room, Message, Ordering}
-use Rattle.priority_channel_core.specs.declared.calls.Call.TheVariants.{TrySend, TrySendv, TrySendEvicting, TryRecv, TakeWhere, ChangePriority, Close, IsClosed, IsEmpty, IsFull, Len, Capacity, SenderCount, ReceiverCount, CloneSender, CloneReceiver, DropSender, DropReceiver, PollSend, PollSendv, PollRecv, GiveUp}
+use Rattle.priority_channel_core.specs.declared.calls.Call.TheVariants.{TrySend, TrySendv, TrySendEvicting, TryRecv, TakeWhere, ChangePriority, Close, IsClosed, IsEmpty, IsFull, Len, Capacity, SenderCount, ReceiverCount, CloneSender, CloneReceiver, DropSender, DropReceiver, PollSend, PollSendv, PollRecv, GiveUp, CloseWhenDone, TryReserve, TryLease, Put, Free, Held}
 use Rattle.priority_channel_core.specs.declared.calls.Answer.TheVariants as answer
-use Rattle.priority_channel_core.specs.machine.State.{State, Handed}
+use Rattle.priority_channel_core.specs.machine.State.{State, Handed, is_done}
 use Rattle.priority_channel_core.specs.machine.Good.{IsGood}
 use Rattle.priority_channel_core.specs.machine.Sends.{as_list, Refuses, Sends}
 use Rattle.priority_channel_core.specs.machine.Evicts.{Evicts}
-use Rattle.priority_channel_core.specs.machine.OtherCalls.{Receives, Takes, ChangesPriority, Closes, Looks, capacity_told, Clones, Drops}
+use Rattle.priority_channel_core.specs.machine.Places.{Reserves, Leases, Puts, FreesPlace}
+use Rattle.priority_channel_core.specs.machine.OtherCalls.{Receives, Takes, ChangesPriority, Closes, EndsWhenDone, Looks, capacity_told, Clones, Drops}
 use Rattle.priority_channel_core.specs.Waiters.{unlist}
 use Rattle.priority_channel_core.specs.machine.Polls.{send_answer, recv_answer, Polls}
 
@@ -33,7 +34,7 @@ module _ {T P W : Type 0} (cmp : P → P → Ordering) (is_clone : W → W → T
   Moves old Close (answer.Close was_open) = Closes old was_open
   Moves old IsClosed (answer.IsClosed told) = Looks old old.is_closed told
   Moves old IsEmpty (answer.IsEmpty told) = Looks old (length old.pending == 0) told
-  Moves old IsFull (answer.IsFull told) = Looks old (length old.pending == old.capacity) told
+  Moves old IsFull (answer.IsFull told) = Looks old (length old.pending + old.held == old.capacity) told
   Moves old Len (answer.Len told) = Looks old (length old.pending) told
   Moves old Capacity (answer.Capacity told) = Looks old (capacity_told old.capacity) told
   Moves old SenderCount (answer.SenderCount told) = Looks old old.sender_count told
@@ -56,6 +57,13 @@ module _ {T P W : Type 0} (cmp : P → P → Ordering) (is_clone : W → W → T
       Polls is_clone (Receives cmp old) recv_answer Message given waker answer
   Moves old (GiveUp ticket) answer.GiveUp =
       Refuses (record old { waiters = unlist (Some ticket) old.waiters })
+  Moves old CloseWhenDone answer.CloseWhenDone =
+      EndsWhenDone (is_done old) (record old { ends_when_done = true })
+  Moves old TryReserve (answer.TryReserve reply) = Reserves old reply
+  Moves old TryLease (answer.TryLease reply) = Leases cmp old reply
+  Moves old (Put msg priority) (answer.Put reply) = Puts old (msg, priority) reply
+  Moves old Free (answer.Free done) = FreesPlace old done
+  Moves old Held (answer.Held told) = Looks old old.held told
   Moves old _ _ = λ handed new. ⊥
 
   pub record Step (old : State T P W) (made : Calls T P W) (reply : Answers T P) (handed : Handed W)

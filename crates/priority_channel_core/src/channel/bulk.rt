@@ -54,19 +54,24 @@ where
 // pair is reserved before the pair is taken, so no pair is lost.
 fn send_front<T: Drop, P: Ord + Drop, A: Allocator, I: Iterator<Item = (T, P)>>(
     bag: &mut Bag<T, P, A>,
+    held: u64,
     room: u64,
     msgs: &mut Peekable<I>,
 ) -> Stop
-    requires { peekable_can I.can_next msgs.old }
+    requires held { held < 2 ^ 63 }
+    requires callable { peekable_can I.can_next msgs.old }
     ensures callable { peekable_can I.can_next msgs.new }
     ensures moved { MovesFront I.next_gives bag.old msgs.old (sent_before result) bag.new msgs.new }
     ensures accepted { bag.new.accepted ≡ bag.old.accepted + sent_before result }
-    ensures numbered { bag.old.accepted < 2 ^ 64 → bag.new.accepted < 2 ^ 64 }
+    ensures numbered { bag.old.accepted + held < 2 ^ 64 → bag.new.accepted + held < 2 ^ 64 }
     ensures slots { bag.old.slots ≤ bag.new.slots }
     ensures least { bag.new.knows_least ≡ bag.old.knows_least }
-    ensures limit { length bag.old.pending < 2 ^ 63 → length bag.new.pending < 2 ^ 63 }
-    ensures stops { StopsFor I.next_gives
-        (λ n. bag.new.accepted + 1 < 2 ^ 64 → bag.new.slots ≤ length bag.new.pending)
+    ensures limit { length bag.old.pending + held < 2 ^ 63
+        → length bag.new.pending + held < 2 ^ 63 }
+    ensures held_slots { length bag.old.pending + held ≤ bag.old.slots
+        → length bag.new.pending + held ≤ bag.new.slots }
+    ensures stops { StopsFor I.next_gives (λ n. bag.new.accepted + held + 1 < 2 ^ 64
+        → bag.new.slots ≤ length bag.new.pending + held)
         room result msgs.new }
     ensures cost { bag.new.comparisons
         ≤ bag.old.comparisons + sent_before result * digits (length bag.new.pending) }
@@ -75,7 +80,7 @@ fn send_front<T: Drop, P: Ord + Drop, A: Allocator, I: Iterator<Item = (T, P)>>(
         if !has_next(msgs) {
             return Stop::Ended(sent);
         }
-        if !prepare(bag) {
+        if !prepare(bag, held) {
             return Stop::Memory(sent);
         }
         let Some((msg, priority)) = msgs.next() else {
@@ -104,14 +109,14 @@ impl<T: Drop, P: Ord + Drop, W: Clone, A: Allocator + Copy> PriorityQueueChannel
             result.1 self.new.state msgs.new }
         ensures stops { StopsFor I.next_gives
             (λ n. (self.old.state.is_reserved ≡ false)
-            ⊎ (self.old.state.accepted + n ≡ 2 ^ 64 - 1))
+            ⊎ (self.old.state.accepted + self.old.state.held + n ≡ 2 ^ 64 - 1))
             room result.0 msgs.new }
         ensures good { IsGood self.new.state }
         ensures cost { ComparesAtMost
             (sent_before result.0 * digits (length self.new.state.pending)) 0
             self.old self.new }
     {
-        let stop = send_front(&mut self.bag, room, msgs);
+        let stop = send_front(&mut self.bag, self.word.held(), room, msgs);
         let (_, wakes) = self.word.incr(stop.sent());
         (stop, wakes)
     }
@@ -143,7 +148,7 @@ impl<T: Drop, P: Ord + Drop, W: Clone, A: Allocator + Copy> PriorityQueueChannel
         ensures full { OnFull result.0 ((self.new.state.is_closed ≡ false)
             × (room_of self.new.state ≡ 0)) }
         ensures memory { OnMemory result.0 ((self.old.state.is_reserved ≡ false)
-            ⊎ (self.new.state.accepted ≡ 2 ^ 64 - 1)) }
+            ⊎ (self.new.state.accepted + self.new.state.held ≡ 2 ^ 64 - 1)) }
         ensures front { (front : List (T × P))
             × AddsFront self.old.state front result.1 self.new.state
             × ComparesAtMost (length front * digits (length self.new.state.pending)) 0
@@ -154,10 +159,11 @@ impl<T: Drop, P: Ord + Drop, W: Clone, A: Allocator + Copy> PriorityQueueChannel
         if is_closed {
             return (Err(TrySendError::Closed(msgs)), Wakes::nobody(self.alloc));
         }
-        if count >= self.capacity {
+        let taken = count + self.word.held();
+        if taken >= self.capacity {
             return (Err(TrySendError::Full(msgs)), Wakes::nobody(self.alloc));
         }
-        let (stop, wakes) = self.send_while_room(self.capacity - count, &mut msgs);
+        let (stop, wakes) = self.send_while_room(self.capacity - taken, &mut msgs);
         match stop {
             Stop::Ended(_) => (Ok(()), wakes),
             Stop::Memory(_) => (Err(TrySendError::Memory(msgs)), wakes),

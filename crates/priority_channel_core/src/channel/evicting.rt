@@ -50,15 +50,16 @@ impl<T, P: Ord, W: Clone, A: Allocator + Copy> PriorityQueueChannel<T, P, W, A> 
         ensures cost { ComparesAtMost
             (search_for_least self.old + 2 * digits (length self.new.state.pending) + 1) 0 self.old
             self.new }
-        ensures known { length self.old.state.pending ≡ self.old.state.capacity
-            → OnOk result.0 (self.new.knows_least ≡ true) }
+        ensures known { length self.old.state.pending + self.old.state.held
+            ≡ self.old.state.capacity → OnOk result.0 (self.new.knows_least ≡ true) }
     {
         let (is_closed, count) = self.word.load();
-        if is_closed || count < self.capacity {
+        let held = self.word.held();
+        if is_closed || count + held < self.capacity {
             let (sent, wakes) = self.try_send(msg, priority);
             return (sent.map(|()| None), wakes);
         }
-        if !self.bag.can_push() {
+        if !self.bag.can_push_beside(held) {
             return (
                 Err(TrySendError::Memory((msg, priority))),
                 Wakes::nobody(self.alloc),

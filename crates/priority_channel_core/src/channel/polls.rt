@@ -197,7 +197,8 @@ impl<T: Drop, P: Ord + Drop, W: Clone, A: Allocator + Copy> PriorityQueueChannel
             × ComparesAtMost (length front * digits (length self.new.state.pending))
             (search_bound self.old.state.waiters) self.old self.new }
         ensures memory { OnMemoryFault result.0 ((self.old.state.is_reserved ≡ false)
-            ⊎ (self.new.state.accepted ≡ 2 ^ 64 - 1) ⊎ (room self.new.state ≡ 0)) }
+            ⊎ (self.new.state.accepted + self.new.state.held ≡ 2 ^ 64 - 1)
+            ⊎ (room self.new.state ≡ 0)) }
         ensures good { IsGood self.new.state }
     {
         // Reads the field so that the prover learns its invariant.

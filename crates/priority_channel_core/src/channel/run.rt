@@ -172,6 +172,24 @@ impl<T: Drop, P: Ord + Drop, W: Clone, A: Allocator + Copy> PriorityQueueChannel
                 self.give_up(ticket);
                 self.without_wakes(Answer::GiveUp)
             }
+            Call::CloseWhenDone => { Response::new(Answer::CloseWhenDone, self.close_when_done()) }
+            Call::TryReserve => {
+                let reply = self.try_reserve();
+                self.without_wakes(Answer::TryReserve(reply))
+            }
+            Call::TryLease => {
+                let reply = self.try_lease();
+                self.without_wakes(Answer::TryLease(reply))
+            }
+            Call::Put(msg, priority) => {
+                let (reply, wakes) = self.put(msg, priority);
+                Response::new(Answer::Put(reply), wakes)
+            }
+            Call::Free => {
+                let (is_freed, wakes) = self.free();
+                Response::new(Answer::Free(is_freed), wakes)
+            }
+            Call::Held => self.without_wakes(Answer::Held(self.held())),
         }
     }
 

@@ -120,6 +120,12 @@ module _ {W : Type 0} (is_clone : W → W → Type 0) where
     pub same_pending : {s r : State T P W} → SameState is_clone s r → r.pending ≡ s.pending
     same_pending h = ap (λ (x : State T P W). x.pending) h.others
 
+    pub same_ends : {s r : State T P W} → SameState is_clone s r → r.ends_when_done ≡ s.ends_when_done
+    same_ends h = ap (λ (x : State T P W). x.ends_when_done) h.others
+
+    pub same_held : {s r : State T P W} → SameState is_clone s r → r.held ≡ s.held
+    same_held h = ap (λ (x : State T P W). x.held) h.others
+
     pub same_closed : {s r : State T P W} → SameState is_clone s r → r.is_closed ≡ s.is_closed
     same_closed h = ap (λ (x : State T P W). x.is_closed) h.others
 

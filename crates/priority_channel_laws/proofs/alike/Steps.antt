@@ -5,11 +5,11 @@ use Rattle.std.specs.Cmp.{IsTotalOrder}
 use Rattle.std.specs.List.{AllZip}
 use Rattle.priority_channel_core.specs.declared.calls.Call.TheVariants as call
 use Rattle.priority_channel_core.specs.declared.calls.Answer.TheVariants as answer
-use Rattle.priority_channel_core.specs.Prelude.{State, Handed, as_list, capacity_told, Moves, Calls, Answers, Operation, Run, Ordering}
+use Rattle.priority_channel_core.specs.Prelude.{State, Handed, as_list, capacity_told, is_done, Moves, Calls, Answers, Operation, Run, Ordering}
 use Rattle.priority_channel_laws.specs.Accepted.{accepted_by}
 use Rattle.priority_channel_laws.specs.Alike.{is_memory, SameState, SameOutcome, IsAlike}
-use Rattle.priority_channel_laws.proofs.alike.Lists.{same_unlisted, nobody_same, same_pending, same_closed, same_capacity, same_senders, same_receivers}
-use Rattle.priority_channel_laws.proofs.alike.Calls.{Both, sends_same, takes_same, changes_same, receives_same, closes_same, looks_same, clones_same, drops_same}
+use Rattle.priority_channel_laws.proofs.alike.Lists.{same_unlisted, nobody_same, same_pending, same_held, same_closed, same_capacity, same_senders, same_receivers}
+use Rattle.priority_channel_laws.proofs.alike.Calls.{Both, sends_same, takes_same, changes_same, receives_same, closes_same, looks_same, clones_same, drops_same, ends_same, reserves_same, leases_same, puts_same, frees_place_same}
 use Rattle.priority_channel_laws.proofs.alike.Evicting.{evicts_same}
 use Rattle.priority_channel_laws.proofs.alike.Polls.{as_list_one, polls_send_same, polls_sendv_same, polls_receive_same}
 
@@ -45,7 +45,7 @@ module _ {T P W : Type 0} (is_clone : W → W → Type 0) {cmp : P → P → Ord
     step_same call.IsEmpty (answer.IsEmpty x) (answer.IsEmpty y) a b count memory =
         told answer.IsEmpty (looks_same is_clone s r k k' h h' same _ _ x y (ap (λ (l : List (T × P)). length l == 0) (same_pending is_clone same)) a b)
     step_same call.IsFull (answer.IsFull x) (answer.IsFull y) a b count memory =
-        told answer.IsFull (looks_same is_clone s r k k' h h' same (length s.pending == s.capacity) (length r.pending == r.capacity) x y (rw ((same_pending is_clone same), (same_capacity is_clone same)) refl) a b)
+        told answer.IsFull (looks_same is_clone s r k k' h h' same (length s.pending + s.held == s.capacity) (length r.pending + r.held == r.capacity) x y (rw ((same_pending is_clone same), (same_held is_clone same), (same_capacity is_clone same)) refl) a b)
     step_same call.Len (answer.Len x) (answer.Len y) a b count memory =
         told answer.Len (looks_same is_clone s r k k' h h' same (length s.pending) (length r.pending) x y (ap length (same_pending is_clone same)) a b)
     step_same call.Capacity (answer.Capacity x) (answer.Capacity y) a b count memory =
@@ -74,6 +74,18 @@ module _ {T P W : Type 0} (is_clone : W → W → Type 0) {cmp : P → P → Ord
         told answer.PollRecv (polls_receive_same is_clone o s r k k' h h' same given waker x y a b memory)
     step_same (call.GiveUp ticket) answer.GiveUp answer.GiveUp a b count memory =
         (refl, record { handed = nobody_same is_clone h h' a.0 b.0; state = rw (a.1, b.1) (same_unlisted is_clone (Some ticket) s r same) })
+    step_same call.CloseWhenDone answer.CloseWhenDone answer.CloseWhenDone a b count memory =
+        (refl, ends_same is_clone s r k k' h h' same (is_done s) (is_done r) (rw (same_pending is_clone same, same_held is_clone same) refl) a b)
+    step_same call.TryReserve (answer.TryReserve x) (answer.TryReserve y) a b count memory =
+        told answer.TryReserve (reserves_same is_clone s r k k' h h' same x y a b memory)
+    step_same call.TryLease (answer.TryLease x) (answer.TryLease y) a b count memory =
+        told answer.TryLease (leases_same is_clone s r k k' h h' same o x y a b memory)
+    step_same (call.Put m p) (answer.Put x) (answer.Put y) a b count memory =
+        told answer.Put (puts_same is_clone s r k k' h h' same (m, p) x y a b)
+    step_same call.Free (answer.Free x) (answer.Free y) a b count memory =
+        told answer.Free (frees_place_same is_clone s r k k' h h' same x y a b)
+    step_same call.Held (answer.Held x) (answer.Held y) a b count memory =
+        told answer.Held (looks_same is_clone s r k k' h h' same _ _ x y (same_held is_clone same) a b)
     step_same made x y a b count memory = absurd (assumption)
 
   pub runs_same : (s r new other : State T P W) (run another : List (Operation T P W)) → SameState is_clone s r → Run cmp is_clone s run new → Run cmp is_clone r another other

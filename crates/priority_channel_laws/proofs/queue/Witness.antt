@@ -69,7 +69,7 @@ module _ {T P : Type 0} where
       (_, refl, (0, refl, inl ((7, refl), refl))),
       (
         asleep,
-        (_, refl, (0, refl, ((0, 7), refl, (refl, refl), ((7, refl, (refl, refl)), refl), refl, good_after, refl))),
+        (_, refl, (0, refl, ((0, 7), refl, (inl refl, refl), ((7, refl, (refl, refl)), refl), refl, good_after, refl))),
         (
           after,
           (
@@ -88,4 +88,4 @@ module _ {T P : Type 0} where
   pub occurs : (cmp : P → P → Ordering)
       → (start : ThreadWorld T P) × (world : ThreadWorld T P) × (events : List (ThreadEvent T P)) × IsUnused start × LeadsTo cmp start events world
       × (thread : Thread) × (slice_get world.threads 0 ≡ Some thread) × (thread.phase ≡ Sleeps 0) × CanGoOn world.state world.side
-  occurs cmp = (before, after, events, unused, leads cmp, _, refl, refl, inl refl)
+  occurs cmp = (before, after, events, unused, leads cmp, _, refl, refl, inl (refl, refl))

@@ -1,5 +1,5 @@
 -- What a step does to the pending pairs and, if no future makes it, to the waiting lists.
-use Rattle.std.proofs.Common.{◌≡◌, ℕ, ◌-◌, ◌⊎◌, Bool, true, false, List, [], ◌∷◌, ◌++◌, length, map, refl, sym, ap, ◌∙◌, arith, inl, inr, zero, suc, length-append, Result, Ok, Err, Option, None, Some, append-nil, All, IsPermutation, is_gt}
+use Rattle.std.proofs.Common.{◌≡◌, ℕ, ◌+◌, ◌-◌, ◌⊎◌, Bool, true, false, List, [], ◌∷◌, ◌++◌, length, map, refl, sym, ap, ◌∙◌, arith, inl, inr, zero, suc, length-append, Result, Ok, Err, Option, None, Some, append-nil, All, IsPermutation, is_gt}
 use Rattle.std.proofs.Math.Seq.{take-append_seam}
 use Rattle.std.proofs.lemmas.List.Sorted.{IsPermutation-refl, IsPermutation-sym, IsPermutation-trans, IsPermutation-cons, IsPermutation-middle, IsPermutation-append_left, IsPermutation-append_comm}
 use Rattle.std.proofs.lemmas.List.Elements.{All-append, All-weaker}
@@ -8,13 +8,16 @@ use Rattle.priority_channel_core.specs.declared.calls.Call.TheVariants as call
 use Rattle.priority_channel_core.specs.declared.calls.Answer.TheVariants as answer
 use Rattle.priority_channel_core.specs.declared.errors.TrySendError.{TrySendError}
 use Rattle.priority_channel_core.specs.declared.side.Side.{Side}
-use Rattle.priority_channel_core.specs.Prelude.{State, Handed, nobody, as_list, Refuses, Accepts, Sends, MakesRoom, Evicts, Receives, Takes, ChangesPriority, Shuts, Clones, Drops, send_answer, recv_answer, Polls, Moves, Calls, Answers, Ordering, SendReply, RecvReply, SendPoll, RecvPoll}
+use Rattle.priority_channel_core.specs.Prelude.{State, Handed, nobody, as_list, Refuses, Accepts, Sends, MakesRoom, Evicts, Receives, Takes, ChangesPriority, Shuts, EndsWhenDone, is_done, Clones, Drops, Reserves, Leases, Puts, FreesPlace, LeaseReply, send_answer, recv_answer, Polls, Moves, Calls, Answers, Ordering, SendReply, RecvReply, SendPoll, RecvPoll}
 use Rattle.priority_channel_core.specs.declared.errors.TrySendError.TheVariants as send_error
 use Rattle.priority_channel_core.specs.declared.errors.TryRecvError.TheVariants as recv_error
+use Rattle.priority_channel_core.specs.declared.errors.TryRecvManyError.TheVariants as many_error
+use Rattle.priority_channel_bag.specs.Prelude.{TakesGreatest}
+use Rattle.priority_channel_core.proofs.Closing.{or_left}
 use Rattle.priority_channel_core.proofs.Polls.{send_answers}
 use Rattle.priority_channel_laws.specs.World.{IsDirect}
-use Rattle.priority_channel_laws.proofs.worlds.Hands.{Hands, hands_nobody, hands_refuses, hands_accepts, hands_frees, hands_shuts, hands_same}
-use Rattle.priority_channel_laws.specs.Accepted.{all_but, sent, poll_sent, accepted_by, received_by, displaced_by, taken_by, changed_by, Change, priorities, before, after}
+use Rattle.priority_channel_laws.proofs.worlds.Hands.{Hands, hands_nobody, hands_refuses, hands_accepts, hands_frees, hands_puts, hands_place, hands_shuts, hands_same}
+use Rattle.priority_channel_laws.specs.Accepted.{all_but, sent, poll_sent, accepted_by, put_by, received_by, displaced_by, taken_by, changed_by, Change, priorities, before, after}
 
 pub all_but-front : {A : Type 0} (front rest : List A) → all_but rest (front ++ rest) ≡ front
 all_but-front front rest =
@@ -44,35 +47,44 @@ exchanges before after out now =
     (IsPermutation-trans _ _ _ (IsPermutation-append_left (before ++ after) (now ∷ out ∷ []) (out ∷ now ∷ []) (IsPermutation-append_comm (now ∷ []) (out ∷ [])))
     (IsPermutation-cons out _ _ (IsPermutation-sym _ _ (IsPermutation-middle before now after))))
 
+-- the pair, if it was put
+abbrev pub put_one : {T P : Type 0} → T × P → Result (Unit {0}) (T × P) → List (T × P)
+put_one pair (Ok done) = pair ∷ []
+put_one pair (Err back) = []
+
 abbrev pub NoneAbove : {T P : Type 0} → (P → P → Ordering) → T × P → List (T × P) → Type 0
 NoneAbove cmp pair others = All (λ other. is_gt (cmp other.1 pair.1) ≡ false) others
 
 module _ {T P W : Type 0} (cmp : P → P → Ordering) where
   -- the pairs that came in, the pairs that went out each way, and the priorities that changed
-  pub record Effect (old : State T P W) (accepted received displaced taken : List (T × P)) (changed : List (P × P)) (new : State T P W) : Type 0 where
+  pub record Effect (old : State T P W) (accepted put received displaced taken : List (T × P)) (changed : List (P × P)) (new : State T P W) : Type 0 where
     pub changes : List (Change T P)
     pub told : map priorities changes ≡ changed
     pub moves : IsPermutation (map after changes ++ old.pending ++ accepted) (map before changes ++ received ++ displaced ++ taken ++ new.pending)
-    pub closed : old.is_closed ≡ true → (new.is_closed ≡ true) × (accepted ≡ [])
+    pub closed : old.is_closed ≡ true → (new.is_closed ≡ true) × (accepted ≡ put)
     pub gives : (received ≡ []) ⊎ ((pair : T × P) × (received ≡ pair ∷ []) × NoneAbove cmp pair new.pending)
 
   module _ (old new : State T P W) (handed : Handed W) where
     -- no priority changes
     unchanged : {accepted received displaced taken : List (T × P)} → IsPermutation (old.pending ++ accepted) (received ++ displaced ++ taken ++ new.pending)
         → (old.is_closed ≡ true → (new.is_closed ≡ true) × (accepted ≡ [])) → (received ≡ []) ⊎ ((pair : T × P) × (received ≡ pair ∷ []) × NoneAbove cmp pair new.pending)
-        → Effect old accepted received displaced taken [] new
+        → Effect old accepted [] received displaced taken [] new
     unchanged moves closed gives = record { changes = []; told = refl; moves = moves; closed = closed; gives = gives }
 
-    effect_same : (s : State T P W) → new ≡ s → s.pending ≡ old.pending → (old.is_closed ≡ true → s.is_closed ≡ true) → Effect old [] [] [] [] [] new
+    effect_same : (s : State T P W) → new ≡ s → s.pending ≡ old.pending → (old.is_closed ≡ true → s.is_closed ≡ true) → Effect old [] [] [] [] [] [] new
     effect_same s e same closed =
         unchanged (rw (append-nil old.pending, e, same) (IsPermutation-refl old.pending)) (λ h. (ap (λ (r : State T P W). r.is_closed) e ∙ closed h, refl)) (inl refl)
 
     -- what a call does to both waiting lists, and to the pairs
     abbrev Does : List (T × P) → List (T × P) → List (T × P) → List (T × P) → List (P × P) → Type 0
-    Does accepted received displaced taken changed = Hands old new handed × Effect old accepted received displaced taken changed new
+    Does accepted received displaced taken changed = Hands old new handed × Effect old accepted [] received displaced taken changed new
 
     refuses : Refuses old handed new → Does [] [] [] [] []
     refuses h = (hands_refuses old new handed h, effect_same old h.1 refl (λ k. k))
+
+    -- to a state with the same pairs and waiters
+    leads_to : (s : State T P W) → s.pending ≡ old.pending → s.is_closed ≡ old.is_closed → s.waiters ≡ old.waiters → handed ≡ nobody → new ≡ s → Does [] [] [] [] []
+    leads_to s p c w h e = (hands_nobody old new handed s h e w, effect_same s e p (λ k. c ∙ k))
 
     accepts : (front : List (T × P)) → Accepts old front handed new → Does front [] [] [] []
     accepts front h = (
@@ -86,13 +98,17 @@ module _ {T P W : Type 0} (cmp : P → P → Ordering) where
     sends pairs (Err (send_error.Full rest)) h = rw (h.1, all_but-front h.0 rest) (accepts h.0 h.4)
     sends pairs (Err (send_error.Memory rest)) h = rw (h.1, all_but-front h.0 rest) (accepts h.0 h.4)
 
+    gives_greatest : (pair : T × P) → TakesGreatest cmp old.pending pair new.pending → (old.is_closed ≡ true → new.is_closed ≡ true)
+        → Effect old [] [] (pair ∷ []) [] [] [] new
+    gives_greatest pair taken stays =
+        unchanged (rw (append-nil old.pending, taken.split, taken.closed_up) (IsPermutation-middle taken.before pair taken.after)) (λ k. (stays k, refl))
+        (inr (pair, refl, rw taken.closed_up (All-append (λ (other : T × P). is_gt (cmp other.1 pair.1) ≡ false) _ _ (All-weaker (λ (other : T × P). cmp other.1 pair.1 ≡ Less) (λ (other : T × P). is_gt (cmp other.1 pair.1) ≡ false) (λ other e. rw e refl) taken.before taken.below) taken.not_above)))
+
     pub receives : (reply : RecvReply (T × P)) → Receives cmp old reply handed new → Does [] (received_by (answer.TryRecv reply)) [] [] []
     receives (Ok pair) h =
         let taken = h.0 in (
           hands_frees old new handed h.1,
-          unchanged (rw (append-nil old.pending, taken.split, taken.closed_up) (IsPermutation-middle taken.before pair taken.after))
-              (λ k. (ap (λ (r : State T P W). r.is_closed) h.1.1 ∙ k, refl))
-              (inr (pair, refl, rw taken.closed_up (All-append (λ (other : T × P). is_gt (cmp other.1 pair.1) ≡ false) _ _ (All-weaker (λ (other : T × P). cmp other.1 pair.1 ≡ Less) (λ (other : T × P). is_gt (cmp other.1 pair.1) ≡ false) (λ other e. rw e refl) taken.before taken.below) taken.not_above))),
+          gives_greatest pair taken (λ k. ap (λ (r : State T P W). r.is_closed) h.1.1 ∙ or_left _ _ k),
         )
     receives (Err recv_error.Closed) h = refuses h.2
     receives (Err recv_error.Empty) h = refuses h.2
@@ -121,7 +137,7 @@ module _ {T P W : Type 0} (cmp : P → P → Ordering) where
         let taken = h.0 in (
           hands_frees old new handed h.2,
           unchanged (rw (append-nil old.pending, taken.split, taken.closed_up) (IsPermutation-middle taken.before pair taken.after))
-              (λ k. (ap (λ (r : State T P W). r.is_closed) h.2.1 ∙ k, refl)) (inl refl),
+              (λ k. (ap (λ (r : State T P W). r.is_closed) h.2.1 ∙ or_left _ _ k, refl)) (inl refl),
         )
     takes place None h = refuses h.1
 
@@ -141,12 +157,50 @@ module _ {T P W : Type 0} (cmp : P → P → Ordering) where
         )
     changes_priority place priority (Err back) h = refuses h.2
 
-    -- to a state with the same pairs and waiters
-    leads_to : (s : State T P W) → s.pending ≡ old.pending → s.is_closed ≡ old.is_closed → s.waiters ≡ old.waiters → handed ≡ nobody → new ≡ s → Does [] [] [] [] []
-    leads_to s p c w h e = (hands_nobody old new handed s h e w, effect_same s e p (λ k. c ∙ k))
+    reserves : (reply : SendReply (Unit {0})) → Reserves old reply handed new → Does [] [] [] [] []
+    reserves (Ok done) h = leads_to (record old { held = old.held + 1 }) refl refl refl h.2 h.3
+    reserves (Err (send_error.Closed none)) h = refuses h.1
+    reserves (Err (send_error.Full none)) h = refuses h.2
+    reserves (Err (send_error.Memory none)) h = refuses h.2
+
+    leases : (reply : LeaseReply (T × P)) → Leases cmp old reply handed new → Does [] (received_by (answer.TryLease reply)) [] [] []
+    leases (Ok pair) h =
+        let taken = h.0 in (
+          hands_nobody old new handed (record old { pending = new.pending; held = old.held + 1 }) h.1 h.2 refl,
+          gives_greatest pair taken (λ k. ap (λ (r : State T P W). r.is_closed) h.2 ∙ k),
+        )
+    leases (Err many_error.Closed) h = refuses h.2
+    leases (Err many_error.Empty) h = refuses h.2
+    leases (Err many_error.Memory) h = refuses h.2
+
+    puts : (pair : T × P) (reply : Result (Unit {0}) (T × P)) → Puts old pair reply handed new
+        → Hands old new handed × Effect old (put_one pair reply) (put_one pair reply) [] [] [] [] new
+    puts pair (Ok done) h = (
+      hands_puts old new handed pair h,
+      record {
+        changes = [];
+        told = refl;
+        moves = rw (ap (λ (r : State T P W). r.pending) h.2) (IsPermutation-refl _);
+        closed = λ k. (ap (λ (r : State T P W). r.is_closed) h.2 ∙ k, refl);
+        gives = inl refl;
+      },
+    )
+    puts pair (Err back) h = refuses h.2
+
+    frees_place : (done : Bool) → FreesPlace old done handed new → Does [] [] [] [] []
+    frees_place true h = (
+      hands_place old new handed h,
+      unchanged (rw (append-nil old.pending, ap (λ (r : State T P W). r.pending) h.2) (IsPermutation-refl old.pending))
+          (λ k. (ap (λ (r : State T P W). r.is_closed) h.2 ∙ or_left _ _ k, refl)) (inl refl),
+    )
+    frees_place false h = refuses h.1
 
     shuts : (s : State T P W) → s.pending ≡ old.pending → s.waiters ≡ old.waiters → Shuts s handed new → Does [] [] [] [] []
     shuts s p w h = (hands_shuts old new handed s h w, effect_same _ h.1 p (λ k. refl))
+
+    ends_when : (done : Bool) → EndsWhenDone done (record old { ends_when_done = true }) handed new → Does [] [] [] [] []
+    ends_when true h = shuts (record old { ends_when_done = true }) refl refl h
+    ends_when false h = leads_to (record old { ends_when_done = true }) refl refl refl h.0 h.1
 
     clones : (count : ℕ) (more : State T P W) (done : Bool) → more.pending ≡ old.pending → more.is_closed ≡ old.is_closed → more.waiters ≡ old.waiters
         → Clones count more done old handed new → Does [] [] [] [] []
@@ -160,8 +214,8 @@ module _ {T P W : Type 0} (cmp : P → P → Ordering) where
     drops (suc (suc others)) fewer p c w h = leads_to fewer p c w h.0 h.1
 
   -- the end of a poll, after its send or receive, changes no pairs
-  pub effect_then : (old mid new s : State T P W) (accepted received : List (T × P)) → Effect old accepted received [] [] [] mid
-      → new ≡ s → s.pending ≡ mid.pending → s.is_closed ≡ mid.is_closed → Effect old accepted received [] [] [] new
+  pub effect_then : (old mid new s : State T P W) (accepted received : List (T × P)) → Effect old accepted [] received [] [] [] mid
+      → new ≡ s → s.pending ≡ mid.pending → s.is_closed ≡ mid.is_closed → Effect old accepted [] received [] [] [] new
   effect_then old mid new s accepted received e is p c = rw is (record {
     changes = e.changes;
     told = e.told;
@@ -173,14 +227,14 @@ module _ {T P W : Type 0} (cmp : P → P → Ordering) where
   module _ (is_clone : W → W → Type 0) (old new : State T P W) (handed : Handed W) where
     effect_polls : {R A : Type 0} {tries : R → Handed W → State T P W → Type 0} {answer_by : R → Option ℕ → Option A} {side : Side} {given : Option ℕ}
         {waker : W} {answered : A} (accepted received : List (T × P)) (h : Polls is_clone tries answer_by side given waker answered handed new)
-        → Effect old accepted received [] [] [] h.mid → Effect old accepted received [] [] [] new
+        → Effect old accepted [] received [] [] [] h.mid → Effect old accepted [] received [] [] [] new
     effect_polls accepted received h e = effect_then old h.mid new _ accepted received e h.ends.1 refl refl
 
     directly : {D A B : Type 0} → A × B → (D → A) × B
     directly x = (λ d. x.0, x.1)
 
     does : (made : Calls T P W) (reply : Answers T P) → Moves cmp is_clone old made reply handed new → (IsDirect made → Hands old new handed)
-        × Effect old (accepted_by made reply) (received_by reply) (displaced_by reply) (taken_by reply) (changed_by made reply) new
+        × Effect old (accepted_by made reply) (put_by made reply) (received_by reply) (displaced_by reply) (taken_by reply) (changed_by made reply) new
     does (call.TrySend msg priority) (answer.TrySend reply) h = directly (sends old new handed ((msg, priority) ∷ []) (as_list reply) h)
     does (call.TrySendv pairs) (answer.TrySendv reply) h = directly (sends old new handed pairs reply h)
     does (call.TrySendEvicting msg priority) (answer.TrySendEvicting reply) h = directly (evicts old new handed msg priority reply h)
@@ -214,10 +268,17 @@ module _ {T P W : Type 0} (cmp : P → P → Ordering) where
       rw (poll_received-is h.reply h.ticket poll h.answered) (effect_polls [] _ h (receives old h.mid handed h.reply h.tried).1),
     )
     does (call.GiveUp ticket) answer.GiveUp h = (λ d. absurd d, effect_same old new handed _ h.1 refl (λ k. k))
+    does call.CloseWhenDone answer.CloseWhenDone h = directly (ends_when old new handed (is_done old) h)
+    does call.TryReserve (answer.TryReserve reply) h = directly (reserves old new handed reply h)
+    does call.TryLease (answer.TryLease reply) h = directly (leases old new handed reply h)
+    does (call.Put msg priority) (answer.Put (Ok done)) h = directly (puts old new handed (msg, priority) (Ok done) h)
+    does (call.Put msg priority) (answer.Put (Err back)) h = directly (puts old new handed (msg, priority) (Err back) h)
+    does call.Free (answer.Free done) h = directly (frees_place old new handed done h)
+    does call.Held (answer.Held told) h = directly (refuses old new handed h.1)
     does made reply h = absurd h
 
     pub effect : (made : Calls T P W) (reply : Answers T P) → Moves cmp is_clone old made reply handed new
-        → Effect old (accepted_by made reply) (received_by reply) (displaced_by reply) (taken_by reply) (changed_by made reply) new
+        → Effect old (accepted_by made reply) (put_by made reply) (received_by reply) (displaced_by reply) (taken_by reply) (changed_by made reply) new
     effect made reply h = (does made reply h).1
 
     pub hands : (made : Calls T P W) (reply : Answers T P) → IsDirect made → Moves cmp is_clone old made reply handed new → Hands old new handed

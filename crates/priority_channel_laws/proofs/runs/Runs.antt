@@ -8,10 +8,11 @@ use Rattle.std.proofs.lemmas.List.Kept.{AllPairs-cons}
 use Rattle.std.proofs.Permutation.{every_append}
 use Rattle.priority_channel_core.specs.declared.calls.Call.TheVariants as call
 use Rattle.priority_channel_core.specs.declared.calls.Answer.TheVariants as answer
-use Rattle.priority_channel_core.specs.Prelude.{State, Handed, Receives, Moves, Step, Answers, Operation, Run, Ordering, RecvReply}
+use Rattle.priority_channel_core.specs.Prelude.{State, Handed, IsOver, IsGoingOn, Receives, Moves, Step, Answers, Operation, Run, Ordering, RecvReply}
 use Rattle.priority_channel_core.specs.declared.errors.TryRecvError.TheVariants as recv_error
 use Rattle.priority_channel_bag.proofs.Kept.{every_part}
-use Rattle.priority_channel_laws.specs.Accepted.{accepted_by, received_by, displaced_by, taken_by, changed_by, accepted_in, received_in, displaced_in, taken_in, changed_in, Change, priorities, before, after, Conserves, NeverRise}
+use Rattle.priority_channel_core.proofs.Closing.{or_left}
+use Rattle.priority_channel_laws.specs.Accepted.{accepted_by, put_by, put_in, received_by, displaced_by, taken_by, changed_by, accepted_in, received_in, displaced_in, taken_in, changed_in, Change, priorities, before, after, Conserves, NeverRise}
 use Rattle.priority_channel_laws.proofs.runs.Effects.{Effect, effect}
 
 empty_parts : {A : Type 0} (xs ys : List A) → xs ++ ys ≡ [] → (xs ≡ []) × (ys ≡ [])
@@ -50,7 +51,7 @@ one_after_another old mid new n m a b w r d t x y z u first second =
 
 module _ {T P W : Type 0} (cmp : P → P → Ordering) (is_clone : W → W → Type 0) where
   step_effect : (old new : State T P W) (made : Operation T P W) → Step cmp is_clone old made.call made.answer made.handed new
-      → Effect cmp old (accepted_by made.call made.answer) (received_by made.answer) (displaced_by made.answer) (taken_by made.answer) (changed_by made.call made.answer) new
+      → Effect cmp old (accepted_by made.call made.answer) (put_by made.call made.answer) (received_by made.answer) (displaced_by made.answer) (taken_by made.answer) (changed_by made.call made.answer) new
   step_effect old new made step = effect cmp is_clone old new made.handed made.call made.answer step.moves
 
   pub Run-split : (old new : State T P W) (front back : List (Operation T P W)) → Run cmp is_clone old (front ++ back) new
@@ -75,7 +76,7 @@ module _ {T P W : Type 0} (cmp : P → P → Ordering) (is_clone : W → W → T
       }
 
   pub run_closed : (old new : State T P W) (run : List (Operation T P W)) → Run cmp is_clone old run new → old.is_closed ≡ true
-      → (new.is_closed ≡ true) × (accepted_in run ≡ [])
+      → (new.is_closed ≡ true) × (accepted_in run ≡ put_in run)
   run_closed old new [] run closed = (ap (λ (s : State T P W). s.is_closed) run ∙ closed, refl)
   run_closed old new (made ∷ more) run closed =
       let mid = run.0 in
@@ -143,16 +144,20 @@ module _ {T P W : Type 0} (cmp : P → P → Ordering) (is_clone : W → W → T
       → (told : RecvReply (T × P)) × (made.answer ≡ answer.TryRecv told) × Receives cmp old told made.handed new
   step_received old new made step is = answered old new made.handed made.answer (rw is at step.moves)
 
-  none_left : (old mid : State T P W) (made : Operation T P W) (more : List (Operation T P W)) → old.is_closed ≡ true → length old.pending ≡ 0
+  over_or_not : (s : State T P W) → IsOver s → IsGoingOn s → ⊥
+  over_or_not s over (inl opened) = let e = over.0 in absurd (cc)
+  over_or_not s over (inr some) = let e = over.1 in absurd (omega arith)
+
+  none_left : (old mid : State T P W) (made : Operation T P W) (more : List (Operation T P W)) → IsOver old → length old.pending ≡ 0
       → (told : RecvReply (T × P)) → made.answer ≡ answer.TryRecv told → Receives cmp old told made.handed mid → more ≡ [] → Drained old.pending (made ∷ more)
   none_left old mid made more closed long (Err recv_error.Closed) is h end =
       record { pairs = []; all = rw h.0 (IsPermutation-refl []); given = rw (is, end) refl; answers = rw (is, end) refl }
-  none_left old mid made more closed long (Err recv_error.Empty) is h end = let e = h.1 in absurd (cc)
+  none_left old mid made more closed long (Err recv_error.Empty) is h end = absurd (over_or_not old closed h.1)
   none_left old mid made more closed long (Ok pair) is h end =
       let taken = h.0 in
       let l = ap length taken.split in let m = length-append taken.before (pair ∷ taken.after) in absurd (omega arith)
 
-  drains : (n : ℕ) (old new : State T P W) (run : List (Operation T P W)) → Run cmp is_clone old run new → old.is_closed ≡ true → length old.pending ≡ n
+  drains : (n : ℕ) (old new : State T P W) (run : List (Operation T P W)) → Run cmp is_clone old run new → IsOver old → length old.pending ≡ n
       → map (λ (made : Operation T P W). made.call) run ≡ replicate (suc n) call.TryRecv → Drained old.pending run
   drains n old new [] run closed long same = absurd (cc)
   drains zero old new (made ∷ more) run closed long same =
@@ -162,15 +167,15 @@ module _ {T P W : Type 0} (cmp : P → P → Ordering) (is_clone : W → W → T
       let t = step_received old run.0 made run.1 (cc) in
       one_more n old run.0 made more closed long t.0 t.1 t.2 (λ c l. drains n run.0 new more run.2 c l (cc))
     where
-      one_more : (n : ℕ) (old mid : State T P W) (made : Operation T P W) (more : List (Operation T P W)) → old.is_closed ≡ true → length old.pending ≡ suc n
+      one_more : (n : ℕ) (old mid : State T P W) (made : Operation T P W) (more : List (Operation T P W)) → IsOver old → length old.pending ≡ suc n
           → (told : RecvReply (T × P)) → made.answer ≡ answer.TryRecv told → Receives cmp old told made.handed mid
-          → (mid.is_closed ≡ true → length mid.pending ≡ n → Drained mid.pending more) → Drained old.pending (made ∷ more)
+          → (IsOver mid → length mid.pending ≡ n → Drained mid.pending more) → Drained old.pending (made ∷ more)
       one_more n old mid made more closed long (Err recv_error.Closed) is h next = let e = ap length h.0 in absurd (omega arith)
-      one_more n old mid made more closed long (Err recv_error.Empty) is h next = let e = h.1 in absurd (cc)
+      one_more n old mid made more closed long (Err recv_error.Empty) is h next = absurd (over_or_not old closed h.1)
       one_more n old mid made more closed long (Ok pair) is h next =
           let taken = h.0 in
           let perm : IsPermutation old.pending (pair ∷ mid.pending) = rw (taken.split, taken.closed_up) (IsPermutation-middle taken.before pair taken.after) in
-          let r = next (ap (λ (s : State T P W). s.is_closed) h.1.1 ∙ closed) (let l = length_permutation _ _ perm in omega arith) in
+          let r = next (ap (λ (s : State T P W). s.is_closed) h.1.1 ∙ or_left _ _ closed.0, ap (λ (s : State T P W). s.held) h.1.1 ∙ closed.1) (let l = length_permutation _ _ perm in omega arith) in
           record {
             pairs = pair ∷ r.pairs;
             all = IsPermutation-trans _ _ _ perm (IsPermutation-cons pair _ _ r.all);
@@ -185,11 +190,18 @@ module _ {T P W : Type 0} (cmp : P → P → Ordering) (is_clone : W → W → T
       let first : made.call ≡ call.TryRecv = cc in
       rw first (receives_change_none n more (cc))
 
+  receives_put_none : (n : ℕ) (run : List (Operation T P W)) → map (λ (made : Operation T P W). made.call) run ≡ replicate n call.TryRecv → put_in run ≡ []
+  receives_put_none n [] same = refl
+  receives_put_none zero (made ∷ more) same = absurd (cc)
+  receives_put_none (suc n) (made ∷ more) same =
+      let first : made.call ≡ call.TryRecv = cc in
+      rw first (receives_put_none n more (cc))
+
   -- a closed channel gives its pending pairs, and then nothing
-  pub run_drains : (old new : State T P W) (run : List (Operation T P W)) → Run cmp is_clone old run new → old.is_closed ≡ true
+  pub run_drains : (old new : State T P W) (run : List (Operation T P W)) → Run cmp is_clone old run new → old.is_closed ≡ true → old.held ≡ 0
       → map (λ (made : Operation T P W). made.call) run ≡ replicate (length old.pending + 1) call.TryRecv
       → (pairs : List (T × P)) × IsPermutation old.pending pairs × NeverRise cmp pairs
       × (map (λ (made : Operation T P W). made.answer) run ≡ map (λ (pair : T × P). answer.TryRecv (Ok pair)) pairs ++ answer.TryRecv (Err recv_error.Closed) ∷ [])
-  run_drains old new run is closed same =
-      let d = drains (length old.pending) old new run is closed refl (rw add-one at same) in
-      (d.pairs, d.all, rw (← d.given) (run_never_rises old new run is (run_closed old new run is closed).1 (receives_change_none (length old.pending + 1) run same)), d.answers)
+  run_drains old new run is closed none same =
+      let d = drains (length old.pending) old new run is (closed, none) refl (rw add-one at same) in
+      (d.pairs, d.all, rw (← d.given) (run_never_rises old new run is ((run_closed old new run is closed).1 ∙ receives_put_none (length old.pending + 1) run same) (receives_change_none (length old.pending + 1) run same)), d.answers)

@@ -30,7 +30,7 @@ module _ {T P W : Type 0} where
   pub can_go_on : (side : Side) (s : State T P W) → IsGood s → CanGoOn s side → on_side side s.waiters ≡ []
   can_go_on Room s good (inl closed) = (good.no_waiters_if_closed closed).0
   can_go_on Room s good (inr ne) = good.room_waiters_if_full (let w = good.within_capacity in omega arith)
-  can_go_on Message s good (inl closed) = (good.no_waiters_if_closed closed).1
+  can_go_on Message s good (inl over) = (good.no_waiters_if_closed over.0).1 over.1
   can_go_on Message s good (inr ne) = good.message_waiters_if_empty (some_pending s.pending ne)
 
   -- the next ticket does not fall, and a ticket given before is still held by the same future

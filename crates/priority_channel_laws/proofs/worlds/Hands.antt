@@ -1,8 +1,8 @@
 -- Each waiting list stays as it was, or all of its waiters are woken.
-use Rattle.std.proofs.Common.{◌≡◌, ℕ, ◌⊎◌, List, [], refl, ap, ◌∙◌, inl, inr, arith}
+use Rattle.std.proofs.Common.{◌≡◌, ℕ, ◌⊎◌, List, [], refl, ap, ◌∙◌, inl, inr, arith, true, Ok}
 use Rattle.priority_channel_core.specs.declared.side.Side.{Side}
 use Rattle.priority_channel_core.specs.declared.side.Side.TheVariants.{Room, Message}
-use Rattle.priority_channel_core.specs.Prelude.{State, Handed, nobody, Refuses, Accepts, Frees, Shuts}
+use Rattle.priority_channel_core.specs.Prelude.{State, Handed, nobody, Refuses, Accepts, Frees, Puts, FreesPlace, Shuts}
 
 abbrev pub handed_of : {W : Type 0} → Side → Handed W → List (ℕ × W)
 handed_of Room handed = handed.room
@@ -38,6 +38,19 @@ module _ {T P W : Type 0} (old new : State T P W) (handed : Handed W) where
         message = inl (ap (λ (s : State T P W). s.waiters.message) h.1, ap (λ (x : Handed W). x.message) h.0);
         next = ap (λ (s : State T P W). s.waiters.next_ticket) h.1;
       }
+
+  pub hands_puts : (pair : T × P) → Puts old pair (Ok tt) handed new → Hands
+  hands_puts pair h =
+      record {
+        room = inl (ap (λ (s : State T P W). s.waiters.room) h.2, ap (λ (x : Handed W). x.room) h.1);
+        message = inr (ap (λ (s : State T P W). s.waiters.message) h.2, ap (λ (x : Handed W). x.message) h.1);
+        next = ap (λ (s : State T P W). s.waiters.next_ticket) h.2;
+      }
+
+  pub hands_place : FreesPlace old true handed new → Hands
+  hands_place h =
+      let handed_is = h.1 in let new_is = h.2 in
+      record { room = grind arith; message = grind arith; next = ap (λ (s : State T P W). s.waiters.next_ticket) new_is }
 
   pub hands_shuts : (s : State T P W) → Shuts s handed new → s.waiters ≡ old.waiters → Hands
   hands_shuts s h w =

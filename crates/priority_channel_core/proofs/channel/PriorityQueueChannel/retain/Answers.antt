@@ -1,6 +1,6 @@
 use Rattle.std.proofs.Common.{◌≡◌, ◌-◌, length, ap, arith, rules}
 use Rattle.priority_channel_core.specs.Prelude.{state_of}
-use Rattle.priority_channel_core.proofs.Taking.{all_length, takes_in_turn}
+use Rattle.priority_channel_core.proofs.Taking.{all_length, retained, takes_in_turn}
 use Rattle.priority_channel_core.proofs.channel.PriorityQueueChannel.retain.Goals as goal
 
 pub overflow_sub-before : goal.overflow_sub-before
@@ -17,10 +17,13 @@ invariant_of-self g c =
     let long = all_length _ out.0 _ out.2 in
     record {
       counted = omega (arith, ap (λ w. w.count) c.decr_many-wakes.ensures.word, c.self.invariant.counted, long, c.len-before.ensures, c.len.ensures);
+      slots_held = omega (arith, ap (λ w. w.held) c.decr_many-wakes.ensures.word, c.self.invariant.slots_held, long, c.retain.ensures.slots);
       slots_kept = λ reserved. omega (arith, c.self.invariant.slots_kept reserved, c.retain.ensures.slots);
       good =
           (takes_in_turn g.P.Ord.cmp g.W.Clone.is_clone old new out.0 _ c.decr_many-wakes.result.1 (omega (arith, long, c.len-before.ensures, c.len.ensures)) out.2
-          c.decr_many-wakes.ensures.handed (search rules) c.self.invariant.good c.decr_many-wakes.ensures.tickets).1;
+          c.decr_many-wakes.ensures.handed
+          (retained own.bag c.retain.new.self own.word.word c.decr_many-wakes.new.self.word own.capacity own.is_reserved own.sender_count own.receiver_count _ c.decr_many-wakes.ensures.word (search rules)
+          (omega (arith, long, c.self.invariant.counted, c.len-before.ensures, c.len.ensures))) c.self.invariant.good c.decr_many-wakes.ensures.tickets).1;
     }
 
 pub returns-clause-good : goal.returns-clause-good
@@ -33,6 +36,9 @@ returns-clause-taken g c =
     let new = state_of c.retain.new.self c.decr_many-wakes.new.self.word own.capacity own.is_reserved own.sender_count own.receiver_count in
     let out = c.retain.ensures.taken in
     let count : c.len-before.result - c.len.result ≡ length out.0 = omega (arith, all_length _ out.0 _ out.2, c.len-before.ensures, c.len.ensures) in
-    let taken = takes_in_turn g.P.Ord.cmp g.W.Clone.is_clone old new out.0 _ c.decr_many-wakes.result.1 count out.2 c.decr_many-wakes.ensures.handed (search rules)
+    let long = all_length _ out.0 _ out.2 in
+    let taken = takes_in_turn g.P.Ord.cmp g.W.Clone.is_clone old new out.0 _ c.decr_many-wakes.result.1 count out.2 c.decr_many-wakes.ensures.handed
+    (retained own.bag c.retain.new.self own.word.word c.decr_many-wakes.new.self.word own.capacity own.is_reserved own.sender_count own.receiver_count _ c.decr_many-wakes.ensures.word (search rules)
+    (omega (arith, long, c.self.invariant.counted, c.len-before.ensures, c.len.ensures)))
     c.self.invariant.good c.decr_many-wakes.ensures.tickets in
     (out.0, out.1, rw (← c.self.view_is) taken.0, out.3)

@@ -13,14 +13,14 @@ returns-then-is_closed-clause-step g c =
 pub returns-then-is_closed-clause-front : goal.returns-then-is_closed-clause-front
 returns-then-is_closed-clause-front g c = rw c.nobody.ensures ([], adds_none c.args.self.now.state, search rules)
 
-pub returns-then-count-self-clause-step : goal.returns-then-count-self-clause-step
-returns-then-count-self-clause-step g c =
+pub returns-then-taken-self-clause-step : goal.returns-then-taken-self-clause-step
+returns-then-taken-self-clause-step g c =
     let s = c.args.self.now.state in let holds = HasList g.I.Iterator.next_gives in
-    rw c.nobody-then-count-self.ensures (performs_sendv holds g.P.Ord.cmp g.W.Clone.is_clone s s c.args.msgs _ _ (search rules)
+    rw c.nobody-then-taken-self.ensures (performs_sendv holds g.P.Ord.cmp g.W.Clone.is_clone s s c.args.msgs _ _ (search rules)
     (replies_full holds s c.args.msgs (search rules) (search rules)))
 
-pub returns-then-count-self-clause-front : goal.returns-then-count-self-clause-front
-returns-then-count-self-clause-front g c = rw c.nobody-then-count-self.ensures ([], adds_none c.args.self.now.state, search rules)
+pub returns-then-taken-self-clause-front : goal.returns-then-taken-self-clause-front
+returns-then-taken-self-clause-front g c = rw c.nobody-then-taken-self.ensures ([], adds_none c.args.self.now.state, search rules)
 
 pub returns-in-Ended-clause-step : goal.returns-in-Ended-clause-step
 returns-in-Ended-clause-step g c =

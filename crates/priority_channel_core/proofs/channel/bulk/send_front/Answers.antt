@@ -20,6 +20,7 @@ loop-sent-preserved g c =
       slots = search rules;
       least = search rules;
       limit = λ h. omega (arith, longer, one, ready.0, ready.2);
+      held_slots = λ h. omega (arith, longer, one, ready.0, c.push.ensures.slots);
       cost = omega (arith, push_costs c.loop-sent.sent (length c.loop-sent.bag.pending) (length c.push.new.self.pending) (omega (arith, same, longer, one)), c.push.ensures.cost, c.loop-sent.invariant.cost, ap (λ (b : Contents g.row.T.Denot g.row.P.Denot). b.comparisons) c.prepare.ensures.same);
     }
 
