@@ -10,13 +10,15 @@ use Rattle.priority_channel_core.specs.declared.errors.RecvFault.TheVariants as 
 use Rattle.priority_channel_waiting.specs.declared.attempts.Outcome.{Outcome}
 use Rattle.priority_channel_waiting.specs.declared.attempts.Outcome.TheVariants.{Done, Blocked, Closed, Memory}
 use Rattle.priority_channel_waiting.specs.declared.attempts.Receive.{Receive}
+use Rattle.priority_channel_waiting.specs.declared.attempts.ReceiveHeld.{ReceiveHeld}
+use Rattle.priority_channel_core.specs.declared.errors.TryRecvManyError.TheVariants as try_lease
 use Rattle.priority_channel_waiting.specs.declared.timeouts.Ended.{Ended}
 use Rattle.priority_channel_waiting.specs.declared.timeouts.Ended.TheVariants as ended
 use Rattle.priority_channel_waiting.specs.declared.timeouts.SendTimeoutError.{SendTimeoutError}
 use Rattle.priority_channel_waiting.specs.declared.timeouts.SendTimeoutError.TheVariants as send_timeout
 use Rattle.priority_channel_waiting.specs.declared.timeouts.RecvTimeoutError.{RecvTimeoutError}
 use Rattle.priority_channel_waiting.specs.declared.timeouts.RecvTimeoutError.TheVariants as recv_timeout
-use Rattle.priority_channel_core.specs.Prelude.{SendReply, RecvReply}
+use Rattle.priority_channel_core.specs.Prelude.{SendReply, RecvReply, LeaseReply}
 
 module _ {D C : Type 0} where
   abbrev pub left_over : Outcome D C → Option C
@@ -36,6 +38,12 @@ abbrev pub recv_tried : {X : Type 0} → Receive → RecvReply X → Outcome X R
 recv_tried call (Ok pair) = Done pair
 recv_tried call (Err try_recv.Empty) = Blocked call
 recv_tried call (Err try_recv.Closed) = Closed call
+
+abbrev pub lease_tried : {X : Type 0} → ReceiveHeld → LeaseReply X → Outcome X ReceiveHeld
+lease_tried call (Ok pair) = Done pair
+lease_tried call (Err try_lease.Empty) = Blocked call
+lease_tried call (Err try_lease.Closed) = Closed call
+lease_tried call (Err try_lease.Memory) = Memory call
 
 module _ {C O : Type 0} where
   abbrev pub given_back : Ended C O → C

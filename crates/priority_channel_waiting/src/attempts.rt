@@ -1,19 +1,19 @@
-//! Operations that can be tried again on the core: a receive, a send, a bulk send. Each is tried at
-//! once, or after a wait.
+//! Operations that can be tried again on the core: a receive, a lease, a send, a bulk send, a
+//! reserve. Each is tried at once, or after a wait.
 ghost use Rattle.std.specs.Prelude.{◌≡◌, ⊤, IfSome, IfOk, IfErr, Some, refl};
 ghost use Rattle.std.proofs.Common.{◌∙◌};
 ghost use Rattle.std.specs.Iterator.Adapters.{peekable_can};
 ghost use Rattle.priority_channel_core.specs.Prelude.{HasList, Step, Performs};
 ghost use Rattle.priority_channel_waiting.specs.Holding.{HoldsTail};
 ghost use Rattle.priority_channel_waiting.specs.Ends.{OnOver};
-ghost use Rattle.priority_channel_waiting.specs.Waits.{left_over, given_back, outcome_of_try, recv_tried};
+ghost use Rattle.priority_channel_waiting.specs.Waits.{left_over, given_back, outcome_of_try, recv_tried, lease_tried};
 ghost use Rattle.priority_channel_waiting.specs.Tails.{tail_of_itself, tail_of_tail};
 
 use crate::timeouts::Ended;
 use crate::waiter::{Core, Waiter};
 use priority_channel_core::awaitable_atomics::Wakes;
 use priority_channel_core::calls::{Answer, Call};
-use priority_channel_core::errors::{TryRecvError, TrySendError};
+use priority_channel_core::errors::{TryRecvError, TryRecvManyError, TrySendError};
 use priority_channel_core::side::Side;
 use std::alloc::Allocator;
 use std::iter::Peekable;
@@ -105,6 +105,40 @@ impl<T, P: Ord, A: Allocator + Copy> Attempt<T, P, A> for Receive {
     }
 }
 
+/// A receive of one pair whose place stays held.
+#[derive(Clone, Copy)]
+pub struct ReceiveHeld;
+
+impl<T, P: Ord, A: Allocator + Copy> Attempt<T, P, A> for ReceiveHeld {
+    type Done = (T, P);
+
+    ghost leaves = { λ _ _. ⊤ };
+
+    ghost whole = { λ _. tt };
+
+    ghost still = { λ _ _ _ _ _. tt };
+
+    fn side() -> Side
+        ensures { result ≡ Side.Message }
+    {
+        Side::Message
+    }
+
+    fn try_on(self, core: &mut Core<T, P, A>) -> (Outcome<(T, P), Self>, Wakes<Waiter<A>, A>)
+        ensures step { (reply : _) × (result.0 ≡ lease_tried self reply)
+            × Step P.cmp ⟦<Waiter<A> as Clone>⟧.is_clone core.old.state
+            Call.TryLease (Answer.TryLease reply) result.1 core.new.state }
+    {
+        let outcome = match core.try_lease() {
+            Ok(pair) => Outcome::Done(pair),
+            Err(TryRecvManyError::Empty) => Outcome::Blocked(ReceiveHeld),
+            Err(TryRecvManyError::Closed) => Outcome::Closed(ReceiveHeld),
+            Err(TryRecvManyError::Memory) => Outcome::Memory(ReceiveHeld),
+        };
+        (outcome, core.nobody())
+    }
+}
+
 #[inline(always)]
 fn send_tried<C>(sent: Result<(), TrySendError<C>>) -> Outcome<(), C>
     ensures { result ≡ outcome_of_try sent }
@@ -175,5 +209,31 @@ impl<T: Drop, P: Ord + Drop, A: Allocator + Copy, I: Iterator<Item = (T, P)>> At
     {
         let (sent, wakes) = core.try_sendv(self);
         (send_tried(sent), wakes)
+    }
+}
+
+/// A reserve of a place for a pair that is still to come.
+impl<T, P: Ord, A: Allocator + Copy> Attempt<T, P, A> for () {
+    type Done = ();
+
+    ghost leaves = { λ _ _. ⊤ };
+
+    ghost whole = { λ _. tt };
+
+    ghost still = { λ _ _ _ _ _. tt };
+
+    fn side() -> Side
+        ensures { result ≡ Side.Room }
+    {
+        Side::Room
+    }
+
+    fn try_on(self, core: &mut Core<T, P, A>) -> (Outcome<(), Self>, Wakes<Waiter<A>, A>)
+        ensures step { (reply : _) × (result.0 ≡ outcome_of_try reply)
+            × Step P.cmp ⟦<Waiter<A> as Clone>⟧.is_clone core.old.state
+            Call.TryReserve (Answer.TryReserve reply) result.1 core.new.state }
+    {
+        let reserved = core.try_reserve();
+        (send_tried(reserved), core.nobody())
     }
 }

@@ -93,7 +93,7 @@ pub struct Unlisted {
     seal: (),
 }
 
-/// The result of having the head registered with the channel.
+/// The result of having a waiter listed by the channel.
 pub enum Listing {
     /// The channel listed it, and will wake it when it can go on.
     Listed,
@@ -289,17 +289,10 @@ impl<A: Allocator + Copy> Line<A> {
             ≡ record core.old.state { waiters = unlist self.old.ticket core.old.state.waiters }) }
         ensures line { self.new ≡ record self.old { ticket = self.new.ticket } }
     {
-        if !is_blocked(side, core) {
-            return Listing::Free;
-        }
         let Some((_, waiter)) = &self.first else {
             return Listing::Free;
         };
-        self.ticket = core.list(side, self.ticket, waiter);
-        match self.ticket {
-            Some(_) => Listing::Listed,
-            None => Listing::Refused,
-        }
+        list_waiter(side, core, &mut self.ticket, waiter)
     }
 }
 
@@ -325,12 +318,41 @@ impl<A: Allocator + Copy> Line<A> {
     }
 }
 
+/// Has the channel list a waiter on this side, if it has to wait. It is listed under its ticket, if
+/// that is still in the list.
+pub fn list_waiter<T, P: Ord, A: Allocator + Copy>(
+    side: Side,
+    core: &mut Core<T, P, A>,
+    ticket: &mut Option<u64>,
+    waiter: &Waiter<A>,
+) -> Listing
+    ensures sleeps { result ≡ Listing.Listed → IsSome ticket.new }
+    ensures listed { result ≡ Listing.Listed → IsBlocked side core.old.state
+        × Lists side ticket.old waiter.now ticket.new core.old.state core.new.state }
+    ensures waits { IsBlocked side core.old.state → result ≢ Listing.Free }
+    ensures good { result ≢ Listing.Free → IsGood core.new.state }
+    ensures free { result ≡ Listing.Free → (core.new.state ≡ core.old.state)
+        × (ticket.new ≡ ticket.old) }
+    ensures refused { result ≡ Listing.Refused → IsBlocked side core.old.state
+        × (ticket.new ≡ None)
+        × (core.new.state
+        ≡ record core.old.state { waiters = unlist ticket.old core.old.state.waiters }) }
+{
+    if !is_blocked(side, core) {
+        return Listing::Free;
+    }
+    *ticket = core.list(side, *ticket, waiter);
+    match *ticket {
+        Some(_) => Listing::Listed,
+        None => Listing::Refused,
+    }
+}
+
 fn is_blocked<T, P: Ord, A: Allocator + Copy>(side: Side, core: &Core<T, P, A>) -> bool
     ensures { IsTrue result ↔ IsBlocked side core.now.state }
 {
-    let is_none = match side {
-        Side::Room => core.is_full(),
-        Side::Message => core.is_empty(),
-    };
-    is_none && !core.is_closed()
+    match side {
+        Side::Room => core.is_full() && !core.is_closed(),
+        Side::Message => core.is_empty() && !(core.is_closed() && core.held() == 0),
+    }
 }

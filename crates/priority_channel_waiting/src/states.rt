@@ -4,7 +4,7 @@ ghost use Rattle.std.specs.Prelude.{◌≡◌, ◌↔◌, ◌*◌, List, [], len
 ghost use Rattle.std.specs.Option.{ForSome};
 ghost use Rattle.std.specs.Iterator.Adapters.{peekable_can};
 ghost use Rattle.priority_channel_bag.specs.Prelude.{digits};
-ghost use Rattle.priority_channel_core.specs.Prelude.{nobody, room, IsGood, HasList, PollsFront, Step, Performs, ComparesAtMost, search_bound, Sendv as sendv_of, GivesUpTicket};
+ghost use Rattle.priority_channel_core.specs.Prelude.{nobody, room, IsGoingOn, IsGood, HasList, PollsFront, Step, Performs, ComparesAtMost, search_bound, Sendv as sendv_of, GivesUpTicket};
 ghost use Rattle.priority_channel_waiting.specs.Holding.{unpolled, done, told_by, left_by, told_at_once, left_at_once, handed_back, HoldsTail, send_of, recv_of, TriesFront, PollsKept};
 ghost use Rattle.futures.specs.Poll.{IfReady, OnPending};
 
@@ -345,7 +345,7 @@ impl RecvState {
             → PollsKept (Step P.cmp W.is_clone) recv_of (λ reply. Answer.PollRecv reply)
             kept self.old.ticket waker core.old.state result.0 result.1 core.new.state self.new)) }
         ensures blocked { IfSome self.old.kept (λ _. OnPending result.0
-            ((core.old.state.is_closed ≡ false) × (core.old.state.pending ≡ []))) }
+            (IsGoingOn core.old.state × (core.old.state.pending ≡ []))) }
         ensures done { self.old.kept ≡ None → (result.0 ≡ Poll.Pending) × (result.1 ≡ nobody)
             × (self.new ≡ self.old) × (core.new ≡ core.old) }
         ensures waits { OnPending result.0 ((result.1 ≡ nobody) × (self.new ≡ self.old)
