@@ -1,9 +1,11 @@
 -- What handles and futures show of their channel. No value shows what is behind its lock.
-use Rattle.std.specs.Prelude.{◌≡◌, ℕ, Bool, true, List, [], IfErr, IfSome, Option, Some, None}
+use Rattle.std.specs.Prelude.{◌≡◌, ⊤, ℕ, Bool, true, List, [], IfErr, IfSome, Option, Some, None}
 use Rattle.priority_channel_core.specs.declared.side.Side.{Side}
 use Rattle.priority_channel_core.specs.declared.side.Side.TheVariants.{Room, Message}
 use Rattle.priority_channel_core.specs.Prelude.{unsent, SendEnd}
 use Rattle.priority_channel_waiting.specs.Holding.{Holding, HoldsTail}
+use Rattle.futures.specs.declared.task.Poll.{Poll}
+use Rattle.futures.specs.Poll.{OnPending}
 
 -- the parts of a channel that never change: its capacity, and the sources at which tasks wait on
 -- the send side (`room`), on the receive side (`message`), and for the close (`closing`)
@@ -26,6 +28,11 @@ SameChannel one other = other ≡ one
 pub record Underway (K : Type 0) : Type 0 where
   pub channel : Channel
   pub state : Holding K
+
+-- a message that keeps its place, with its priority
+pub record Leased (T P : Type 0) : Type 0 where
+  pub channel : Channel
+  pub pair : T × P
 
 -- a stream of a channel's messages, and whether it has ended
 pub record Streaming : Type 0 where
@@ -60,3 +67,7 @@ abbrev pub HandsBackTail : {X M : Type 0} → (M → List X → Type 0) → (M �
 HandsBackTail holds can future answer =
     IfErr answer (λ fault. can (unsent fault)
     × IfSome future.state.kept (λ msgs. HoldsTail holds msgs (unsent fault)))
+
+-- a future that is pending may give any answer, as before
+abbrev pub MayAnswerAlike : {X : Type 0} → Poll X → Type 0
+MayAnswerAlike {X} polled = OnPending polled ((answer : X) → ⊤ → ⊤)

@@ -17,10 +17,10 @@ pub trait Role: Copy {
     const SIDE: Side;
 }
 
-/// A handle of a channel: a `Sender` or a `Receiver`. Both have `close`, `close_on_drop`, `closed`
-/// with its variants, `downgrade`, `same_channel`, `clone`, `take_where`, `retain`,
-/// `change_priority`, and the queries `is_closed`, `is_empty`, `is_full`, `len`, `capacity`,
-/// `sender_count`, `receiver_count` and `count_where`.
+/// A handle of a channel: a `Sender` or a `Receiver`. Both have `close`, `close_on_drop`,
+/// `close_when_done`, `closed` with its variants, `downgrade`, `same_channel`, `clone`,
+/// `take_where`, `retain`, `change_priority`, and the queries `is_closed`, `is_empty`, `is_full`,
+/// `len`, `held`, `capacity`, `sender_count`, `receiver_count` and `count_where`.
 ///
 /// A handle can be moved to other threads, lent to them, and cloned. The channel closes when its
 /// last sender or its last receiver is dropped.
@@ -86,8 +86,34 @@ impl<S: Role, T, P: Ord, R: Wait + Clone, A: Allocator + Copy> End<S, T, P, R, A
         self.handle.close()
     }
 
-    /// Whether the channel is closed: by a call of `close`, or by the drop of the last sender or
-    /// receiver.
+    /// From now on the channel closes as soon as all is done: no message is pending, and no place
+    /// is held, so no message is in hand either. If that is so already, as in a channel into which
+    /// nothing was sent yet, it closes at once.
+    ///
+    /// It ends a pool whose workers also send to their own channel. Such a worker takes its messages
+    /// by leases: what it sends before it has finished its message comes in time. A plain receive
+    /// of the last message ends the channel, before its worker can send another one. A producer
+    /// that has more to send holds a permit meanwhile. A pool that only puts messages back ends as
+    /// well by the drop of its last sender.
+    ///
+    /// ```
+    /// let (tx, rx) = unbounded(&rt, rt.alloc())?;
+    /// tx.try_send("Foo", 0)?;
+    /// tx.close_when_done();
+    /// let lease = rx.try_lease()?;
+    /// assert!(rt; !tx.is_closed());
+    /// tx.try_send("Bar", 2)?;
+    /// lease.finish();
+    /// assert!(rt; !tx.is_closed());
+    /// rx.try_lease()?.finish();
+    /// assert!(rt; tx.is_closed());
+    /// ```
+    pub fn close_when_done(&self) {
+        self.handle.close_when_done();
+    }
+
+    /// Whether the channel is closed: by a call of `close`, by the drop of the last sender or
+    /// receiver, or since all is done after a call of `close_when_done`.
     pub fn is_closed(&self) -> bool {
         self.handle.look().core().is_closed()
     }
@@ -97,7 +123,7 @@ impl<S: Role, T, P: Ord, R: Wait + Clone, A: Allocator + Copy> End<S, T, P, R, A
         self.handle.look().core().is_empty()
     }
 
-    /// Whether there is no room.
+    /// Whether there is no room: as many messages are pending and places are held as the capacity.
     pub fn is_full(&self) -> bool {
         self.handle.look().core().is_full()
     }
@@ -107,8 +133,13 @@ impl<S: Role, T, P: Ord, R: Wait + Clone, A: Allocator + Copy> End<S, T, P, R, A
         self.handle.look().core().len()
     }
 
-    /// The greatest number of messages that may be pending at a time. None if the capacity is
-    /// `u64::MAX`. It takes no lock.
+    /// The number of places that are held: by permits, and by leases for messages in hand.
+    pub fn held(&self) -> u64 {
+        self.handle.look().core().held()
+    }
+
+    /// The greatest number of messages that may be pending and of places that may be held at a
+    /// time. None if the capacity is `u64::MAX`. It takes no lock.
     pub fn capacity(&self) -> Option<u64>
         ensures { result ≡ capacity_told self.now.capacity }
     {
@@ -185,8 +216,8 @@ impl<S: Role, T: Drop, P: Ord + Drop, R: Wait + Clone, A: Allocator + Copy> Drop
         let wakes = leave(S::SIDE, held.core());
         let was_last = receivers > 0 && held.core().receiver_count() == 0;
         handle.release(held, wakes);
-        if was_last && handle.lets_go() {
-            let_go(&handle);
+        if was_last {
+            handle.let_go();
         }
     }
 }
@@ -209,19 +240,5 @@ fn leave<T, P: Ord, A: Allocator + Copy>(
         Side::Room if core.sender_count() > 0 => core.drop_sender(),
         Side::Message if core.receiver_count() > 0 => core.drop_receiver(),
         _ => core.nobody(),
-    }
-}
-
-// Drops the pending messages of a channel without receivers. Each message is dropped after the lock
-// is released, since its drop may use the channel.
-fn let_go<T: Drop, P: Ord + Drop, R: Wait + Clone, A: Allocator + Copy>(
-    handle: &Handle<T, P, R, A>,
-) {
-    let pending = handle.look().core().len();
-    for _ in 0..pending {
-        let mut held = handle.hold();
-        let (received, wakes) = held.core().try_recv();
-        handle.release(held, wakes);
-        drop(received);
     }
 }

@@ -293,10 +293,6 @@ impl<T, P: Ord, R: Wait + Clone, A: Allocator + Copy> Handle<T, P, R, A> {
         self.shared.lets_go.store(true, Ordering::SeqCst);
     }
 
-    pub fn lets_go(&self) -> bool {
-        self.shared.lets_go.load(Ordering::SeqCst)
-    }
-
     /// Whether both are handles of one channel.
     pub fn is_same(&self, other: &Self) -> bool
     where
@@ -312,6 +308,39 @@ impl<T, P: Ord, R: Wait + Clone, A: Allocator + Copy> Handle<T, P, R, A> {
         was_open
     }
 
+    /// From now on the channel closes once nothing is pending and no place is held.
+    pub fn close_when_done(&self) {
+        let mut held = self.hold();
+        let wakes = held.core().close_when_done();
+        self.release(held, wakes);
+    }
+
+    /// Frees a place that the caller holds.
+    pub fn free(&self) {
+        let mut held = self.hold();
+        let (_, wakes) = held.core().free();
+        self.release(held, wakes);
+    }
+
+    // Sends a message into a place that the caller holds, and returns whether there is a receiver.
+    // The place is held, so the first try succeeds. The prover does not know what is behind the
+    // lock, and by a loop no message is lost.
+    fn fill(&self, msg: T, priority: P) -> bool {
+        let mut pair = (msg, priority);
+        for _ in self.rt.forever() {
+            let (msg, priority) = pair;
+            let mut held = self.hold();
+            let has_receiver = held.core().receiver_count() > 0;
+            let (filled, wakes) = held.core().put(msg, priority);
+            self.release(held, wakes);
+            match filled {
+                Ok(()) => return has_receiver,
+                Err(back) => pair = back,
+            }
+        }
+        unreachable!()
+    }
+
     /// Stored outside the lock, since it never changes.
     pub fn capacity(&self) -> Option<u64>
         ensures { result ≡ capacity_told self.now.capacity }
@@ -321,5 +350,29 @@ impl<T, P: Ord, R: Wait + Clone, A: Allocator + Copy> Handle<T, P, R, A> {
             return None;
         }
         Some(capacity)
+    }
+}
+
+impl<T: Drop, P: Ord + Drop, R: Wait + Clone, A: Allocator + Copy> Handle<T, P, R, A> {
+    /// Sends a message into a place that the caller holds.
+    pub fn put(&self, msg: T, priority: P) {
+        if !self.fill(msg, priority) {
+            self.let_go();
+        }
+    }
+
+    /// Drops the pending messages of a channel that has lost its last receiver, if it is to do so.
+    /// Each message is dropped after the lock is released, since its drop may use the channel.
+    pub fn let_go(&self) {
+        if !self.shared.lets_go.load(Ordering::SeqCst) {
+            return;
+        }
+        let pending = self.look().core().len();
+        for _ in 0..pending {
+            let mut held = self.hold();
+            let (received, wakes) = held.core().try_recv();
+            self.release(held, wakes);
+            drop(received);
+        }
     }
 }

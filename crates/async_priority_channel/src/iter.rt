@@ -4,7 +4,7 @@ ghost use Rattle.std.specs.Iterator.{at_most};
 
 use crate::handle::Handle;
 use crate::receiver::Receiver;
-use priority_channel_waiting::attempts::Receive;
+use priority_channel_waiting::attempts::{Attempt, Receive};
 use priority_channel_waiting::timeouts::Ended;
 use priority_channel_waiting::until::Endless;
 use priority_channel_waiting::waiter::Waiter;
@@ -16,22 +16,29 @@ use std::time::Duration;
 
 // The waits of a loop. They share one waiter.
 #[derive(Drop)]
-struct Waits<A: Allocator> {
+pub(crate) struct Waits<A: Allocator> {
     waiter: Option<Waiter<A>>,
     // A bound by which the proof of a loop sees that it ends. No run reaches it. It is 0 once the
     // channel has ended.
-    left: u64,
+    pub(crate) left: u64,
 }
 
 impl<A: Allocator + Copy> Waits<A> {
-    fn new() -> Self {
+    pub(crate) fn new() -> Self {
         Waits {
             waiter: None,
             left: u64::MAX,
         }
     }
 
-    fn next_on<T, P: Ord, R: Wait + Clone>(&mut self, handle: &Handle<T, P, R, A>) -> Option<(T, P)>
+    // The next message, by a `Receive` or a `ReceiveHeld`.
+    pub(crate) fn next_on<
+        T,
+        P: Ord,
+        R: Wait + Clone,
+        C: Attempt<T, P, A, Done = (T, P)> + Copy + Drop,
+    >(&mut self, handle: &Handle<T, P, R, A>, call: C) -> Option<(T, P)>
+        requires { C.can_attempt call }
         ensures shorter { IfSome result (λ _. self.new.left < self.old.left) }
         ensures ended { IfNone result (self.new.left ≡ 0) }
         ensures stays_ended { self.old.left ≡ 0 → result ≡ None }
@@ -40,7 +47,7 @@ impl<A: Allocator + Copy> Waits<A> {
             return None;
         }
         self.left -= 1;
-        let received = wait_without_fail(handle, &mut self.waiter);
+        let received = wait_without_fail(handle, call, &mut self.waiter);
         if received.is_none() {
             self.left = 0;
         }
@@ -49,16 +56,21 @@ impl<A: Allocator + Copy> Waits<A> {
 }
 
 // Waits until a message is there or none can come. A wait takes memory, and a try does not.
-fn wait_without_fail<T, P: Ord, R: Wait + Clone, A: Allocator + Copy>(
-    handle: &Handle<T, P, R, A>,
-    waiter: &mut Option<Waiter<A>>,
-) -> Option<(T, P)> {
+fn wait_without_fail<
+    T,
+    P: Ord,
+    R: Wait + Clone,
+    A: Allocator + Copy,
+    C: Attempt<T, P, A, Done = (T, P)> + Copy + Drop,
+>(handle: &Handle<T, P, R, A>, call: C, waiter: &mut Option<Waiter<A>>) -> Option<(T, P)>
+    requires { C.can_attempt call }
+{
     for _ in handle.rt().forever() {
-        match handle.wait(Receive, &Endless, waiter) {
+        match handle.wait(call, &Endless, waiter) {
             Ok(pair) => return Some(pair),
-            Err(Ended::Closed(Receive)) => return None,
-            Err(Ended::Memory(Receive)) => pause(handle.rt()),
-            Err(Ended::Over(Receive, never)) => match never {},
+            Err(Ended::Closed(_)) => return None,
+            Err(Ended::Memory(_)) => pause(handle.rt()),
+            Err(Ended::Over(_, never)) => match never {},
         }
     }
     unreachable!()
@@ -96,7 +108,7 @@ impl<'a, T, P: Ord, R: Wait + Clone, A: Allocator + Copy> Iterator for Iter<'a, 
 
     fn next(&mut self) -> Option<(T, P)> {
         let receiver = self.receiver;
-        self.waits.next_on(&receiver.handle)
+        self.waits.next_on(&receiver.handle, Receive)
     }
 }
 
@@ -117,7 +129,7 @@ impl<T: Drop, P: Ord + Drop, R: Wait + Clone, A: Allocator + Copy> Iterator
     ghost remaining = { λ s. at_most s.waits.left };
 
     fn next(&mut self) -> Option<(T, P)> {
-        self.waits.next_on(&self.receiver.handle)
+        self.waits.next_on(&self.receiver.handle, Receive)
     }
 }
 

@@ -3,8 +3,9 @@
 //!
 //! | Law | What it says |
 //! |---|---|
-//! | `conservation_law` | no message is lost, made up or received twice, or sent after the close |
+//! | `conservation_law` | no message is lost, made up or received twice, or sent after the close; no place either |
 //! | `drain_law` | messages come out by priority; a closed channel gives each that is pending |
+//! | `done_law` | a channel that is to close when all is done does so then, and not before |
 //! | `alike_law` | two runs over the same calls have the same replies and end in the same state |
 //! | `waiting_law` | no waiting future can go on, and no ticket is given twice |
 //! | `queue_law` | no queue of threads sleeps while a call of theirs can go on |
@@ -20,7 +21,7 @@
 
 pub use priority_channel_core::laws::{digits_law, list_law, one_greatest_law, one_least_law};
 pub use priority_channel_laws::laws::{
-    alike_law, conservation_law, drain_law, queue_law, waiting_law,
+    alike_law, conservation_law, done_law, drain_law, queue_law, waiting_law,
 };
 pub use priority_channel_recorded::laws::history_law;
 pub use priority_channel_waiting::law::closing_law;

@@ -71,7 +71,7 @@
 //!
 //! A channel is closed by `close`, or when its last sender or its last receiver is dropped, and
 //! stays closed. It accepts nothing more. Pending messages can still be received; `Closed` is
-//! returned once none is left.
+//! returned once none is left and no place is held.
 //!
 //! ```
 //! let (tx, rx) = unbounded(&rt, rt.alloc())?;
@@ -89,6 +89,30 @@
 //! A weak handle, which `downgrade` makes, does not keep the channel open. The guard that
 //! `close_on_drop` makes closes its channel however a scope is left, so that no sender or receiver
 //! waits for one that has failed.
+//!
+//! # Held places
+//!
+//! `try_lease` and its variants receive a message and keep its place held until it is finished. A
+//! `Lease` that is dropped puts its message back, so a worker that leaves by a `?` loses no job, and
+//! the bound counts what is pending and what is in hand. `for lease in rx.leases()` is the loop of
+//! such a worker. `try_reserve` and its variants hold a place for a message still to come: a
+//! `Permit`, whose `send` is never refused.
+//!
+//! A channel for which `close_when_done` was called closes once nothing is pending and no place is
+//! held. So a pool ends whose workers also send.
+//!
+//! ```
+//! let (tx, rx) = unbounded(&rt, rt.alloc())?;
+//! tx.try_send(3, ())?;
+//! tx.close_when_done();
+//! for lease in rx.leases() {
+//!     if *lease.message() > 0 {
+//!         tx.try_send(*lease.message() - 1, ())?;
+//!     }
+//!     done.push(lease.finish().0)?;
+//! }
+//! assert_eq!(rt; done.as_slice(), [3, 2, 1, 0].as_slice());
+//! ```
 //!
 //! # Blocking and not
 //!
@@ -131,10 +155,10 @@
 //!
 //! # Futures
 //!
-//! In a task, `send`, `sendv`, `recv` and `recv_many` are futures, and `stream` and `into_stream`
-//! are streams, of the kit's `futures`. They do nothing until they are polled. One that is dropped
-//! before it has answered receives nothing, and sends no more. Threads and tasks may wait in one
-//! channel.
+//! In a task, `send`, `sendv`, `recv`, `recv_many`, `reserve` and `lease` are futures, and `stream`
+//! and `into_stream` are streams, of the kit's `futures`. They do nothing until they are polled. One
+//! that is dropped before it has answered receives nothing, and sends no more. Threads and tasks may
+//! wait in one channel.
 //!
 //! ```
 //! let (tx, rx) = bounded(&rt, rt.alloc(), 1)?;
@@ -206,9 +230,11 @@ mod handle;
 mod identity;
 mod iter;
 pub mod laws;
+mod lease;
 mod many;
 mod parked;
 mod peek;
+mod permit;
 mod receiver;
 mod sender;
 mod stream;
@@ -220,7 +246,9 @@ pub use channel::{Ends, bounded, bounded_reserved, unbounded};
 pub use close_on_drop::CloseOnDrop;
 pub use end::{End, Role};
 pub use iter::{IntoIter, Iter, TryIter};
+pub use lease::{Lease, Leases};
 pub use many::RecvMany;
+pub use permit::Permit;
 pub use priority_channel_core::errors::{
     RecvError, RecvFault, SendError, SendFault, TryRecvError, TryRecvManyError, TrySendError,
 };
@@ -229,5 +257,5 @@ pub use priority_channel_waiting::timeouts::{RecvTimeoutError, SendTimeoutError}
 pub use receiver::{Receiver, Receiving};
 pub use sender::{Sender, Sending};
 pub use stream::{IntoStream, RecvStream};
-pub use waiting::{Closed, Recv, Send, Sendv};
+pub use waiting::{Closed, LeaseNext, Recv, Reserve, Send, Sendv};
 pub use weak::{Weak, WeakReceiver, WeakSender};

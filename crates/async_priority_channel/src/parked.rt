@@ -79,8 +79,9 @@ impl<T, P: Ord, R: Wait + Clone, A: Allocator + Copy> Handle<T, P, R, A> {
         }
     }
 
+    /// Makes a call, in one step.
     #[inline(always)]
-    fn attempt<C: Attempt<T, P, A>>(&self, call: C) -> Outcome<C::Done, C>
+    pub fn attempt<C: Attempt<T, P, A>>(&self, call: C) -> Outcome<C::Done, C>
         requires { C.can_attempt call }
         ensures { IfSome (left_over result) (λ rest. C.can_attempt rest × C.leaves call rest) }
     {

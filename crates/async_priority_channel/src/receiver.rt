@@ -24,6 +24,7 @@ impl Role for Receiving {
 /// | | at once | waits on its thread | for a limited time | for a task |
 /// |---|---|---|---|---|
 /// | a message | `try_recv` | `recv_blocking` | `recv_timeout`, `recv_deadline` | `recv` |
+/// | one that keeps its place | `try_lease` | `lease_blocking`, `leases` | `lease_timeout`, `lease_deadline` | `lease` |
 /// | many messages | `try_recv_many` | `recv_many_blocking` | | `recv_many` |
 /// | one after another | `try_iter` | `iter`, `for pair in rx`, `in &rx` | | `stream`, `into_stream` |
 /// | what a test chooses | `take_where`, `retain` | | | |

@@ -29,6 +29,7 @@ impl Role for Sending {
 /// | a message | `try_send` | `send_blocking` | `send_timeout`, `send_deadline` | `send` |
 /// | many messages | `try_sendv` | `sendv_blocking` | `sendv_timeout`, `sendv_deadline` | `sendv` |
 /// | one that may displace another | `try_send_evicting` | | | |
+/// | a place for one to come | `try_reserve` | `reserve_blocking` | `reserve_timeout`, `reserve_deadline` | `reserve` |
 ///
 /// `End` has the calls that a receiver has too, and says what a call costs and which of the user's
 /// code is called under the channel's lock.

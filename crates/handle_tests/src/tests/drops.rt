@@ -15,7 +15,8 @@ fn long() -> Duration {
     Duration::from_secs(5)
 }
 
-// A message or a part of a priority: its drop asks another thread to use the channel, and tells whether it could.
+// A message or a part of a priority: its drop asks another thread to use the channel, and tells
+// whether it could.
 struct Asking<R: Wait + Clone + Clock> {
     ask: Sender<(), (), R>,
     used: Receiver<(), (), R>,

@@ -201,6 +201,20 @@ fn example_of_end_close(rt: HostRuntime) {
 }
 
 #[test]
+fn example_of_end_close_when_done(rt: HostRuntime) {
+    let (tx, rx) = unbounded(&rt, rt.alloc()).expect(&rt, "unbounded");
+    tx.try_send("Foo", 0).expect(&rt, "try_send");
+    tx.close_when_done();
+    let lease = rx.try_lease().expect(&rt, "try_lease");
+    expect_true(&rt, !tx.is_closed());
+    tx.try_send("Bar", 2).expect(&rt, "try_send");
+    lease.finish();
+    expect_true(&rt, !tx.is_closed());
+    rx.try_lease().expect(&rt, "try_lease").finish();
+    expect_true(&rt, tx.is_closed());
+}
+
+#[test]
 fn example_of_end_same_channel(rt: HostRuntime) {
     let (tx, _rx) = unbounded::<&str, u64, _, _>(&rt, rt.alloc()).expect(&rt, "unbounded");
     let (other, _other_rx) = unbounded(&rt, rt.alloc()).expect(&rt, "unbounded");
@@ -242,6 +256,100 @@ fn example_of_receiver_try_iter(rt: HostRuntime) {
     expect_equal(&rt, jobs.next(), None);
     tx.try_send("call for help", 9).expect(&rt, "try_send");
     expect_equal(&rt, jobs.next(), None);
+}
+
+#[test]
+fn example_of_lease(rt: HostRuntime) {
+    let (tx, rx) = bounded(&rt, rt.alloc(), 1).expect(&rt, "bounded");
+    tx.try_send("compile", 2).expect(&rt, "try_send");
+    let lease = rx.try_lease().expect(&rt, "try_lease");
+    expect_equal(&rt, *lease.message(), "compile");
+    expect_true(&rt, rx.is_empty() && tx.is_full());
+    drop(lease);
+    expect_equal(
+        &rt,
+        rx.try_lease().expect(&rt, "try_lease").finish(),
+        ("compile", 2),
+    );
+    expect_true(&rt, rx.is_empty() && !tx.is_full());
+}
+
+#[test]
+fn example_of_lease_put_back(rt: HostRuntime) {
+    let (tx, rx) = unbounded(&rt, rt.alloc()).expect(&rt, "unbounded");
+    tx.try_send("flaky", 5).expect(&rt, "try_send");
+    tx.try_send("steady", 3).expect(&rt, "try_send");
+    rx.try_lease().expect(&rt, "try_lease").put_back(1);
+    expect_equal(&rt, rx.try_recv(), Ok(("steady", 3)));
+    expect_equal(&rt, rx.try_recv(), Ok(("flaky", 1)));
+}
+
+#[test]
+fn example_of_lease_into_parts(rt: HostRuntime) {
+    let (tx, rx) = bounded(&rt, rt.alloc(), 1).expect(&rt, "bounded");
+    tx.try_send("compile", 2).expect(&rt, "try_send");
+    let (job, priority, permit) = rx.try_lease().expect(&rt, "try_lease").into_parts();
+    expect_equal(&rt, (job, priority), ("compile", 2));
+    permit.send("link", 1);
+    expect_equal(&rt, rx.try_recv(), Ok(("link", 1)));
+}
+
+#[test]
+fn example_of_receiver_lease_blocking(rt: HostRuntime) {
+    let (tx, rx) = bounded(&rt, rt.alloc(), 1).expect(&rt, "bounded");
+    let sending = thread::spawn(&rt, move || tx.send_blocking("Foo", 0)).expect(&rt, "spawn");
+    expect_equal(
+        &rt,
+        rx.lease_blocking().expect(&rt, "lease_blocking").finish(),
+        ("Foo", 0),
+    );
+    expect_equal(&rt, sending.join(&rt), Ok(()));
+    expect_true(&rt, rx.lease_blocking().is_err());
+}
+
+#[test]
+fn example_of_receiver_lease_timeout(rt: HostRuntime) {
+    let (tx, rx) = bounded(&rt, rt.alloc(), 1).expect(&rt, "bounded");
+    let limit = Duration::from_millis(5);
+    expect_true(
+        &rt,
+        rx.lease_timeout(limit)
+            .is_err_and(|error| error.is_timeout()),
+    );
+    tx.try_send("Foo", 0).expect(&rt, "try_send");
+    expect_equal(
+        &rt,
+        rx.lease_timeout(limit)
+            .expect(&rt, "lease_timeout")
+            .finish(),
+        ("Foo", 0),
+    );
+}
+
+#[test]
+fn example_of_receiver_lease(rt: HostRuntime) {
+    let (tx, rx) = bounded(&rt, rt.alloc(), 1).expect(&rt, "bounded");
+    let sending = thread::spawn(&rt, move || tx.send_blocking("Foo", 0)).expect(&rt, "spawn");
+    expect_equal(
+        &rt,
+        wait_for(&rt, rx.lease()).expect(&rt, "wait_for").finish(),
+        ("Foo", 0),
+    );
+    expect_equal(&rt, sending.join(&rt), Ok(()));
+}
+
+#[test]
+fn example_of_receiver_leases(rt: HostRuntime) {
+    let (tx, rx) = unbounded(&rt, rt.alloc()).expect(&rt, "unbounded");
+    tx.try_send("compile", 2).expect(&rt, "try_send");
+    tx.close_when_done();
+    for lease in rx.leases() {
+        if *lease.message() == "compile" {
+            tx.try_send("link", 1).expect(&rt, "try_send"); // `compile` is still in hand, so the channel is open
+        }
+        lease.finish();
+    }
+    expect_true(&rt, tx.is_closed());
 }
 
 #[test]
@@ -297,6 +405,22 @@ fn example_of_closing(rt: HostRuntime) {
     expect_true(&rt, rx.is_closed());
     expect_equal(&rt, rx.try_recv(), Ok(("Foo", 0)));
     expect_equal(&rt, rx.try_recv(), Err(TryRecvError::Closed));
+}
+
+#[test]
+fn example_of_held_places(rt: HostRuntime) {
+    let mut done = Vec::new(rt.alloc());
+    let (tx, rx) = unbounded(&rt, rt.alloc()).expect(&rt, "unbounded");
+    tx.try_send(3, ()).expect(&rt, "try_send");
+    tx.close_when_done();
+    for lease in rx.leases() {
+        if *lease.message() > 0 {
+            tx.try_send(*lease.message() - 1, ())
+                .expect(&rt, "try_send");
+        }
+        done.push(lease.finish().0).expect(&rt, "push");
+    }
+    expect_equal(&rt, done.as_slice(), [3, 2, 1, 0].as_slice());
 }
 
 #[test]
@@ -444,6 +568,61 @@ fn example_of_receiver_peek_priority(rt: HostRuntime) {
         Some(7),
     );
     expect_equal(&rt, rx.try_recv(), Ok(("Foo", 7)));
+}
+
+#[test]
+fn example_of_permit(rt: HostRuntime) {
+    let (tx, rx) = bounded(&rt, rt.alloc(), 1).expect(&rt, "bounded");
+    let permit = tx.try_reserve().expect(&rt, "try_reserve");
+    expect_true(&rt, tx.is_full());
+    tx.close();
+    permit.send("Foo", 0);
+    expect_equal(&rt, rx.try_recv(), Ok(("Foo", 0)));
+}
+
+#[test]
+fn example_of_sender_try_reserve(rt: HostRuntime) {
+    let (tx, rx) = bounded(&rt, rt.alloc(), 1).expect(&rt, "bounded");
+    let permit = tx.try_reserve().expect(&rt, "try_reserve");
+    expect_equal(
+        &rt,
+        tx.try_send("Bar", 2),
+        Err(TrySendError::Full(("Bar", 2))),
+    );
+    drop(permit);
+    expect_equal(&rt, tx.try_send("Bar", 2), Ok(()));
+}
+
+#[test]
+fn example_of_sender_reserve_blocking(rt: HostRuntime) {
+    let (tx, rx) = bounded(&rt, rt.alloc(), 1).expect(&rt, "bounded");
+    tx.try_send(3, 0).expect(&rt, "try_send");
+    let receiving = thread::spawn(&rt, move || (rx.recv_blocking(), rx)).expect(&rt, "spawn");
+    let permit = tx.reserve_blocking().expect(&rt, "reserve_blocking");
+    let (received, rx) = receiving.join(&rt);
+    expect_equal(&rt, received, Ok((3, 0)));
+    permit.send(4, 2);
+    expect_equal(&rt, rx.try_recv(), Ok((4, 2)));
+}
+
+#[test]
+fn example_of_sender_reserve_timeout(rt: HostRuntime) {
+    let (tx, _rx) = bounded::<&str, u64, _, _>(&rt, rt.alloc(), 1).expect(&rt, "bounded");
+    let limit = Duration::from_millis(5);
+    let permit = tx.reserve_timeout(limit).expect(&rt, "reserve_timeout");
+    let refused = tx.reserve_timeout(limit);
+    expect_true(&rt, refused.is_err_and(|error| error.is_timeout()));
+    drop(permit);
+}
+
+#[test]
+fn example_of_sender_reserve(rt: HostRuntime) {
+    let (tx, rx) = bounded(&rt, rt.alloc(), 1).expect(&rt, "bounded");
+    tx.try_send("Foo", 0).expect(&rt, "try_send");
+    let (reserved, received) = wait_for(&rt, join(tx.reserve(), rx.recv()));
+    expect_equal(&rt, received, Ok(("Foo", 0)));
+    reserved.expect(&rt, "reserve").send("Bar", 2);
+    expect_equal(&rt, rx.try_recv(), Ok(("Bar", 2)));
 }
 
 #[test]

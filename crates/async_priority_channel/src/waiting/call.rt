@@ -1,0 +1,237 @@
+//! The futures that wait for a place, or for a message that keeps its place.
+ghost use Rattle.std.specs.Prelude.{◌≡◌, ⊤, true, false, None, IsSome};
+ghost use Rattle.futures.specs.Task.{Covers, Keeps};
+ghost use Rattle.futures.specs.Poll.{IfReady, OnPending};
+ghost use Rattle.async_priority_channel.specs.Handles.{source_of, MayAnswerAlike};
+
+use crate::end::{End, Role};
+use crate::handle::Handle;
+use crate::lease::Lease;
+use crate::permit::Permit;
+use crate::receiver::Receiving;
+use crate::sender::Sending;
+use futures::Future;
+use futures::task::{Context, Poll};
+use priority_channel_core::errors::{RecvFault, SendFault};
+use priority_channel_core::side::Side;
+use priority_channel_waiting::attempts::{Attempt, ReceiveHeld};
+use priority_channel_waiting::line::{Listing, list_waiter};
+use priority_channel_waiting::timeouts::Ended;
+use priority_channel_waiting::waiter::Waiter;
+use std::alloc::{Allocator, Global};
+use std::convert::Infallible;
+use std::marker::Model;
+use std::sync::Wait;
+
+impl<T, P: Ord, R: Wait + Clone, A: Allocator + Copy> Handle<T, P, R, A> {
+    // Makes a task's call, in one step and without memory for waiting. If the call is blocked, has
+    // the channel list the task. Where what it waits for comes in between, it makes the call again,
+    // and where another one is faster then, the task asks to be polled again.
+    fn poll_call<C: Attempt<T, P, A> + Copy + Drop>(
+        &self,
+        cx: &mut Context<'_>,
+        side: Side,
+        call: C,
+        ticket: &mut Option<u64>,
+        waiter: &mut Option<Waiter<A>>,
+    ) -> Poll<Result<C::Done, Ended<C, Infallible>>>
+        requires { C.can_attempt call }
+        ensures registered { OnPending result (Covers cx.new (λ source.
+            source ≡ source_of side self.now)) }
+        ensures kept { Keeps cx.old cx.new }
+        ensures answered { IfReady result (λ _. ticket.new ≡ None) }
+    {
+        if let Some(answer) = self.answer_call(call, ticket) {
+            return Poll::Ready(answer);
+        }
+        let Some(waiter) = self.register(cx, side, waiter) else {
+            self.give_up(ticket.take());
+            return Poll::Ready(Err(Ended::Memory(call)));
+        };
+        let mut held = self.hold();
+        let listing = list_waiter(side, held.core(), ticket, waiter);
+        held.unlock();
+        match listing {
+            Listing::Listed => Poll::Pending,
+            Listing::Refused => Poll::Ready(Err(Ended::Memory(call))),
+            Listing::Free => match self.answer_call(call, ticket) {
+                Some(answer) => Poll::Ready(answer),
+                None => cx.yield_now(),
+            },
+        }
+    }
+
+    // The answer of a call that need not wait, which then gives up its ticket.
+    fn answer_call<C: Attempt<T, P, A> + Drop>(
+        &self,
+        call: C,
+        ticket: &mut Option<u64>,
+    ) -> Option<Result<C::Done, Ended<C, Infallible>>>
+        requires { C.can_attempt call }
+        ensures { IsSome result → ticket.new ≡ None }
+    {
+        let answer = self.attempt(call).answer().ok()?;
+        self.give_up(ticket.take());
+        Some(answer)
+    }
+
+    // Takes a ticket off the channel's list.
+    fn give_up(&self, ticket: Option<u64>) {
+        if let Some(ticket) = ticket {
+            let mut held = self.hold();
+            held.core().give_up(ticket);
+            held.unlock();
+        }
+    }
+}
+
+/// A `Reserve` or a `LeaseNext`: the call that it makes at each poll, and the handle by which it
+/// waits. If it is dropped, it waits no more.
+///
+/// Once it has answered it is done. A poll of a done future is pending, and asks to be polled
+/// again; nothing else changes.
+#[must_use = "a future does nothing until it is polled: `block_on`, or a call in `_blocking`"]
+pub struct Calling<'a, S: Role, C: Copy, T, P: Ord, R: Wait + Clone, A: Allocator + Copy = Global> {
+    end: &'a End<S, T, P, R, A>,
+    call: C,
+    ticket: Option<u64>,
+    waiter: Option<Waiter<A>>,
+    is_done: bool,
+}
+
+impl<'a, S: Role, C: Copy, T, P: Ord, R: Wait + Clone, A: Allocator + Copy> Model
+    for Calling<'a, S, C, T, P, R, A> {
+    ghost use Rattle.async_priority_channel.specs.Handles.{Watching};
+
+    ghost Value = { Watching };
+
+    ghost view = { λ f. record {
+      channel = f.end.now;
+      ticket = f.ticket;
+      is_done = f.is_done;
+    } };
+}
+
+impl<'a, S: Role, C: Copy, T, P: Ord, R: Wait + Clone, A: Allocator + Copy> Calling<
+    'a,
+    S,
+    C,
+    T,
+    P,
+    R,
+    A,
+> {
+    pub(crate) fn new(end: &'a End<S, T, P, R, A>, call: C) -> Self
+        ensures { result ≡ record { channel = end.now; ticket = None; is_done = false } }
+    {
+        Calling {
+            end,
+            call,
+            ticket: None,
+            waiter: None,
+            is_done: false,
+        }
+    }
+}
+
+impl<S: Role, C: Copy, T, P: Ord, R: Wait + Clone, A: Allocator + Copy> Drop
+    for Calling<'_, S, C, T, P, R, A> {
+    fn drop(self) {
+        let Calling {
+            end,
+            call: _,
+            ticket,
+            waiter,
+            is_done: _,
+        } = self;
+        end.handle.give_up(ticket);
+        drop(waiter);
+    }
+}
+
+/// Waits for a place. `Sender::reserve` makes it.
+///
+/// The error is `Closed`, or `Memory` if memory was refused.
+pub type Reserve<'a, T, P, R, A = Global> = Calling<'a, Sending, (), T, P, R, A>;
+
+impl<'a, T, P: Ord, R: Wait + Clone, A: Allocator + Copy> Future for Reserve<'a, T, P, R, A> {
+    type Output = Result<Permit<'a, T, P, R, A>, SendFault<()>>;
+
+    ghost needs = { λ f source. source ≡ f.channel.room };
+
+    fn poll(&mut self, cx: &mut Context<'_>) -> Poll<Self::Output>
+        ensures value { IfReady result (λ _. ⊤) }
+        ensures again { OnPending result ⊤ }
+        ensures same { MayAnswerAlike result }
+        ensures registered { OnPending result (Covers cx.new (λ source.
+            source ≡ self.new.channel.room)) }
+        ensures kept { Keeps cx.old cx.new }
+        ensures channel { self.new.channel ≡ self.old.channel }
+        ensures answered { IfReady result (λ _. (self.new.is_done ≡ true)
+            × (self.new.ticket ≡ None)) }
+        ensures waits { OnPending result (self.new.is_done ≡ self.old.is_done) }
+        ensures done { self.old.is_done ≡ true → (result ≡ Poll.Pending) × (self.new ≡ self.old) }
+    {
+        if self.is_done {
+            return cx.yield_now();
+        }
+        let end = self.end;
+        let handle = &end.handle;
+        let polled = handle.poll_call(cx, Side::Room, (), &mut self.ticket, &mut self.waiter);
+        let Poll::Ready(reserved) = polled else {
+            return Poll::Pending;
+        };
+        self.is_done = true;
+        Poll::Ready(match reserved {
+            Ok(()) => Ok(Permit::of(handle)),
+            Err(ended) => Err(SendFault::from(ended)),
+        })
+    }
+}
+
+/// Receives a message, and keeps its place held. `Receiver::lease` makes it.
+///
+/// The error is `Closed` if no message can come any more, or `Memory` if memory was refused.
+pub type LeaseNext<'a, T, P, R, A = Global> = Calling<'a, Receiving, ReceiveHeld, T, P, R, A>;
+
+impl<'a, T: Drop, P: Ord + Drop, R: Wait + Clone, A: Allocator + Copy> Future
+    for LeaseNext<'a, T, P, R, A> {
+    type Output = Result<Lease<'a, T, P, R, A>, RecvFault>;
+
+    ghost needs = { λ f source. source ≡ f.channel.message };
+
+    fn poll(&mut self, cx: &mut Context<'_>) -> Poll<Self::Output>
+        ensures value { IfReady result (λ _. ⊤) }
+        ensures again { OnPending result ⊤ }
+        ensures same { MayAnswerAlike result }
+        ensures registered { OnPending result (Covers cx.new (λ source.
+            source ≡ self.new.channel.message)) }
+        ensures kept { Keeps cx.old cx.new }
+        ensures channel { self.new.channel ≡ self.old.channel }
+        ensures answered { IfReady result (λ _. (self.new.is_done ≡ true)
+            × (self.new.ticket ≡ None)) }
+        ensures waits { OnPending result (self.new.is_done ≡ self.old.is_done) }
+        ensures done { self.old.is_done ≡ true → (result ≡ Poll.Pending) × (self.new ≡ self.old) }
+    {
+        if self.is_done {
+            return cx.yield_now();
+        }
+        let end = self.end;
+        let handle = &end.handle;
+        let polled = handle.poll_call(
+            cx,
+            Side::Message,
+            ReceiveHeld,
+            &mut self.ticket,
+            &mut self.waiter,
+        );
+        let Poll::Ready(leased) = polled else {
+            return Poll::Pending;
+        };
+        self.is_done = true;
+        Poll::Ready(match leased {
+            Ok(pair) => Ok(Lease::of(handle, pair)),
+            Err(ended) => Err(RecvFault::from(ended)),
+        })
+    }
+}
