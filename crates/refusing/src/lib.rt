@@ -1,6 +1,5 @@
-//! An allocator for tests: it refuses the requests that the test names, and passes the others on.
-//!
-//! Nothing but a test should stand on this crate.
+//! What tests stand on, and nothing but a test should: an allocator that refuses the requests that
+//! the test names, and passes the others on; and a watch, which ends a test that hangs.
 #![tactic(auto)]
 
 use requests::{Refusals, Requests};
@@ -10,6 +9,7 @@ mod requests;
 mod rounds;
 #[cfg(test)]
 mod tests;
+pub mod watch;
 
 pub use rounds::{Rounds, Vacuous};
 

@@ -1,39 +1,24 @@
-//! A thread beside a wait, which ends the test if the wait does not end.
+//! A thread beside a wait, which ends the test if the wait does not end; and a meeting of threads.
 use super::Host;
-use std::process::Abort;
-use std::sync::atomic::{AtomicBool, Ordering};
+use refusing::watch::Watch;
+use std::sync::atomic::{AtomicUsize, Ordering};
 use std::thread;
-use std::time::{Clock, Duration};
-
-// For how many milliseconds it lets a wait last, and somewhat longer on a busy machine. What takes
-// a moment on an idle one takes seconds beside many other processes.
-const PATIENCE: u64 = 25_000;
 
 /// Waits, and fails if that lasts too long.
 pub fn within<R: Host, T, F: FnOnce() -> T>(rt: &R, what: &str, wait: F) -> T
     requires { F.pre wait }
 {
-    let is_over = AtomicBool::new(false);
-    let ((), came) = thread::join(
-        rt,
-        || watch(rt, what, &is_over),
-        ||
-            requires { F.pre wait }
-        {
-            let came = wait();
-            is_over.store(true, Ordering::SeqCst);
-            came
-        },
-    );
-    came
+    Watch::new(what).over(rt, |what| panic!(rt; "waited too long for {what}"), wait)
 }
 
-fn watch<R: Clock + Abort>(rt: &R, what: &str, is_over: &AtomicBool) {
-    for _ in 0..PATIENCE {
-        if is_over.load(Ordering::SeqCst) {
+/// Waits until so many threads have arrived. It does not sleep, so that they go on at the same
+/// moment.
+pub fn arrive(arrived: &AtomicUsize, count: usize) {
+    arrived.fetch_add(1, Ordering::SeqCst);
+    for _ in 0..u64::MAX {
+        if arrived.load(Ordering::SeqCst) >= count {
             return;
         }
-        thread::sleep(rt, Duration::from_millis(1));
+        thread::yield_now();
     }
-    panic!(rt; "waited {PATIENCE} ms for {what}");
 }

@@ -1,0 +1,92 @@
+//! A thread beside a wait, which ends the test where the wait does not go on.
+use std::sync::atomic::{AtomicBool, AtomicU64, Ordering};
+use std::sync::{Mutex, Wait, WaitMethods};
+use std::thread::{self, Threads};
+use std::time::{Clock, Duration};
+
+// For how many milliseconds a step may last, and somewhat longer on a busy machine. What takes a
+// moment on an idle one takes seconds beside many other processes.
+const PATIENCE: u64 = 25_000;
+
+/// Watches the steps of a test, as the cases of a table, and names one that lasts too long. Only a
+/// test may end the process, so it says how it fails.
+///
+/// ```
+/// let watch = Watch::new("the first case");
+/// let fail = |case: &&str| panic!(rt; "it hangs: {case}");
+/// watch.over(&rt, fail, || {
+///     for (case, call) in cases {
+///         watch.begin(&rt, case);
+///         call();
+///     }
+/// });
+/// ```
+#[derive(Drop)]
+pub struct Watch<N: Drop + Send> {
+    step: Mutex<N>,
+    begun: AtomicU64,
+}
+
+impl<N: Drop + Send> Watch<N> {
+    /// A watch that stands at the first step.
+    pub fn new(step: N) -> Self {
+        Watch {
+            step: Mutex::new(step),
+            begun: AtomicU64::new(0),
+        }
+    }
+
+    /// Another step begins, which has as much time as each.
+    pub fn begin(&self, rt: &impl Wait, step: N) {
+        *self.step.lock(rt) = step;
+        self.begun.fetch_add(1, Ordering::SeqCst);
+    }
+
+    /// Makes the steps. Where one lasts too long, fails on another thread, which is told the step.
+    pub fn over<R, E, T, F>(&self, rt: &R, fail: E, steps: F) -> T
+    where
+        R: Clock + Threads + Wait + Sync,
+        E: Fn(&N) + Send,
+        F: FnOnce() -> T,
+        requires { E.IsAlwaysCallable fail × F.pre steps }
+    {
+        let are_over = AtomicBool::new(false);
+        let are_over = &are_over;
+        let ((), came) = thread::join(
+            rt,
+            move ||
+                requires { E.IsAlwaysCallable fail }
+            { self.look(rt, are_over, &fail) },
+            move ||
+                requires { F.pre steps }
+            {
+                let came = steps();
+                are_over.store(true, Ordering::SeqCst);
+                came
+            },
+        );
+        came
+    }
+
+    fn look<R: Clock + Wait, E: Fn(&N)>(&self, rt: &R, are_over: &AtomicBool, fail: &E)
+        requires { E.IsAlwaysCallable fail.now }
+    {
+        let mut seen = self.begun.load(Ordering::SeqCst);
+        let mut left = PATIENCE;
+        for _ in rt.forever() {
+            if are_over.load(Ordering::SeqCst) {
+                return;
+            }
+            let begun = self.begun.load(Ordering::SeqCst);
+            if begun != seen {
+                seen = begun;
+                left = PATIENCE;
+            }
+            if left == 0 {
+                return fail(&self.step.lock(rt));
+            }
+            left -= 1;
+            thread::sleep(rt, Duration::from_millis(1));
+        }
+    }
+}
