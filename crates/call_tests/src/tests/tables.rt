@@ -11,6 +11,7 @@ use std::sync::Wait;
 use std::time::Duration;
 
 mod effects;
+mod held;
 mod memory;
 mod mirror;
 

@@ -5,7 +5,7 @@ use super::calls::Side::*;
 use super::calls::Way::*;
 
 /// Those of a sender come first, and those that may close the channel last.
-pub const ALL: [Call; 63] = [
+pub const ALL: [Call; 80] = [
     Send(Try),
     Send(Poll),
     Send(Future),
@@ -19,6 +19,12 @@ pub const ALL: [Call; 63] = [
     Sendv(Timeout),
     Sendv(Deadline),
     SendEvicting,
+    Reserve(Try),
+    Reserve(Poll),
+    Reserve(Future),
+    Reserve(Blocking),
+    Reserve(Timeout),
+    Reserve(Deadline),
     TakeWhere(Sender),
     Retain(Sender),
     ChangePriority(Sender),
@@ -42,6 +48,15 @@ pub const ALL: [Call; 63] = [
     Stream(Future),
     IntoStream(Poll),
     IntoStream(Future),
+    Lease(Try),
+    Lease(Poll),
+    Lease(Future),
+    Lease(Blocking),
+    Lease(Timeout),
+    Lease(Deadline),
+    Leases,
+    PutBack,
+    DropLease,
     TakeWhere(Receiver),
     Retain(Receiver),
     ChangePriority(Receiver),
@@ -67,6 +82,8 @@ pub const ALL: [Call; 63] = [
     Close(Receiver),
     CloseOnDrop(Sender),
     CloseOnDrop(Receiver),
+    CloseWhenDone(Sender),
+    CloseWhenDone(Receiver),
     Drop(Sender),
     Drop(Receiver),
 ];

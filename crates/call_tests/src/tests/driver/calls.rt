@@ -43,6 +43,8 @@ pub enum Call {
     Send(Way),
     Sendv(Way),
     SendEvicting,
+    /// A place is reserved, and then the message is sent into it.
+    Reserve(Way),
     Recv(Way),
     RecvMany(Way),
     TryIter,
@@ -51,6 +53,13 @@ pub enum Call {
     /// A stream is asked for one message.
     Stream(Way),
     IntoStream(Way),
+    /// A message is leased and finished.
+    Lease(Way),
+    /// A loop of leases, which are finished.
+    Leases,
+    /// A message is leased and put back, with another priority or as the lease is dropped.
+    PutBack,
+    DropLease,
     TakeWhere(Side),
     Retain(Side),
     ChangePriority(Side),
@@ -65,6 +74,7 @@ pub enum Call {
     Upgrade(Side),
     Close(Side),
     CloseOnDrop(Side),
+    CloseWhenDone(Side),
     Drop(Side),
 }
 
@@ -72,7 +82,7 @@ impl Call {
     /// Whose call it is.
     pub fn side(self) -> Side {
         match self {
-            Call::Send(_) | Call::Sendv(_) | Call::SendEvicting => Side::Sender,
+            Call::Send(_) | Call::Sendv(_) | Call::SendEvicting | Call::Reserve(_) => Side::Sender,
             Call::TakeWhere(side)
             | Call::Retain(side)
             | Call::ChangePriority(side)
@@ -82,6 +92,7 @@ impl Call {
             | Call::Upgrade(side)
             | Call::Close(side)
             | Call::CloseOnDrop(side)
+            | Call::CloseWhenDone(side)
             | Call::Drop(side) => side,
             _receive => Side::Receiver,
         }
@@ -91,12 +102,14 @@ impl Call {
         match self {
             Call::Send(way)
             | Call::Sendv(way)
+            | Call::Reserve(way)
             | Call::Recv(way)
             | Call::RecvMany(way)
             | Call::Stream(way)
             | Call::IntoStream(way)
+            | Call::Lease(way)
             | Call::Closed(_, way) => way,
-            Call::Iter | Call::IntoIter => Way::Blocking,
+            Call::Iter | Call::IntoIter | Call::Leases => Way::Blocking,
             _at_once => Way::Try,
         }
     }
@@ -163,7 +176,8 @@ pub struct Input {
     pub limit: Duration,
     /// The message that `take_where` takes. `retain` lets go what leaves the same rest by 8,
     /// `try_recv_if` receives what leaves the same rest by 2, and `change_priority` gives the
-    /// priority of the first pair that is sent to the first message of this kind.
+    /// priority of the first pair that is sent to the first message of this kind. That is also the
+    /// priority of what is put back.
     pub chosen: u64,
 }
 

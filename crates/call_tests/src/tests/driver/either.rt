@@ -42,6 +42,7 @@ pub fn make_by_either<S: Role, R: Host, A: Allocator + Copy>(
             is_empty: end.is_empty(),
             is_full: end.is_full(),
             is_closed: end.is_closed(),
+            held: end.held(),
             capacity: end.capacity(),
             sender_count: end.sender_count(),
             receiver_count: end.receiver_count(),
@@ -51,6 +52,10 @@ pub fn make_by_either<S: Role, R: Host, A: Allocator + Copy>(
         Call::Close(_) => Outcome::Was(end.close()),
         Call::CloseOnDrop(_) => {
             drop(end.close_on_drop());
+            Outcome::Done
+        }
+        Call::CloseWhenDone(_) => {
+            end.close_when_done();
             Outcome::Done
         }
         _no_call => Outcome::Impossible,

@@ -9,6 +9,9 @@ pub struct Model {
     capacity: u64,
     pub pending: Vec<Pair>,
     pub is_closed: bool,
+    // How many places are held, and whether the channel closes once all is done.
+    held: u64,
+    ends_when_done: bool,
     /// How many pairs were ever accepted, and how many received or taken out.
     pub accepted: u64,
     pub taken: u64,
@@ -25,6 +28,8 @@ impl Model {
             capacity,
             pending: Vec::new(rt.alloc()),
             is_closed: false,
+            held: 0,
+            ends_when_done: false,
             accepted: 0,
             taken: 0,
             senders,
@@ -35,14 +40,18 @@ impl Model {
 
     /// Whether the call would wait.
     pub fn waits(&self, call: Call, input: Input) -> bool {
-        if self.is_closed || !call.may_wait(input) {
+        let is_ended = match call {
+            Call::Closed(..) | Call::Send(_) | Call::Sendv(_) | Call::Reserve(_) => self.is_closed,
+            _receive => self.is_over(),
+        };
+        if is_ended || !call.may_wait(input) {
             return false;
         }
         match call {
             Call::Closed(..) => true,
-            Call::Send(_) => self.room() == 0,
+            Call::Send(_) | Call::Reserve(_) => self.room() == 0,
             Call::Sendv(_) => self.room() < input.pairs.count.max(1),
-            Call::Iter | Call::IntoIter => self.pending.len() < input.most,
+            Call::Iter | Call::IntoIter | Call::Leases => self.pending.len() < input.most,
             Call::RecvMany(_) => self.pending.is_empty() && input.most > 0,
             _receive => self.pending.is_empty(),
         }
@@ -54,13 +63,15 @@ impl Model {
             return Reply::new(rt, Outcome::Impossible);
         }
         match call {
-            Call::Send(way) => self.send(rt, way, input.one()),
+            Call::Send(way) | Call::Reserve(way) => self.send(rt, way, input.one()),
             Call::Sendv(way) => self.send(rt, way, input.pairs),
             Call::SendEvicting => self.send_evicting(rt, input),
-            Call::Recv(way) => self.receive_one(rt, way, Outcome::Closed),
+            Call::Recv(way) | Call::Lease(way) => self.receive_one(rt, way, Outcome::Closed),
+            Call::PutBack => self.put_back(rt, Some(input.pair().1)),
+            Call::DropLease => self.put_back(rt, None),
             Call::Stream(way) | Call::IntoStream(way) => self.receive_one(rt, way, Outcome::Ended),
             Call::RecvMany(way) => self.receive_batch(rt, way, input.most),
-            Call::TryIter | Call::Iter | Call::IntoIter => {
+            Call::TryIter | Call::Iter | Call::IntoIter | Call::Leases => {
                 self.receive(rt, input.most, Outcome::Ended)
             }
             Call::TakeWhere(_) => self.take_where(rt, input.chosen),
@@ -103,15 +114,58 @@ impl Model {
                 self.is_closed = true;
                 self.lets_go = self.lets_go || side == Side::Receiver;
             }
+            Call::CloseWhenDone(_) => {
+                self.ends_when_done = true;
+                self.end_if_done();
+            }
             Call::Drop(Side::Sender) => self.senders = self.senders.saturating_sub(1),
             Call::Drop(_) => self.receivers = self.receivers.saturating_sub(1),
             _ => {}
         }
         self.is_closed = self.is_closed || self.senders == 0 || self.receivers == 0;
+        self.let_go();
+        Outcome::Done
+    }
+
+    // What nobody will receive is dropped, if it is to be.
+    fn let_go(&mut self) {
         if self.receivers == 0 && self.lets_go {
             self.pending.clear();
+            self.end_if_done();
         }
-        Outcome::Done
+    }
+
+    /// One more place is held, for which there is room.
+    pub fn hold(&mut self) {
+        self.held = self.held.saturating_add(1);
+    }
+
+    /// A held place becomes free.
+    pub fn free(&mut self) {
+        self.held = self.held.saturating_sub(1);
+        self.end_if_done();
+    }
+
+    /// The pair is sent into a held place.
+    pub fn fill(&mut self, rt: &impl Host, pair: Pair) {
+        self.held = self.held.saturating_sub(1);
+        self.accept(rt, pair);
+        self.let_go();
+    }
+
+    /// How many places are held.
+    pub fn held(&self) -> u64 {
+        self.held
+    }
+
+    fn end_if_done(&mut self) {
+        let is_done = self.pending.is_empty() && self.held == 0;
+        self.is_closed = self.is_closed || self.ends_when_done && is_done;
+    }
+
+    // Nothing can come any more.
+    fn is_over(&self) -> bool {
+        self.is_closed && self.held == 0
     }
 
     fn count(&self, side: Side) -> usize {
@@ -129,7 +183,8 @@ impl Model {
     }
 
     fn room(&self) -> u64 {
-        self.capacity.saturating_sub(self.pending.len() as u64)
+        let taken = self.held.saturating_add(self.pending.len() as u64);
+        self.capacity.saturating_sub(taken)
     }
 
     fn look(&self) -> Looks {
@@ -138,6 +193,7 @@ impl Model {
             is_empty: self.pending.is_empty(),
             is_full: self.room() == 0,
             is_closed: self.is_closed,
+            held: self.held,
             capacity: (self.capacity < u64::MAX).then_some(self.capacity),
             sender_count: self.senders,
             receiver_count: self.receivers,
@@ -190,7 +246,7 @@ impl Model {
     }
 
     fn receive_one(&mut self, rt: &impl Host, way: Way, ended: Outcome) -> Reply {
-        if self.is_closed {
+        if self.is_over() {
             self.receive(rt, 1, ended)
         } else {
             self.receive(rt, 1, blocked(way, Outcome::Empty))
@@ -199,7 +255,7 @@ impl Model {
 
     // Of nothing it does not wait.
     fn receive_batch(&mut self, rt: &impl Host, way: Way, most: usize) -> Reply {
-        if !self.pending.is_empty() || most == 0 && !self.is_closed && way != Way::Try {
+        if !self.pending.is_empty() || most == 0 && !self.is_over() && way != Way::Try {
             return self.receive(rt, most, Outcome::Done);
         }
         self.receive_one(rt, way, Outcome::Closed)
@@ -213,8 +269,7 @@ impl Model {
                 reply.outcome = short;
                 return reply;
             };
-            self.remove(place);
-            self.taken = self.taken.wrapping_add(1);
+            self.take(place);
             reply.pairs.push(pair).expect(rt, "memory for the model");
         }
         reply
@@ -231,8 +286,17 @@ impl Model {
         let Some(place) = self.pending.iter().position(|pair| pair.0 == chosen) else {
             return Reply::new(rt, Outcome::Empty);
         };
-        self.taken = self.taken.wrapping_add(1);
-        Reply::found(rt, self.remove(place), Outcome::Empty)
+        Reply::found(rt, self.take(place), Outcome::Empty)
+    }
+
+    // The greatest goes behind its equals, with that priority or its own.
+    fn put_back(&mut self, rt: &impl Host, priority: Option<u64>) -> Reply {
+        let Some((place, (msg, was))) = self.find(true) else {
+            return self.receive_one(rt, Way::Try, Outcome::Closed);
+        };
+        self.remove(place);
+        self.accept(rt, (msg, priority.unwrap_or(was)));
+        Reply::found(rt, Some((msg, was)), Outcome::Empty)
     }
 
     // Sorted, since their order is not said.
@@ -248,6 +312,7 @@ impl Model {
             }
         }
         self.pending = kept;
+        self.end_if_done();
         reply.pairs.sort().expect(rt, "memory for the model");
         reply
     }
@@ -261,6 +326,14 @@ impl Model {
             }
         }
         Reply::new(rt, Outcome::Empty)
+    }
+
+    // The pair goes out, and its place becomes free.
+    fn take(&mut self, place: usize) -> Option<Pair> {
+        self.taken = self.taken.wrapping_add(1);
+        let pair = self.remove(place);
+        self.end_if_done();
+        pair
     }
 
     fn remove(&mut self, place: usize) -> Option<Pair> {

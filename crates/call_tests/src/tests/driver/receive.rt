@@ -4,11 +4,13 @@ ghost use Rattle.std.specs.Iterator.{IsFinite};
 use super::calls::{Call, Input, Pair, Way};
 use super::either::{answer_of, make_by_either};
 use super::reply::{Outcome, Refusal, Reply};
-use super::send::deadline_of;
+use super::send::{deadline_of, done_if};
 use crate::tests::Host;
-use async_priority_channel::Receiver;
+use async_priority_channel::{Lease, Receiver};
 use futures::StreamExt;
 use std::alloc::Allocator;
+use std::iter::once;
+use std::sync::Wait;
 
 /// Makes a call of a receiver. A batch gets its memory from the allocator that is given.
 pub fn receive<R: Host, A: Allocator + Copy, B: Allocator + Copy>(
@@ -37,6 +39,18 @@ pub fn receive<R: Host, A: Allocator + Copy, B: Allocator + Copy>(
             let other = rx.clone().expect(rt, "a receiver");
             tell_loop(rt, other.into_iter().take(most), most)
         }
+        Call::Lease(Way::Try) => finish(rt, rx, Some(rx.try_lease())),
+        Call::Lease(Way::Timeout) => finish(rt, rx, Some(rx.lease_timeout(input.limit))),
+        Call::Lease(Way::Deadline) => finish(
+            rt,
+            rx,
+            Some(rx.lease_deadline(deadline_of(rt, input))),
+        ),
+        Call::Lease(Way::Blocking) => finish(rt, rx, Some(rx.lease_blocking())),
+        Call::Lease(way) => finish(rt, rx, answer_of(rt, way, rx.lease())),
+        Call::Leases => finish_all(rt, rx, most),
+        Call::PutBack => put_back(rt, rx, Some(input.pair().1)),
+        Call::DropLease => put_back(rt, rx, None),
         Call::RecvIf => match rx.try_recv_if(|msg, _| *msg % 2 == input.chosen % 2) {
             Ok(None) => Reply::new(rt, Outcome::Was(false)),
             Ok(found) => Reply::found(rt, found, Outcome::Empty),
@@ -52,6 +66,58 @@ pub fn receive<R: Host, A: Allocator + Copy, B: Allocator + Copy>(
         }
         _by_either => make_by_either(rt, rx, call, input),
     }
+}
+
+/// Finishes the message that was leased.
+pub fn finish<R: Wait + Clone, A: Allocator + Copy, E: Refusal<()> + Drop>(
+    rt: &impl Host,
+    rx: &Receiver<u64, u64, R, A>,
+    leased: Option<Result<Lease<'_, u64, u64, R, A>, E>>,
+) -> Reply {
+    match leased {
+        Some(Ok(lease)) => {
+            let is_held = rx.held() > 0;
+            Reply::with(rt, done_if(is_held), once(lease.finish()))
+        }
+        Some(Err(refusal)) => Reply::new(rt, refusal.tell().0),
+        None => Reply::new(rt, Outcome::Waits),
+    }
+}
+
+fn finish_all<R: Host, A: Allocator + Copy>(
+    rt: &R,
+    rx: &Receiver<u64, u64, R, A>,
+    most: usize,
+) -> Reply {
+    let mut reply = Reply::new(rt, Outcome::Done);
+    for lease in rx.leases().take(most) {
+        reply
+            .pairs
+            .push(lease.finish())
+            .expect(rt, "memory for a reply");
+    }
+    if reply.pairs.len() < most {
+        reply.outcome = Outcome::Ended;
+    }
+    reply
+}
+
+// With this priority, or as the lease is dropped.
+fn put_back<R: Host, A: Allocator + Copy>(
+    rt: &R,
+    rx: &Receiver<u64, u64, R, A>,
+    priority: Option<u64>,
+) -> Reply {
+    let lease = match rx.try_lease() {
+        Ok(lease) => lease,
+        Err(refusal) => return Reply::new(rt, refusal.tell().0),
+    };
+    let pair = (*lease.message(), *lease.priority());
+    match priority {
+        Some(priority) => lease.put_back(priority),
+        None => drop(lease),
+    }
+    Reply::found(rt, Some(pair), Outcome::Empty)
 }
 
 fn receive_many<R: Host, A: Allocator + Copy, B: Allocator + Copy>(

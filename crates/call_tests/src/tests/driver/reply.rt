@@ -14,6 +14,8 @@ pub struct Looks {
     pub is_empty: bool,
     pub is_full: bool,
     pub is_closed: bool,
+    /// How many places are held.
+    pub held: u64,
     pub capacity: Option<u64>,
     pub sender_count: usize,
     pub receiver_count: usize,

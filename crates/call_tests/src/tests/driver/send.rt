@@ -3,9 +3,10 @@ use super::calls::{Call, Input, Pair, Pairs, Way};
 use super::either::{answer_of, make_by_either};
 use super::reply::{Outcome, Refusal, Reply};
 use crate::tests::Host;
-use async_priority_channel::Sender;
+use async_priority_channel::{Permit, Sender};
 use std::alloc::Allocator;
 use std::iter::{Peekable, once};
+use std::sync::Wait;
 use std::time::Instant;
 
 /// Makes a call of a sender.
@@ -39,7 +40,47 @@ pub fn send<R: Host, A: Allocator + Copy>(
             Ok(displaced) => Reply::found(rt, displaced, Outcome::Done),
             Err(refusal) => tell_one(rt, Some(Err(refusal))),
         },
+        Call::Reserve(Way::Try) => fill(rt, tx, Some(tx.try_reserve()), input),
+        Call::Reserve(Way::Timeout) => fill(rt, tx, Some(tx.reserve_timeout(limit)), input),
+        Call::Reserve(Way::Deadline) => {
+            fill(
+                rt,
+                tx,
+                Some(tx.reserve_deadline(deadline_of(rt, input))),
+                input,
+            )
+        }
+        Call::Reserve(Way::Blocking) => fill(rt, tx, Some(tx.reserve_blocking()), input),
+        Call::Reserve(way) => fill(rt, tx, answer_of(rt, way, tx.reserve()), input),
         _by_either => make_by_either(rt, tx, call, input),
+    }
+}
+
+/// Sends the message into its place. One that gets none is with its sender still.
+pub fn fill<R: Wait + Clone, A: Allocator + Copy, E: Refusal<()> + Drop>(
+    rt: &impl Host,
+    tx: &Sender<u64, u64, R, A>,
+    reserved: Option<Result<Permit<'_, u64, u64, R, A>, E>>,
+    input: Input,
+) -> Reply {
+    match reserved {
+        None => Reply::new(rt, Outcome::Waits),
+        Some(Ok(permit)) => {
+            let (msg, priority) = input.pair();
+            let is_held = tx.held() > 0;
+            permit.send(msg, priority);
+            Reply::new(rt, done_if(is_held))
+        }
+        Some(Err(refusal)) => Reply::with(rt, refusal.tell().0, input.one()),
+    }
+}
+
+/// What a call tells that has done its work; or what none tells.
+pub fn done_if(is_right: bool) -> Outcome {
+    if is_right {
+        Outcome::Done
+    } else {
+        Outcome::Impossible
     }
 }
 

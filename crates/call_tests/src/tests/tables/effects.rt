@@ -3,9 +3,11 @@ use super::{Mirrored, input};
 use crate::tests::driver::all::ALL;
 use crate::tests::driver::calls::{Call, Input, Side, Way, is_for_close};
 use crate::tests::driver::either::tell_closed;
-use crate::tests::driver::receive::{receive, tell_many as tell_batch, tell_next, tell_one};
+use crate::tests::driver::receive::{
+    finish, receive, tell_many as tell_batch, tell_next, tell_one,
+};
 use crate::tests::driver::reply::Reply;
-use crate::tests::driver::send::{tell_many, tell_one as tell_sent};
+use crate::tests::driver::send::{fill, tell_many, tell_one as tell_sent};
 use crate::tests::{Host, expect_equal_at, expect_true, new_task, ready, rest};
 use async_priority_channel::bounded;
 use futures::task::Poll;
@@ -27,13 +29,15 @@ enum Situation {
 const SITUATIONS: [Situation; 3] = [Situation::Waiting, Situation::Moved, Situation::Ended];
 
 // What waits: a receive at an empty channel, or a send at a full one.
-const WAITING: [Call; 7] = [
+const WAITING: [Call; 9] = [
     Call::Recv(Way::Poll),
+    Call::Lease(Way::Poll),
     Call::RecvMany(Way::Poll),
     Call::Stream(Way::Poll),
     Call::Closed(Side::Receiver, Way::Poll),
     Call::Send(Way::Poll),
     Call::Sendv(Way::Poll),
+    Call::Reserve(Way::Poll),
     Call::Closed(Side::Sender, Way::Poll),
 ];
 
@@ -44,7 +48,7 @@ type Round = (Situation, Call, Call, Input);
 fn moved<R: Host>(mirrored: &Mirrored<R>, waiting: Call) -> u64 {
     match waiting {
         Call::Closed(..) => 0,
-        Call::Send(_) | Call::Sendv(_) => mirrored.model.taken,
+        Call::Send(_) | Call::Sendv(_) | Call::Reserve(_) => mirrored.model.taken,
         _receive => mirrored.model.accepted,
     }
 }
@@ -126,6 +130,13 @@ fn wake_receiver<R: Host>(rt: &R, round: Round) {
             let polled = poll_beside(rt, &mut mirrored, round, rx.recv());
             polled.map(|answer| tell_one(rt, answer))
         }
+        Call::Lease(_) => {
+            // A closure that is given a lease is not proved.
+            match poll_beside(rt, &mut mirrored, round, rx.lease()) {
+                Some(answer) => Some(finish(rt, &rx, answer)),
+                None => None,
+            }
+        }
         Call::RecvMany(_) => {
             let mut batch = Vec::new(rt.alloc());
             let polled = poll_beside(rt, &mut mirrored, round, rx.recv_many(&mut batch, 2));
@@ -161,6 +172,12 @@ fn wake_sender<R: Host>(rt: &R, round: Round) {
         Call::Send(_) => {
             let polled = poll_beside(rt, &mut mirrored, round, tx.send(7, 7));
             polled.map(|answer| tell_sent(rt, answer))
+        }
+        Call::Reserve(_) => {
+            match poll_beside(rt, &mut mirrored, round, tx.reserve()) {
+                Some(answer) => Some(fill(rt, &tx, answer, sent)),
+                None => None,
+            }
         }
         Call::Sendv(_) => {
             let bulk = tx.sendv(sent.pairs.peekable());

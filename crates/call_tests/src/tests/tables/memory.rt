@@ -33,7 +33,7 @@ type Round = (u64, bool, Call, u64);
 // What a call leaves and answers that was refused memory. A bulk send may have sent a front.
 fn expect_refused<R: Host>(rt: &R, model: &mut Model, round: Round, reply: Reply, of_call: Input) {
     let pairs = match round.2 {
-        Call::Send(_) | Call::SendEvicting => of_call.one(),
+        Call::Send(_) | Call::SendEvicting | Call::Reserve(_) => of_call.one(),
         Call::Sendv(_) => of_call.pairs,
         _ => input(0, 0, 0).pairs,
     };
@@ -118,7 +118,7 @@ fn is_blocked(call: Call, pending: u64, is_closed: bool) -> bool {
     match call {
         _ if is_closed => false,
         Call::Closed(..) => true,
-        Call::Send(_) | Call::Sendv(_) => pending == CAPACITY,
+        Call::Send(_) | Call::Sendv(_) | Call::Reserve(_) => pending == CAPACITY,
         _ => pending == 0,
     }
 }

@@ -19,9 +19,9 @@ const MOST: u64 = 40;
 const STRETCH: u64 = 60;
 
 // How many calls of the list send, and how many may close the channel.
-const SENDS: u64 = 13;
+const SENDS: u64 = 19;
 
-const ENDS: u64 = 6;
+const ENDS: u64 = 8;
 
 // Sends stand first in the list of all calls, and what may close the channel last.
 fn draw_call(dice: &mut Dice, round: u64) -> Call {

@@ -21,13 +21,17 @@ pub fn waits(call: Call) -> bool {
 }
 
 /// The calls that wait for a limited time.
-pub const TIMED: [Call; 12] = [
+pub const TIMED: [Call; 16] = [
     Call::Send(Way::Timeout),
     Call::Send(Way::Deadline),
     Call::Sendv(Way::Timeout),
     Call::Sendv(Way::Deadline),
+    Call::Reserve(Way::Timeout),
+    Call::Reserve(Way::Deadline),
     Call::Recv(Way::Timeout),
     Call::Recv(Way::Deadline),
+    Call::Lease(Way::Timeout),
+    Call::Lease(Way::Deadline),
     Call::RecvMany(Way::Timeout),
     Call::RecvMany(Way::Deadline),
     Call::Closed(Side::Sender, Way::Timeout),
@@ -50,7 +54,7 @@ pub fn done(call: Call) -> Answer {
 /// That of a call that was blocked and has ended by this.
 pub fn refused(call: Call, outcome: Outcome) -> Answer {
     match call {
-        Call::Send(_) => (outcome, 1, 7),
+        Call::Send(_) | Call::Reserve(_) => (outcome, 1, 7),
         Call::Sendv(_) => (outcome, 1, 8),
         _ => (outcome, 0, 0),
     }
@@ -59,7 +63,8 @@ pub fn refused(call: Call, outcome: Outcome) -> Answer {
 /// That by a close.
 pub fn closed(call: Call) -> Answer {
     let outcome = match call {
-        Call::Iter | Call::IntoIter | Call::Stream(_) | Call::IntoStream(_) => Outcome::Ended,
+        Call::Iter | Call::IntoIter | Call::Leases => Outcome::Ended,
+        Call::Stream(_) | Call::IntoStream(_) => Outcome::Ended,
         Call::Closed(..) => Outcome::Done,
         _ => Outcome::Closed,
     };

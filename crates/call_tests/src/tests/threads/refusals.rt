@@ -19,7 +19,12 @@ fn asks_for_two(call: Call) -> bool {
         && call.way() != Way::Future
         && matches!(
             call,
-            Call::Send(_) | Call::Sendv(_) | Call::Recv(_) | Call::Closed(..)
+            Call::Send(_)
+                | Call::Sendv(_)
+                | Call::Reserve(_)
+                | Call::Recv(_)
+                | Call::Lease(_)
+                | Call::Closed(..)
         )
 }
 

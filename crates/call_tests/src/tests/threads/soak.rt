@@ -44,7 +44,7 @@ struct Round {
     receivers: u64,
     /// Where the first sender closes the channel: how many messages it has settled then.
     close_at: Option<u64>,
-    /// Whether priorities are changed, so that no order can be told.
+    /// Whether priorities are changed and messages are put back, so that no order can be told.
     changes: bool,
     /// Whether all calls are such that wait without a limit, so that no other helps out where one
     /// is not woken.
@@ -89,8 +89,8 @@ impl Round {
             Call::Closed(..) if self.only_waits => false,
             _ if self.only_waits => matches!(call.way(), Way::Blocking | Way::Future),
             Call::Closed(_, way) => matches!(way, Way::Poll | Way::Timeout | Way::Deadline),
-            Call::ChangePriority(_) => self.changes,
-            Call::Close(_) | Call::CloseOnDrop(_) => false,
+            Call::ChangePriority(_) | Call::PutBack | Call::DropLease => self.changes,
+            Call::Close(_) | Call::CloseOnDrop(_) | Call::CloseWhenDone(_) => false,
             Call::Clone(_) | Call::Upgrade(_) | Call::Drop(_) => false,
             _ => true,
         };
@@ -167,7 +167,7 @@ impl Log {
     fn note<R: Host>(&mut self, rt: &R, call: Call, input: Input, reply: &Reply) {
         expect_equal_at(rt, call, reply.outcome == Outcome::Impossible, false);
         let noted = match call {
-            Call::Send(_) => self.note_sent(1, reply),
+            Call::Send(_) | Call::Reserve(_) => self.note_sent(1, reply),
             Call::Sendv(_) => self.note_sent(input.pairs.count, reply),
             Call::SendEvicting if reply.outcome == Outcome::Done => {
                 self.fates.push(Fate::Sent).expect(rt, "memory for a log");
@@ -176,6 +176,7 @@ impl Log {
             Call::SendEvicting => self.note_sent(1, reply),
             Call::TakeWhere(_) | Call::Retain(_) => self.chosen.extend(reply.pairs.iter().copied()),
             Call::PeekWith | Call::PeekPriority | Call::ChangePriority(_) => Ok(()),
+            Call::PutBack | Call::DropLease => Ok(()),
             _receive => self.came.extend(reply.pairs.iter().copied()),
         };
         noted.expect(rt, "memory for a log");
