@@ -4,12 +4,81 @@ use crate::tests::{Host, expect_equal, wait_for};
 use futures::future::{Future, poll_immediate};
 use priority_channel_witnessed::Recording;
 
-// Polls the future once, which is to wait.
-fn drop_pending<F: Future<Output: Drop>>(rt: &impl Host, future: F)
+/// A future that is dropped before it has answered.
+#[derive(Clone, Copy, Debug, Drop, PartialEq)]
+enum Gone {
+    Recv,
+    Send,
+    Sendv,
+}
+
+// Each as it was made, and as it waits.
+const GONE: [(Gone, bool); 6] = [
+    (Gone::Recv, false),
+    (Gone::Recv, true),
+    (Gone::Send, false),
+    (Gone::Send, true),
+    (Gone::Sendv, false),
+    (Gone::Sendv, true),
+];
+
+// A future that waits is polled once before.
+fn drop_future<F: Future<Output: Drop>>(rt: &impl Host, future: F, waits: bool)
     requires { F.can_poll future }
 {
-    let polled = wait_for(rt, poll_immediate(future));
-    expect_equal(rt, polled.is_none(), true);
+    if waits {
+        let polled = wait_for(rt, poll_immediate(future));
+        expect_equal(rt, polled.is_none(), true);
+    }
+}
+
+fn drop_with_guest<'a, J: Recording, R: Host>(
+    rt: &R,
+    alloc: Alloc<'a>,
+    channel: &Channel<J, Alloc<'a>>,
+    (gone, waits): (Gone, bool),
+) {
+    let guest = channel.admit(rt).expect(rt, "a pass to admit");
+    match gone {
+        Gone::Recv => drop_future(rt, channel.recv(rt, guest), waits),
+        Gone::Send => drop_future(rt, channel.send(rt, guest, 8, 2), waits),
+        Gone::Sendv => {
+            let pairs = Vec::from_array(alloc, [(8u64, 2u64), (9, 3)]).expect(rt, "memory");
+            let sending = channel.sendv(rt, guest, pairs.into_iter().peekable());
+            drop_future(rt, sending, waits);
+        }
+    }
+}
+
+fn send_one<'a, J: Recording, R: Host>(
+    rt: &R,
+    channel: &Channel<J, Alloc<'a>>,
+    own: &mut Caller<J, Alloc<'a>>,
+    row: (Gone, bool),
+) {
+    let (sent, wakes) = channel.try_send(rt, own, 7, 1);
+    expect_equal(rt, (row, sent, count(wakes)), (row, Ok(()), 0));
+}
+
+// What it waited for wakes nobody, and it has sent and received nothing.
+fn expect_gone<'a, J: Recording, R: Host>(
+    rt: &R,
+    alloc: Alloc<'a>,
+    channel: &Channel<J, Alloc<'a>>,
+    own: &mut Caller<J, Alloc<'a>>,
+    row: (Gone, bool),
+) {
+    let waits_for_room = row.0 != Gone::Recv;
+    if waits_for_room {
+        send_one(rt, channel, own, row);
+    }
+    drop_with_guest(rt, alloc, channel, row);
+    if !waits_for_room {
+        send_one(rt, channel, own, row);
+    }
+    let (received, wakes) = channel.try_recv(rt, own);
+    expect_equal(rt, (row, received, count(wakes)), (row, Ok((7, 1)), 0));
+    expect_equal(rt, (row, channel.len(rt, own)), (row, 0));
 }
 
 // Receives with a guest, which is polled twice before the own pass sends.
@@ -31,10 +100,9 @@ fn poll_twice<'a, J: Recording, R: Host>(
     channel.leave(rt, guest);
 }
 
-/// A receive and a send wait, each with a pass that comes where the one before has left, and are
-/// dropped: what they waited for wakes nobody, and their passes have left. A receive that is polled
-/// twice in vain is listed once. Those that need not wait ask for no memory: the request that is to
-/// be refused never comes.
+/// Futures are dropped, each with a pass that comes where the one before has left. A receive that
+/// is polled twice in vain is listed once. Those that need not wait ask for no memory: the request
+/// that is to be refused never comes.
 pub(super) fn poll_futures<'a, J: Recording, R: Host>(
     rt: &R,
     alloc: Alloc<'a>,
@@ -42,16 +110,11 @@ pub(super) fn poll_futures<'a, J: Recording, R: Host>(
     passes: &mut Passes<J, Alloc<'a>>,
 ) {
     let mut own = passes.pop().expect(rt, "a pass");
-    let guest = channel.admit(rt).expect(rt, "a pass to admit");
-    drop_pending(rt, channel.recv(rt, guest));
-    let (_, wakes) = channel.try_send(rt, &mut own, 7, 1);
-    expect_equal(rt, count(wakes), 0);
+    for row in GONE {
+        expect_gone(rt, alloc, channel, &mut own, row);
+    }
     let guest = channel.fork(rt, &own).expect(rt, "a pass to fork");
-    drop_pending(rt, channel.send(rt, guest, 8, 2));
-    let (_, wakes) = channel.try_recv(rt, &mut own);
-    expect_equal(rt, count(wakes), 0);
-    let guest = channel.admit(rt).expect(rt, "a pass to admit");
-    expect_equal(rt, guest.number(), 3);
+    expect_equal(rt, guest.number(), 7);
     poll_twice(rt, channel, &mut own, guest);
     alloc.refuse_nth(1);
     let (sent, own) = wait_for(rt, channel.send(rt, own, 9, 3));
