@@ -6,7 +6,7 @@ mod graph;
 mod workers;
 
 use anyhow::ensure;
-use graph::{Graph, State};
+use graph::Graph;
 use std::io;
 use workers::build;
 
@@ -14,10 +14,10 @@ const WORKERS: usize = 3;
 
 fn main(rt: HostRuntime) -> anyhow::Result<()> {
     let text = io::read_to_string(rt.alloc(), rt.stdin())?;
-    let mut graph = Graph::parse(rt.alloc(), &text)?;
-    build(rt, &mut graph, WORKERS)?;
-    print!(rt; "{graph}")?;
-    let built = graph.count(State::Built);
-    ensure!(built == graph.targets.len(), "not all was built");
+    let graph = build(rt, Graph::parse(rt.alloc(), &text)?, WORKERS)?;
+    let graph = graph.lock(&rt);
+    print!(rt; "{}", *graph)?;
+    let is_built = graph.targets.iter().all(|target| target.is_built);
+    ensure!(is_built, "not all was built");
     Ok(())
 }

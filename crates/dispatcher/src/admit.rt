@@ -1,8 +1,8 @@
 //! The thread that reads the jobs.
 
-use crate::desk::Intake;
 use crate::job::Job;
 use crate::reports::Reports;
+use async_priority_channel::Sender;
 use std::alloc::AllocGlobal;
 use std::io::{BufRead, Write};
 use std::sync::Wait;
@@ -11,7 +11,7 @@ use std::sync::Wait;
 pub fn admit_lines<R, I, W>(
     rt: &R,
     input: I,
-    intake: &Intake<R>,
+    queue: &Sender<Job, i64, R>,
     reports: &Reports<W>,
 ) -> anyhow::Result<()>
 where
@@ -19,13 +19,13 @@ where
     I: BufRead + Drop,
     W: Write,
 {
-    intake.take_place()?; // before the first line is read
+    let mut place = queue.reserve_blocking()?; // before the first line is read
     for line in input.split(rt.alloc(), b'\n') {
         let line = line?;
         match Job::parse(rt.alloc(), &line)? {
             Some((job, priority)) => {
-                intake.submit(job, priority)?;
-                intake.take_place()?; // before the next line is read
+                place.send(job, priority);
+                place = queue.reserve_blocking()?; // before the next line is read
             }
             // It leaves its place to the next line.
             None => reports.write(rt, "bad", &line)?,

@@ -1,35 +1,34 @@
 //! Reads numbers from standard input, and prints of each in its turn whether it is prime.
 //!
 //! Each is a job for a few workers. A worker gives it so many steps at a time. Where these were too
-//! few the job has failed for now: it is sent again with less urgency, at most three times, and
-//! goes on behind the others.
+//! few the job has failed for now: it is put back with less urgency, and goes on behind the others.
+//! It is tried at most three times.
 #![tactic(auto)]
 
 mod job;
-mod queue;
-mod urgency;
 mod worker;
 
 use anyhow::{Context, ensure};
-use async_priority_channel::{Receiver, unbounded};
+use async_priority_channel::{Receiver, Sender, unbounded};
 use job::{Job, Settled};
-use queue::Queue;
 use std::alloc::AllocGlobal;
-use std::sync::{Arc, Wait};
+use std::cmp::Reverse;
+use std::io::{BufRead, BufReader};
+use std::sync::Wait;
 use std::thread;
-use worker::work;
+use worker::{Tries, work};
 
 const WORKERS: usize = 4;
 
 fn main(rt: HostRuntime) -> anyhow::Result<()> {
-    let queue = Arc::new(rt.alloc(), Queue::new(&rt, rt.alloc())?)?;
+    let (queue, jobs) = unbounded(&rt, rt.alloc())?;
     let count = submit_lines(&rt, &queue)?;
+    queue.close_when_done(); // the workers end once no job is pending or in hand
     let (results, settled) = unbounded(&rt, rt.alloc())?;
     let mut workers = Vec::new(rt.alloc());
     for _ in 0..WORKERS {
-        let queue = Arc::try_clone(&queue)?;
-        let results = results.clone()?;
-        workers.push(thread::spawn(&rt, move || work(&queue, &results))?)?;
+        let (jobs, results) = (jobs.clone()?, results.clone()?);
+        workers.push(thread::spawn(&rt, move || work(&jobs, &results))?)?;
     }
     drop(results); // the workers have the other senders: the results end with the last worker
     let all = collect(&rt, &settled, count)?;
@@ -43,22 +42,21 @@ fn main(rt: HostRuntime) -> anyhow::Result<()> {
 }
 
 /// Submits a job for each line, and tells how many there are.
-fn submit_lines<R>(rt: &R, queue: &Queue<R>) -> anyhow::Result<usize>
+fn submit_lines<R>(rt: &R, queue: &Sender<Job, Tries, R>) -> anyhow::Result<usize>
 where
     R: Wait + Clone + Input + AllocGlobal,
 {
     let mut count = 0usize;
-    for line in rt.lines(rt.alloc()) {
+    for line in BufReader::new(rt.alloc(), rt.reader())?.lines(rt.alloc()) {
         let line = line?;
         let number: u64 = line
             .trim()
             .parse()
             .context(format_args!("reading {line:?}"))?;
         ensure!(number > 1, "neither prime nor a product: {number}");
-        queue.submit(Job::new(count, number))?;
+        queue.try_send(Job::new(count, number), Reverse(0))?;
         count = count.saturating_add(1);
     }
-    queue.settle(); // nothing more comes from here
     Ok(count)
 }
 

@@ -1,34 +1,28 @@
 //! What a worker does.
 
-use crate::job::Settled;
-use crate::queue::Queue;
-use async_priority_channel::Sender;
+use crate::job::{Job, Settled};
+use async_priority_channel::{Receiver, Sender};
+use std::cmp::Reverse;
 use std::sync::Wait;
 
-/// Runs jobs until the queue has ended. A job that has failed is sent again with less urgency, as
-/// long as there is less.
+/// The priority of a job is how often it was tried: what was tried less goes first.
+pub type Tries = Reverse<u8>;
+
+/// Runs jobs until all are settled. One that has failed is put back, behind those that were tried
+/// less, until it was tried often enough. Where the worker fails, its job is left to the others.
 pub fn work<R: Wait + Clone>(
-    queue: &Queue<R>,
+    jobs: &Receiver<Job, Tries, R>,
     results: &Sender<Settled, (), R>,
 ) -> anyhow::Result<()> {
-    // Where this fails, its job stays open: then the others are not to wait for the last one.
-    let _guard = queue.close_on_drop();
-    for (mut job, urgency) in queue.jobs() {
+    for mut lease in jobs.leases() {
+        let job = lease.message_mut();
         let result = job.run();
-        match (result, urgency.less()) {
-            (Err(_), Some(less)) => {
-                if let Err(error) = queue.send_again(job, less) {
-                    if error.is_closed() {
-                        // Another worker has failed, and tells why.
-                        break;
-                    }
-                    return Err(error.into());
-                }
-            }
-            _ => {
-                results.try_send(Settled { job, result }, ())?;
-                queue.settle();
-            }
+        if result.is_err() && job.may_be_tried_again() {
+            let tries = Reverse(job.tries);
+            lease.put_back(tries);
+        } else {
+            results.try_send(Settled { job: *job, result }, ())?;
+            lease.finish();
         }
     }
     Ok(())

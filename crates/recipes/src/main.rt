@@ -7,13 +7,17 @@ mod blind_bound;
 mod cancel;
 mod ends;
 mod frontier;
+mod lease;
 mod own_queue;
+mod permit;
 mod producer;
 mod replies;
 mod timer;
 
 fn main(rt: HostRuntime) -> anyhow::Result<()> {
     ends::run(rt)?;
+    lease::run(&rt)?;
+    permit::run(&rt)?;
     own_queue::run(&rt)?;
     replies::run(rt)?;
     aging::run(&rt)?;
