@@ -12,6 +12,7 @@ use std::time::Clock;
 mod errors;
 mod heap;
 mod iterators;
+mod plain_list;
 mod priorities;
 mod recorded;
 mod rows;

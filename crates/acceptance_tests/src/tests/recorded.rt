@@ -17,7 +17,8 @@ use passes::{call_again, come_back};
 use refusing::Refusing;
 use std::alloc::{AllocError, Global};
 use std::marker::Brand;
-use steps::{Step, play, play_until_refused};
+pub use steps::{Step, expect_book, expect_history};
+use steps::{play, play_until_refused};
 use threads::{Work, call_on_threads};
 
 mod memory;
@@ -48,20 +49,11 @@ enum Scene<'s> {
     CallAgain,
 }
 
-/// What the callers kept: their calls with the replies, each caller's in its order, and how many
-/// calls were refused their entry.
-#[derive(Drop)]
-struct Kept {
-    made: Vec<Made>,
-    refused: u64,
-}
+/// A caller's number, its call, and what it was told. Each caller keeps its own, in their order.
+type Asked = (u64, Call<u64, u64>, Result<Reply<u64, u64>, NoPlace>);
 
-/// What a scene left.
-#[derive(Drop)]
-struct Told<'a> {
-    refused: u64,
-    history: History<u64, u64, Alloc<'a>>,
-}
+/// What a scene left, and how many calls were refused their entry.
+type Told<'a> = (History<u64, u64, Alloc<'a>>, u64);
 
 // Plays a scene on a recorder for so many pairs, entries and passes. The entries under each number
 // are what its caller kept. The error is that memory was refused for the recorder.
@@ -96,10 +88,7 @@ fn record_as<'a, J: Recording + Send + Sync, R: Host>(
     let (cap, entries, count) = sizes;
     let made = Recorder::<J>::new(alloc, fresh, cap, entries, count);
     let (recorder, mut passes) = made?;
-    let mut kept = Kept {
-        made: Vec::new(rt.alloc()),
-        refused: 0,
-    };
+    let mut kept = Vec::new(rt.alloc());
     within(
         rt,
         "the end of a scene",
@@ -109,9 +98,8 @@ fn record_as<'a, J: Recording + Send + Sync, R: Host>(
         panic!(rt; "a pass is missing");
     }
     let history = recorder.end(rt, passes);
-    expect_kept(rt, count, &kept.made, history.entries());
-    let refused = kept.refused;
-    Ok(Told { refused, history })
+    expect_kept(rt, count, kept.as_slice(), history.entries());
+    Ok((history, count_refused(kept.as_slice())))
 }
 
 // Gives the passes back that it takes.
@@ -121,7 +109,7 @@ fn act<'a, J: Recording + Send + Sync, R: Host>(
     scene: Scene<'_>,
     recorder: &Recorder<'a, J>,
     passes: &mut Passes<'a, J>,
-    kept: &mut Kept,
+    kept: &mut Vec<Asked>,
 ) {
     match scene {
         Scene::Steps(steps) => play(rt, alloc, recorder, passes, kept, steps),
@@ -137,7 +125,7 @@ fn call_and_keep<'a, J: Recording, R: Host>(
     rt: &R,
     recorder: &Recorder<'a, J>,
     pass: &mut Caller<J>,
-    kept: &mut Kept,
+    kept: &mut Vec<Asked>,
     call: Call<u64, u64>,
 ) -> Result<Reply<u64, u64>, NoPlace>
     ensures told { IfOk result (λ reply. IsTold nat_cmp J.capacity pass.old
@@ -146,23 +134,40 @@ fn call_and_keep<'a, J: Recording, R: Host>(
 {
     let who = pass.number();
     let told = recorder.call(rt, pass, call);
-    match told {
-        Ok(reply) => {
-            let made = Entry { who, call, reply };
-            kept.made.push(made).expect(rt, "memory");
-        }
-        Err(NoPlace) => kept.refused = kept.refused.wrapping_add(1),
-    }
+    kept.push((who, call, told)).expect(rt, "memory");
     told
 }
 
-// No entry stands under another number.
-fn expect_kept<R: Host>(rt: &R, passes: usize, kept: &[Made], entries: &[Made]) {
-    expect_equal(rt, entries.len(), kept.len());
+fn count_refused(kept: &[Asked]) -> u64 {
+    let mut count = 0u64;
+    for (_, _, told) in kept {
+        if *told == Err(NoPlace) {
+            count = count.wrapping_add(1);
+        }
+    }
+    count
+}
+
+// What the callers kept are all entries, and those of each caller stand in its order.
+fn expect_kept<R: Host>(rt: &R, passes: usize, kept: &[Asked], entries: &[Made]) {
+    let made = made_of(rt, kept);
+    expect_equal(rt, entries.len(), made.len());
     for number in 0..passes {
         let who = number as u64;
-        expect_equal(rt, under(rt, entries, who), under(rt, kept, who));
+        expect_equal(rt, under(rt, entries, who), under(rt, made.as_slice(), who));
     }
+}
+
+// The entries of the calls that were made.
+fn made_of<R: Host>(rt: &R, kept: &[Asked]) -> Vec<Made> {
+    let mut made = Vec::new(rt.alloc());
+    for (who, call, told) in kept {
+        if let Ok(reply) = *told {
+            let (who, call) = (*who, *call);
+            made.push(Entry { who, call, reply }).expect(rt, "memory");
+        }
+    }
+    made
 }
 
 // Those under one number, in their order.

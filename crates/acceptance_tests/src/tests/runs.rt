@@ -1,78 +1,99 @@
 //! A run makes its calls in order, and stops before the one for whose reply there is no memory.
+ghost use Rattle.std.specs.Prelude.{◌≡◌, ◌++◌, ◌∷◌, []};
+
 use super::{expect_equal, expect_equal_at, expect_true};
-use priority_channel_core::channel::{Answer, Call, PriorityQueueChannel, Ran, Response};
+use priority_channel_core::channel::{Answer, Call, CorePoll, PriorityQueueChannel, Ran, Response};
 use priority_channel_core::errors::TrySendError;
 use refusing::Refusing;
-use std::alloc::{AllocError, AllocGlobal, Allocator, Global};
+use std::alloc::{AllocError, AllocGlobal, Global};
 use std::iter::Peekable;
 use std::process::Abort;
 use std::vec::IntoIter;
+
+type Memory<'a> = &'a Refusing<Global>;
 
 type Pair = (u64, u64);
 
 type Pairs = Peekable<IntoIter<Pair>>;
 
-type Core<A = Global> = PriorityQueueChannel<u64, u64, u64, A>;
+type Core<'a> = PriorityQueueChannel<u64, u64, u64, Memory<'a>>;
 
-type Calls<A = Global> = Vec<Call<u64, u64, u64, Pairs>, A>;
+type Made = Call<u64, u64, u64, Pairs>;
+
+type Calls<'a> = Vec<Made, Memory<'a>>;
+
+type Done<'a> = Vec<Response<u64, u64, u64, Pairs, Memory<'a>>, Memory<'a>>;
+
+// The messages of a bulk send.
+fn bulk<R: Abort + AllocGlobal>(rt: &R, pairs: &[Pair]) -> Pairs {
+    let mut msgs = Vec::new(rt.alloc());
+    for pair in pairs {
+        msgs.push(*pair).expect(rt, "memory");
+    }
+    msgs.into_iter().peekable()
+}
+
+// Calls are listed by this, since an array of them, as `vec!` makes one, is dear to prove.
+fn add(rt: &impl Abort, calls: &mut Calls<'_>, call: Made)
+    ensures { calls.new.items ≡ calls.old.items ++ call ∷ [] }
+{
+    calls.push(call).expect(rt, "memory");
+}
 
 // An answer as text, with the pairs that came back of a bulk send.
-fn said<R: Abort + AllocGlobal>(rt: &R, answer: Answer<u64, u64, Pairs>) -> String {
-    let said = match answer {
-        Answer::TrySendv(Err(TrySendError::Full(rest))) => {
-            let rest: Vec<Pair> = rest.collect(rt.alloc()).expect(rt, "memory");
-            format!(in rt.alloc(); "TrySendv(Err(Full({rest:?})))")
-        }
-        other => format!(in rt.alloc(); "{other:?}"),
-    };
-    said.expect(rt, "memory")
+fn said<R: Abort + AllocGlobal>(rt: &R, answer: &mut Answer<u64, u64, Pairs>) -> String {
+    if let Answer::TrySendv(Err(TrySendError::Full(rest))) = answer {
+        let rest: Vec<Pair> = rest.collect(rt.alloc()).expect(rt, "memory");
+        return format!(in rt.alloc(); "TrySendv(Err(Full({rest:?})))").expect(rt, "memory");
+    }
+    format!(in rt.alloc(); "{answer:?}").expect(rt, "memory")
 }
 
 // Of the calls behind so many, as far as they were made. Nobody is handed out, and the pairs that
 // were received go to the list.
-fn expect_answers<R: Abort + AllocGlobal, A: Allocator>(
+fn expect_answers<R: Abort + AllocGlobal>(
     rt: &R,
-    done: Vec<Response<u64, u64, u64, Pairs, A>, A>,
+    mut done: Done<'_>,
     wanted: &[&str],
     behind: usize,
     received: &mut Vec<Pair>,
 ) {
-    for (response, wanted) in done.into_iter().zip(wanted.iter().skip(behind)) {
-        let Response {
-            answer,
-            room_waiters,
-            message_waiters,
-        } = response;
-        if let Answer::TryRecv(Ok(pair)) = &answer {
+    for (place, response) in done.iter_mut().enumerate() {
+        let wanted = wanted.get(behind.wrapping_add(place));
+        if let Answer::TryRecv(Ok(pair)) = &response.answer {
             received.push(*pair).expect(rt, "memory");
         }
-        let said = said(rt, answer);
-        expect_equal(rt, said.as_str(), *wanted);
-        let is_nobody = room_waiters.is_empty() && message_waiters.is_empty();
-        expect_true(rt, is_nobody, "somebody is handed out");
+        let said = said(rt, &mut response.answer);
+        expect_equal(rt, said.as_str(), *wanted.expect(rt, "a call"));
+        expect_nobody(rt, response);
     }
+}
+
+fn expect_nobody(rt: &impl Abort, response: &Response<u64, u64, u64, Pairs, Memory<'_>>) {
+    let counts = (response.room_waiters.len(), response.message_waiters.len());
+    expect_equal(rt, counts, (0, 0));
 }
 
 #[test]
 fn a_run_of_four_calls_and_a_run_of_none(rt: HostRuntime) {
-    let made: Result<Core, AllocError> = Core::bounded_reserved(rt.alloc(), 2);
+    let alloc = Refusing::new(rt.alloc());
+    let made: Result<Core<'_>, AllocError> = Core::bounded_reserved(&alloc, 2);
     let mut core = made.expect(&rt, "a channel");
-    let calls: Result<Calls, _> = vec![in rt.alloc();
-        Call::TrySend(1, 5),
-        Call::TryRecv,
-        Call::TryRecv,
-        Call::Close,
-    ];
+    let mut calls = Vec::new(&alloc);
+    add(&rt, &mut calls, Call::TrySend(1, 5));
+    add(&rt, &mut calls, Call::TryRecv);
+    add(&rt, &mut calls, Call::TryRecv);
+    add(&rt, &mut calls, Call::Close);
     let wanted = [
         "TrySend(Ok(()))",
         "TryRecv(Ok((1, 5)))",
         "TryRecv(Err(Empty))",
         "Close(true)",
     ];
-    let Ran { done, left } = core.run(calls.expect(&rt, "calls"));
+    let Ran { done, left } = core.run(calls);
     expect_equal(&rt, (done.len(), left.len()), (4, 0));
     expect_answers(&rt, done, &wanted, 0, &mut Vec::new(rt.alloc()));
-    let none: Calls = Vec::new(rt.alloc());
+    let none: Calls<'_> = Vec::new(&alloc);
     let Ran { done, left } = core.run(none);
     expect_equal(&rt, (done.len(), left.len()), (0, 0));
     let told = (core.is_closed(), core.len(), core.capacity());
@@ -80,85 +101,61 @@ fn a_run_of_four_calls_and_a_run_of_none(rt: HostRuntime) {
     expect_equal(&rt, (core.sender_count(), core.receiver_count()), (1, 1));
 }
 
-/// What met the refusal.
-#[derive(Clone, Copy, Debug, Drop, PartialEq)]
-enum Refused {
-    Nothing,
-    /// The making of the channel.
-    Making,
-    /// The test's own list of calls.
-    Calls,
-    /// A growth of the replies.
-    Replies,
-}
+const EIGHT: [&str; 8] = [
+    "TrySendv(Err(Full([(3, 5)])))",
+    "CloneSender(true)",
+    "DropSender",
+    "DropSender",
+    "IsClosed(true)",
+    "TryRecv(Ok((2, 6)))",
+    "TryRecv(Ok((1, 4)))",
+    "TryRecv(Err(Closed))",
+];
 
 // Makes the eight calls, of which each answers as is said until the nth request for memory. Then
 // it runs those that are left, or receives what is pending: so each pair that was accepted has come
-// out in the end.
+// out in the end. Tells how many were left, or None where the channel was refused its memory.
 fn run_eight<R: Abort + AllocGlobal>(
     rt: &R,
     alloc: &Refusing<Global>,
     n: u64,
     goes_on: bool,
-) -> Refused {
-    let three: Result<Vec<Pair>, _> = vec![in rt.alloc(); (1, 4), (2, 6), (3, 5)];
-    let three = three.expect(rt, "pairs").into_iter().peekable();
+) -> Option<usize> {
+    let mut calls = Vec::new(alloc);
+    add(
+        rt,
+        &mut calls,
+        Call::TrySendv(bulk(rt, &[(1, 4), (2, 6), (3, 5)])),
+    );
+    add(rt, &mut calls, Call::CloneSender);
+    add(rt, &mut calls, Call::DropSender);
+    add(rt, &mut calls, Call::DropSender);
+    add(rt, &mut calls, Call::IsClosed);
+    add(rt, &mut calls, Call::TryRecv);
+    add(rt, &mut calls, Call::TryRecv);
+    add(rt, &mut calls, Call::TryRecv);
     alloc.refuse_nth(n);
-    let made: Result<Core<&Refusing<Global>>, AllocError> = Core::bounded_reserved(alloc, 2);
+    let made: Result<Core<'_>, AllocError> = Core::bounded_reserved(alloc, 2);
     let Ok(mut core) = made else {
-        return Refused::Making;
-    };
-    let calls: Result<Calls<&Refusing<Global>>, _> = vec![in alloc;
-        Call::TrySendv(three),
-        Call::CloneSender,
-        Call::DropSender,
-        Call::DropSender,
-        Call::IsClosed,
-        Call::TryRecv,
-        Call::TryRecv,
-        Call::TryRecv,
-    ];
-    let wanted = [
-        "TrySendv(Err(Full([(3, 5)])))",
-        "CloneSender(true)",
-        "DropSender",
-        "DropSender",
-        "IsClosed(true)",
-        "TryRecv(Ok((2, 6)))",
-        "TryRecv(Ok((1, 4)))",
-        "TryRecv(Err(Closed))",
-    ];
-    let Ok(calls) = calls else {
-        return Refused::Calls;
+        return None;
     };
     let mut came = Vec::new(rt.alloc());
     let Ran { done, left } = core.run(calls);
-    let made = done.len();
-    let is_cut = !left.is_empty();
-    expect_equal_at(rt, n, made.wrapping_add(left.len()), 8);
-    expect_answers(rt, done, &wanted, 0, &mut came);
+    let (made, rest) = (done.len(), left.len());
+    expect_equal_at(rt, n, made.wrapping_add(rest), 8);
+    expect_answers(rt, done, &EIGHT, 0, &mut came);
     if goes_on {
         let Ran { done, left } = core.run(left);
         expect_equal_at(rt, n, (made.wrapping_add(done.len()), left.len()), (8, 0));
-        expect_answers(rt, done, &wanted, made, &mut came);
+        expect_answers(rt, done, &EIGHT, made, &mut came);
     } else {
         receive_all(rt, &mut core, &mut came);
     }
-    let is_sent = made > 0 || goes_on;
-    let accepted = if is_sent {
-        [(2, 6), (1, 4)].as_slice()
-    } else {
-        [].as_slice()
-    };
-    expect_equal_at(rt, n, came.as_slice(), accepted);
-    if is_cut {
-        Refused::Replies
-    } else {
-        Refused::Nothing
-    }
+    expect_came(rt, n, made > 0 || goes_on, came.as_slice());
+    Some(rest)
 }
 
-fn receive_all<R: Abort, A: Allocator + Copy>(rt: &R, core: &mut Core<A>, came: &mut Vec<Pair>) {
+fn receive_all(rt: &impl Abort, core: &mut Core<'_>, came: &mut Vec<Pair>) {
     for _ in 0..core.len() {
         let (received, wakes) = core.try_recv();
         let (_room, _message) = wakes.into_lists();
@@ -167,10 +164,20 @@ fn receive_all<R: Abort, A: Allocator + Copy>(rt: &R, core: &mut Core<A>, came: 
     }
 }
 
+// What the bulk send sent, if it was made.
+fn expect_came(rt: &impl Abort, n: u64, is_sent: bool, came: &[Pair]) {
+    let accepted = if is_sent {
+        [(2, 6), (1, 4)].as_slice()
+    } else {
+        [].as_slice()
+    };
+    expect_equal_at(rt, n, came, accepted);
+}
+
 #[test]
 fn a_run_of_eight_calls(rt: HostRuntime) {
     let alloc = Refusing::new(rt.alloc());
-    expect_equal(&rt, run_eight(&rt, &alloc, 0, true), Refused::Nothing);
+    expect_equal(&rt, run_eight(&rt, &alloc, 0, true), Some(0));
 }
 
 // Each request for memory is refused in turn.
@@ -179,10 +186,10 @@ fn expect_rounds<R: Abort + AllocGlobal>(rt: &R, goes_on: bool) {
     let mut growths = 0u64;
     for round in alloc.rounds() {
         let n = round.expect(rt, "a request");
-        let refused = run_eight(rt, &alloc, n, goes_on);
+        let left = run_eight(rt, &alloc, n, goes_on);
         let met_none = alloc.refuse_none();
-        expect_equal_at(rt, (n, refused), met_none, refused == Refused::Nothing);
-        if refused == Refused::Replies {
+        expect_equal_at(rt, (n, left), met_none, left == Some(0));
+        if left.unwrap_or(0) > 0 {
             growths = growths.wrapping_add(1);
         }
     }
@@ -197,4 +204,62 @@ fn a_run_stops_where_a_reply_is_refused_memory(rt: HostRuntime) {
 #[test]
 fn what_a_run_accepted_comes_out_whichever_request_is_refused(rt: HostRuntime) {
     expect_rounds(&rt, false);
+}
+
+// Its place in the run.
+fn place_of(answer: &Answer<u64, u64, Pairs>) -> usize {
+    match answer {
+        Answer::TrySend(Ok(())) => 0,
+        Answer::TrySendv(Err(_)) => 1,
+        Answer::TryRecv(Ok(_)) => 2,
+        Answer::Close(true) => 3,
+        Answer::IsClosed(true) => 4,
+        Answer::IsEmpty(true) => 5,
+        Answer::IsFull(false) => 6,
+        Answer::Len(0) => 7,
+        Answer::Capacity(Some(1)) => 8,
+        Answer::SenderCount(1) => 9,
+        Answer::ReceiverCount(1) => 10,
+        Answer::CloneSender(true) => 11,
+        Answer::CloneReceiver(true) => 12,
+        Answer::DropSender => 13,
+        Answer::DropReceiver => 14,
+        Answer::PollSend(CorePoll::Ready(Err(_))) => 15,
+        Answer::PollSendv(CorePoll::Ready(Err(_))) => 16,
+        Answer::PollRecv(CorePoll::Ready(Err(_))) => 17,
+        Answer::GiveUp => 18,
+        _ => 99,
+    }
+}
+
+#[test]
+fn a_run_has_each_call(rt: HostRuntime) {
+    let alloc = Refusing::new(rt.alloc());
+    let mut calls = Vec::new(&alloc);
+    add(&rt, &mut calls, Call::TrySend(7, 1));
+    add(&rt, &mut calls, Call::TrySendv(bulk(&rt, &[])));
+    add(&rt, &mut calls, Call::TryRecv);
+    add(&rt, &mut calls, Call::Close);
+    add(&rt, &mut calls, Call::IsClosed);
+    add(&rt, &mut calls, Call::IsEmpty);
+    add(&rt, &mut calls, Call::IsFull);
+    add(&rt, &mut calls, Call::Len);
+    add(&rt, &mut calls, Call::Capacity);
+    add(&rt, &mut calls, Call::SenderCount);
+    add(&rt, &mut calls, Call::ReceiverCount);
+    add(&rt, &mut calls, Call::CloneSender);
+    add(&rt, &mut calls, Call::CloneReceiver);
+    add(&rt, &mut calls, Call::DropSender);
+    add(&rt, &mut calls, Call::DropReceiver);
+    add(&rt, &mut calls, Call::PollSend(7, 1, None, 7));
+    add(&rt, &mut calls, Call::PollSendv(bulk(&rt, &[]), None, 7));
+    add(&rt, &mut calls, Call::PollRecv(None, 7));
+    add(&rt, &mut calls, Call::GiveUp(0));
+    let mut core: Core<'_> = Core::bounded(&alloc, 1);
+    let Ran { done, left } = core.run(calls);
+    expect_equal(&rt, (done.len(), left.len()), (19, 0));
+    for (place, response) in done.iter().enumerate() {
+        expect_equal(&rt, place_of(&response.answer), place);
+        expect_nobody(&rt, response);
+    }
 }

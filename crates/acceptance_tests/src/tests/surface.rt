@@ -1,16 +1,12 @@
 //! Callers that name each public item by its path: where a name goes, this no longer compiles.
-ghost use Rattle.std.specs.Prelude.{◌≡◌, ◌<◌, ◌^◌};
-ghost use Rattle.priority_channel_recorded.specs.Log.{names};
-
-use super::word::unwoken;
+use super::recorded::{Step, expect_book, expect_history};
+use super::word::{expect_handed, unwoken};
 use super::{Host, expect_equal, expect_true, wait_for};
 use async_priority_channel::laws::{
     alike_law, closing_law, conservation_law, digits_law, drain_law, history_law, list_law,
     one_greatest_law, one_least_law, queue_law, waiting_law,
 };
-use async_priority_channel::recorded::{
-    Book, Call as BookCall, Entry, Fresh, History, NoPlace, Pass, Recorded, Recording, Reply,
-};
+use async_priority_channel::recorded::{Call, Reply};
 use async_priority_channel::waiting::{
     Recv, RecvState, Send as SendFuture, SendState, Sendv, SendvState,
 };
@@ -18,16 +14,14 @@ use async_priority_channel::{Receiver, Sender, bounded, bounded_reserved, unboun
 use futures::task::Poll;
 use priority_channel_core::awaitable_atomics::AwaitableAtomicCounterAndBit;
 use priority_channel_core::bag::Bag;
-use priority_channel_core::channel::{Answer, Call, CorePoll, PriorityQueueChannel, Ran, Response};
+use priority_channel_core::channel::{CorePoll, PriorityQueueChannel};
 use priority_channel_core::errors::{
     RecvError, RecvFault, SendError, SendFault, TryRecvError, TrySendError,
 };
 use priority_channel_core::item::Item;
-use std::alloc::{AllocError, AllocGlobal, Global};
+use std::alloc::{AllocError, AllocGlobal};
 use std::cmp::Ordering;
 use std::iter::Peekable;
-use std::marker::Brand;
-use std::process::Abort;
 use std::vec::IntoIter;
 
 type Word = AwaitableAtomicCounterAndBit<u64>;
@@ -45,24 +39,25 @@ fn awaitable_atomics_has_its_items(rt: HostRuntime) {
     expect_equal(&rt, word.listen_decr(None, &9), Some(2));
     word.unlisten(2);
     let (before, wakes) = word.incr(1);
-    let (room, message) = wakes.into_lists();
-    expect_equal(&rt, (before, room.len()), ((false, 1), 0));
-    expect_equal(&rt, message.as_slice(), [(0, 7)].as_slice());
+    expect_equal(&rt, before, (false, 1));
+    expect_handed(&rt, wakes, &[], &[(0, 7)]);
     let (before, wakes) = word.decr();
-    let (room, message) = wakes.into_lists();
-    expect_equal(&rt, (before, message.len()), ((false, 2), 0));
-    expect_equal(&rt, room.as_slice(), [(1, 8)].as_slice());
+    expect_equal(&rt, before, (false, 2));
+    expect_handed(&rt, wakes, &[(1, 8)], &[]);
     expect_equal(&rt, unwoken(&rt, word.set_bit()), false);
 }
 
 // It has a number besides, which tells equal priorities apart.
-#[test]
-fn item_has_its_items(rt: HostRuntime) {
-    let item = |priority: u64| Item {
+fn item(priority: u64) -> Item<char, u64> {
+    Item {
         msg: 'm',
         priority,
         number: 0,
-    };
+    }
+}
+
+#[test]
+fn item_has_its_items(rt: HostRuntime) {
     expect_true(&rt, item(1) == item(1), "they are equal");
     expect_equal(&rt, item(1).cmp(&item(2)), Ordering::Less);
     expect_equal(&rt, item(1).partial_cmp(&item(0)), Some(Ordering::Greater));
@@ -134,73 +129,6 @@ fn channel_counts_its_handles(rt: HostRuntime) {
     expect_equal(&rt, (core.receiver_count(), core.is_closed()), (0, true));
 }
 
-// Its place in the run.
-fn place_of(answer: &Answer<u64, u64, Pairs>) -> usize {
-    match answer {
-        Answer::TrySend(Ok(())) => 0,
-        Answer::TrySendv(Err(_)) => 1,
-        Answer::TryRecv(Ok(_)) => 2,
-        Answer::Close(true) => 3,
-        Answer::IsClosed(true) => 4,
-        Answer::IsEmpty(true) => 5,
-        Answer::IsFull(false) => 6,
-        Answer::Len(0) => 7,
-        Answer::Capacity(Some(1)) => 8,
-        Answer::SenderCount(1) => 9,
-        Answer::ReceiverCount(1) => 10,
-        Answer::CloneSender(true) => 11,
-        Answer::CloneReceiver(true) => 12,
-        Answer::DropSender => 13,
-        Answer::DropReceiver => 14,
-        Answer::PollSend(CorePoll::Ready(Err(_))) => 15,
-        Answer::PollSendv(CorePoll::Ready(Err(_))) => 16,
-        Answer::PollRecv(CorePoll::Ready(Err(_))) => 17,
-        Answer::GiveUp => 18,
-        _ => 99,
-    }
-}
-
-#[test]
-fn a_run_has_each_call(rt: HostRuntime) {
-    let calls: Result<Vec<Call<u64, u64, u64, Pairs>>, _> = vec![in rt.alloc();
-        Call::TrySend(7, 1),
-        Call::TrySendv(no_pairs(&rt)),
-        Call::TryRecv,
-        Call::Close,
-        Call::IsClosed,
-        Call::IsEmpty,
-        Call::IsFull,
-        Call::Len,
-        Call::Capacity,
-        Call::SenderCount,
-        Call::ReceiverCount,
-        Call::CloneSender,
-        Call::CloneReceiver,
-        Call::DropSender,
-        Call::DropReceiver,
-        Call::PollSend(7, 1, None, 7),
-        Call::PollSendv(no_pairs(&rt), None, 7),
-        Call::PollRecv(None, 7),
-        Call::GiveUp(0),
-    ];
-    let mut core = Core::bounded(rt.alloc(), 1);
-    let Ran { done, left } = core.run(calls.expect(&rt, "calls"));
-    expect_equal(&rt, (done.len(), left.len()), (19, 0));
-    for (place, response) in done.into_iter().enumerate() {
-        expect_answered(&rt, response, place);
-    }
-}
-
-fn expect_answered(rt: &impl Abort, response: Response<u64, u64, u64, Pairs>, place: usize) {
-    let Response {
-        answer,
-        room_waiters,
-        message_waiters,
-    } = response;
-    expect_equal(rt, place_of(&answer), place);
-    expect_equal(rt, (room_waiters.len(), message_waiters.len()), (0, 0));
-}
-
 #[test]
 fn waiting_has_the_states(rt: HostRuntime) {
     let mut core = Core::bounded(rt.alloc(), 1);
@@ -260,55 +188,29 @@ fn the_crate_has_its_items(rt: HostRuntime) {
     expect_equal(&rt, printed.is_empty(), false);
 }
 
+const BOOK: [Step; 7] = [
+    Step::Call(0, Call::TrySend(7, 1), Ok(Reply::Sent(Ok(()))), 1),
+    Step::Call(0, Call::TryRecv, Ok(Reply::Received(Ok((7, 1)))), 2),
+    Step::Call(0, Call::Close, Ok(Reply::Bool(true)), 3),
+    Step::Call(0, Call::IsClosed, Ok(Reply::Bool(true)), 4),
+    Step::Call(0, Call::IsEmpty, Ok(Reply::Bool(true)), 5),
+    Step::Call(0, Call::IsFull, Ok(Reply::Bool(false)), 6),
+    Step::Call(0, Call::Len, Ok(Reply::Len(0)), 7),
+];
+
 #[test]
 fn recorded_has_the_book(rt: HostRuntime) {
-    let mut book = Book::new(rt.alloc(), 1, 7).expect(&rt, "a book");
-    for (call, reply) in [
-        (BookCall::TrySend(7, 1), Reply::Sent(Ok(()))),
-        (BookCall::TryRecv, Reply::Received(Ok((7, 1)))),
-        (BookCall::Close, Reply::Bool(true)),
-        (BookCall::IsClosed, Reply::Bool(true)),
-        (BookCall::IsEmpty, Reply::Bool(true)),
-        (BookCall::IsFull, Reply::Bool(false)),
-        (BookCall::Len, Reply::Len(0)),
-    ] {
-        let told: Result<Reply<u64, u64>, NoPlace> = book.record(0, call);
-        expect_equal(&rt, (call, told), (call, Ok(reply)));
-    }
+    expect_book(&rt, &BOOK, 1, 7);
 }
 
-// Of a recorder with two passes. None where one is missing.
-fn record_as<J: Recording, R: Host>(rt: &R, fresh: Fresh<u64, u64>) -> Option<History<u64, u64>>
-    requires names { fresh ≡ names J.log J.capacity J.is_reserved J.name J.parts }
-    requires capacity { fresh.capacity ≡ 1 }
-    requires passes { fresh.passes ≡ 2 }
-{
-    let made = Recorded::<u64, u64, J>::new(rt.alloc(), fresh, 1, 8, 2);
-    let (recorder, mut passes) = made.expect(rt, "a recorder");
-    let mut last: Pass<u64, u64, J> = passes.pop()?;
-    let mut first: Pass<u64, u64, J> = passes.pop()?;
-    expect_equal(rt, (first.number(), last.number()), (0, 1));
-    let told = recorder.call(rt, &mut first, BookCall::Close);
-    expect_equal(rt, (told, first.count()), (Ok(Reply::Bool(true)), 1));
-    recorder.meet(&mut first, &mut last);
-    passes.push(first).expect(rt, "its own place");
-    passes.push(last).expect(rt, "its own place");
-    if passes.len() != 2 {
-        return None;
-    }
-    Some(recorder.end(rt, passes))
-}
-
-fn record<R: Host>(rt: &R) -> Option<History<u64, u64>> {
-    record_as::<Brand, R>(rt, Fresh::new(1, 2))
-}
+const RECORDER: [Step; 2] = [
+    Step::Call(0, Call::Close, Ok(Reply::Bool(true)), 1),
+    Step::Meet,
+];
 
 #[test]
 fn recorded_has_the_recorder(rt: HostRuntime) {
-    let history = record(&rt).expect(&rt, "two passes");
-    let (who, call, reply) = (0, BookCall::Close, Reply::Bool(true));
-    let wanted = [Entry { who, call, reply }];
-    expect_equal(&rt, history.entries(), wanted.as_slice());
+    expect_history(&rt, &RECORDER, 1, 8, 2, 0);
 }
 
 #[test]

@@ -1,8 +1,8 @@
 //! Handles on many threads.
-use super::watch::within;
+use super::watch::{arrive, within};
 use super::{Host, expect_equal, expect_equal_at, expect_true, wait_for};
 use async_priority_channel::{Ends, Receiver, RecvError, RecvFault, Sender, bounded, unbounded};
-use std::sync::atomic::{AtomicUsize, Ordering};
+use std::sync::atomic::AtomicUsize;
 use std::thread;
 use std::time::Duration;
 
@@ -121,20 +121,9 @@ fn one_sender_and_ten_receivers(rt: HostRuntime) {
 
 const CLOSES: usize = 16;
 
-// Waits until so many have arrived, so that they go on at the same moment.
-fn meet(arrived: &AtomicUsize, count: usize) {
-    arrived.fetch_add(1, Ordering::SeqCst);
-    for _ in 0..u64::MAX {
-        if arrived.load(Ordering::SeqCst) >= count {
-            return;
-        }
-        thread::yield_now();
-    }
-}
-
 fn close_by_own<R: Host>(rt: &R, tx: &Sender<u64, u64, R>, arrived: &AtomicUsize) -> bool {
     let own = tx.clone().expect(rt, "a sender");
-    meet(arrived, CLOSES);
+    arrive(arrived, CLOSES);
     own.close()
 }
 

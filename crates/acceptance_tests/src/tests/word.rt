@@ -5,6 +5,18 @@ use std::process::Abort;
 
 type Word = AwaitableAtomicCounterAndBit<u64>;
 
+/// These, and no others, were handed out: each by its ticket, with its waker.
+pub fn expect_handed(
+    rt: &impl Abort,
+    wakes: Wakes<u64>,
+    room: &[(u64, u64)],
+    message: &[(u64, u64)],
+) {
+    let (handed_room, handed_message) = wakes.into_lists();
+    expect_equal(rt, handed_room.as_slice(), room);
+    expect_equal(rt, handed_message.as_slice(), message);
+}
+
 /// What a call answered that is to hand out nobody.
 pub fn unwoken<X, W: Drop>(rt: &impl Abort, (answer, wakes): (X, Wakes<W>)) -> X {
     let (room, message) = wakes.into_lists();

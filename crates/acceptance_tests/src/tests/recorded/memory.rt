@@ -1,11 +1,10 @@
 //! Each request for memory of a recorded history is refused in turn.
 use super::steps::SEVEN;
 use super::{Made, Scene, record};
+use crate::tests::plain_list::Pair;
 use crate::tests::{Host, expect_equal, expect_equal_at};
 use async_priority_channel::recorded::{Call, Reply};
 use refusing::Refusing;
-
-type Pair = (u64, u64);
 
 // What a channel accepted, and what came out of it.
 fn accepted_and_received<R: Host>(rt: &R, entries: &[Made]) -> (Vec<Pair>, Vec<Pair>) {
@@ -36,14 +35,14 @@ fn refuse_in_turn<R: Host>(rt: &R, entries: usize) -> (u64, u64) {
         alloc.refuse_nth(n);
         let told = record(rt, &alloc, Scene::UntilRefused(&SEVEN), 2, entries, 1);
         let met_none = alloc.refuse_none();
-        let Ok(told) = told else {
+        let Ok((history, refused)) = told else {
             expect_equal_at(rt, n, met_none, false);
             recorders = recorders.wrapping_add(1);
             continue;
         };
-        expect_equal_at(rt, n, told.refused == 0, met_none);
-        calls = calls.wrapping_add(told.refused);
-        let (mut accepted, mut received) = accepted_and_received(rt, told.history.entries());
+        expect_equal_at(rt, n, refused == 0, met_none);
+        calls = calls.wrapping_add(refused);
+        let (mut accepted, mut received) = accepted_and_received(rt, history.entries());
         accepted.sort().expect(rt, "memory");
         received.sort().expect(rt, "memory");
         expect_equal_at(rt, n, received, accepted);

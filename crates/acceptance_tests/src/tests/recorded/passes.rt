@@ -4,7 +4,7 @@ ghost use Rattle.std.specs.Ordering.{nat_cmp};
 ghost use Rattle.priority_channel_recorded.specs.History.{entry};
 ghost use Rattle.priority_channel_recorded.specs.Passes.{IsTold};
 
-use super::{Alloc, Caller, Kept, Passes, Recorder, Scene, call_and_keep, record};
+use super::{Alloc, Asked, Caller, Passes, Recorder, Scene, call_and_keep, record};
 use crate::tests::{Host, expect_equal};
 use async_priority_channel::TrySendError;
 use async_priority_channel::recorded::{Call, Entry, NoPlace, Recording, Reply};
@@ -16,7 +16,7 @@ pub(super) fn come_back<'a, J: Recording + Send + Sync, R: Host>(
     rt: &R,
     recorder: &Recorder<'a, J>,
     passes: &mut Passes<'a, J>,
-    kept: &mut Kept,
+    kept: &mut Vec<Asked>,
 ) {
     let mut away = passes.pop().expect(rt, "a pass");
     let mut home = passes.pop().expect(rt, "a pass");
@@ -40,7 +40,8 @@ pub(super) fn come_back<'a, J: Recording + Send + Sync, R: Host>(
 #[test]
 fn a_pass_comes_back_from_a_thread(rt: HostRuntime) {
     let alloc = Refusing::new(rt.alloc());
-    let told = record(&rt, &alloc, Scene::ComesBack, 1, 2, 2).expect(&rt, "a recorder");
+    let told = record(&rt, &alloc, Scene::ComesBack, 1, 2, 2);
+    let (history, _) = told.expect(&rt, "a recorder");
     let refused = Reply::Sent(Err(TrySendError::Closed((4, 4))));
     let wanted = [
         Entry {
@@ -54,7 +55,7 @@ fn a_pass_comes_back_from_a_thread(rt: HostRuntime) {
             reply: refused,
         },
     ];
-    expect_equal(&rt, told.history.entries(), wanted.as_slice());
+    expect_equal(&rt, history.entries(), wanted.as_slice());
 }
 
 // Makes a call that is refused its entry, and then again. What the pass has seen afterwards is what
@@ -64,7 +65,7 @@ fn call_twice<'a, J: Recording, R: Host>(
     alloc: Alloc<'a>,
     recorder: &Recorder<'a, J>,
     pass: &mut Caller<J>,
-    kept: &mut Kept,
+    kept: &mut Vec<Asked>,
     call: Call<u64, u64>,
 ) -> Result<Reply<u64, u64>, NoPlace>
     ensures { IfOk result (λ reply. IsTold nat_cmp J.capacity pass.old
@@ -83,7 +84,7 @@ pub(super) fn call_again<'a, J: Recording, R: Host>(
     alloc: Alloc<'a>,
     recorder: &Recorder<'a, J>,
     passes: &mut Passes<'a, J>,
-    kept: &mut Kept,
+    kept: &mut Vec<Asked>,
 ) {
     let pass = passes.get_mut(0).expect(rt, "a pass");
     let told = call_twice(rt, alloc, recorder, pass, kept, Call::TrySend(1, 1));
@@ -95,6 +96,7 @@ pub(super) fn call_again<'a, J: Recording, R: Host>(
 #[test]
 fn after_a_refused_entry_a_pass_has_seen_what_it_had_seen(rt: HostRuntime) {
     let alloc = Refusing::new(rt.alloc());
-    let told = record(&rt, &alloc, Scene::CallAgain, 1, 0, 1).expect(&rt, "a recorder");
-    expect_equal(&rt, (told.refused, told.history.entries().len()), (1, 2));
+    let told = record(&rt, &alloc, Scene::CallAgain, 1, 0, 1);
+    let (history, refused) = told.expect(&rt, "a recorder");
+    expect_equal(&rt, (refused, history.entries().len()), (1, 2));
 }

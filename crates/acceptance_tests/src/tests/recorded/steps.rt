@@ -1,7 +1,7 @@
 //! Calls of one thread, with their answers.
 ghost use Rattle.std.specs.Prelude.{◌<◌, ◌^◌};
 
-use super::{Alloc, Caller, Kept, Made, Passes, Recorder, Scene, call_and_keep, record};
+use super::{Alloc, Asked, Caller, Made, Passes, Recorder, Scene, call_and_keep, record};
 use crate::tests::{Host, expect_equal};
 use async_priority_channel::TrySendError;
 use async_priority_channel::recorded::{Book, Call, Entry, NoPlace, Recording, Reply};
@@ -59,7 +59,7 @@ pub(super) fn play<'a, J: Recording, R: Host>(
     alloc: Alloc<'a>,
     recorder: &Recorder<'a, J>,
     passes: &mut Passes<'a, J>,
-    kept: &mut Kept,
+    kept: &mut Vec<Asked>,
     steps: &[Step],
 ) {
     for step in steps {
@@ -92,7 +92,7 @@ pub(super) fn play_until_refused<'a, J: Recording, R: Host>(
     rt: &R,
     recorder: &Recorder<'a, J>,
     passes: &mut Passes<'a, J>,
-    kept: &mut Kept,
+    kept: &mut Vec<Asked>,
     steps: &[Step],
 ) {
     let pass = passes.get_mut(0).expect(rt, "a pass");
@@ -114,7 +114,7 @@ fn receive_rest<'a, J: Recording, R: Host>(
     rt: &R,
     recorder: &Recorder<'a, J>,
     pass: &mut Caller<J>,
-    kept: &mut Kept,
+    kept: &mut Vec<Asked>,
 ) {
     // Two pairs, a refusal, and the answer that there are no more.
     for _ in 0..4u64 {
@@ -139,8 +139,8 @@ fn entries_of<R: Host>(rt: &R, steps: &[Step]) -> Vec<Made> {
     entries
 }
 
-// Plays the steps, and compares the whole history. What was refused stands nowhere in it.
-fn expect_history<R: Host>(
+/// Plays the steps, and compares the whole history. What was refused stands nowhere in it.
+pub fn expect_history<R: Host>(
     rt: &R,
     steps: &[Step],
     cap: u64,
@@ -153,22 +153,31 @@ fn expect_history<R: Host>(
 {
     let alloc = Refusing::new(rt.alloc());
     let told = record(rt, &alloc, Scene::Steps(steps), cap, entries, passes);
-    let told = told.expect(rt, "a recorder");
+    let (history, told) = told.expect(rt, "a recorder");
     let wanted = entries_of(rt, steps);
-    expect_equal(rt, told.history.entries(), wanted.as_slice());
-    expect_equal(rt, told.refused, refused);
+    expect_equal(rt, history.entries(), wanted.as_slice());
+    expect_equal(rt, told, refused);
+}
+
+/// Makes the calls of the steps on a book, and compares its whole history.
+pub fn expect_book<R: Host>(rt: &R, steps: &[Step], cap: u64, entries: usize)
+    requires positive { 0 < cap }
+    requires fits { cap < 2 ^ 63 }
+{
+    let mut book = Book::new(rt.alloc(), cap, entries).expect(rt, "a book");
+    for step in steps {
+        if let Step::Call(who, call, wanted, _) = *step {
+            let told: Result<Reply<u64, u64>, NoPlace> = book.record(who, call);
+            expect_equal(rt, (call, told), (call, wanted));
+        }
+    }
+    expect_equal(rt, book.history(), entries_of(rt, steps).as_slice());
 }
 
 #[test]
 fn a_recorded_history_of_seven_calls(rt: HostRuntime) {
     expect_history(&rt, &SEVEN, 2, 8, 1, 0);
-    let mut book = Book::new(rt.alloc(), 2, 8).expect(&rt, "a book");
-    for step in SEVEN {
-        if let Step::Call(who, call, wanted, _) = step {
-            expect_equal(&rt, (call, book.record(who, call)), (call, wanted));
-        }
-    }
-    expect_equal(&rt, book.history(), entries_of(&rt, &SEVEN).as_slice());
+    expect_book(&rt, &SEVEN, 2, 8);
 }
 
 #[test]
@@ -179,4 +188,15 @@ fn an_entry_is_refused_memory(rt: HostRuntime) {
 #[test]
 fn two_passes_meet(rt: HostRuntime) {
     expect_history(&rt, &TWO_PASSES, 2, 8, 2, 0);
+}
+
+// As many as any program that runs for long.
+#[test]
+fn a_pass_makes_many_calls(rt: HostRuntime) {
+    let mut steps = Vec::new(rt.alloc());
+    for count in 1..=10_000u64 {
+        let step = Step::Call(0, Call::Len, Ok(Reply::Len(0)), count);
+        steps.push(step).expect(&rt, "memory");
+    }
+    expect_history(&rt, steps.as_slice(), 2, 0, 1, 0);
 }

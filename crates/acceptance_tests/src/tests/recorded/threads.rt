@@ -1,11 +1,11 @@
 //! Threads with a pass each, which call at once.
-use super::{Alloc, Caller, Kept, Made, Passes, Recorder, Scene, call_and_keep, record};
+use super::{Alloc, Asked, Caller, Made, Passes, Recorder, Scene, call_and_keep, record};
+use crate::tests::plain_list::ask_list;
+use crate::tests::watch::arrive;
 use crate::tests::{Host, expect_equal};
 use async_priority_channel::recorded::{Call, Recording, Reply};
-use async_priority_channel::{TryRecvError, TrySendError};
 use refusing::Refusing;
-use std::alloc::Global;
-use std::sync::atomic::{AtomicUsize, Ordering};
+use std::sync::atomic::AtomicUsize;
 use std::{mem, thread};
 
 /// The calls of each thread.
@@ -45,30 +45,15 @@ fn mixed_call(who: u64, i: u64) -> Call<u64, u64> {
     }
 }
 
-// Waits until `count` threads have arrived. It does not sleep, so that they go on at the same
-// moment.
-fn arrive(arrived: &AtomicUsize, count: usize) {
-    arrived.fetch_add(1, Ordering::SeqCst);
-    for _ in 0..u64::MAX {
-        if arrived.load(Ordering::SeqCst) >= count {
-            return;
-        }
-        thread::yield_now();
-    }
-}
-
 // The calls of one thread, and what it kept of them. There is memory for all entries.
 fn call_often<'a, J: Recording, R: Host>(
     rt: &R,
     recorder: &Recorder<'a, J>,
     mut pass: Caller<J>,
     work: Work,
-) -> (Caller<J>, Kept) {
+) -> (Caller<J>, Vec<Asked>) {
     let who = pass.number();
-    let mut kept = Kept {
-        made: Vec::new(rt.alloc()),
-        refused: 0,
-    };
+    let mut kept = Vec::new(rt.alloc());
     for i in 0..work.count() {
         let told = call_and_keep(rt, recorder, &mut pass, &mut kept, work.call(who, i));
         expect_equal(rt, (who, i, told.is_ok()), (who, i, true));
@@ -83,7 +68,7 @@ pub(super) fn call_on_threads<'a, J: Recording + Send + Sync, R: Host>(
     alloc: Alloc<'a>,
     recorder: &Recorder<'a, J>,
     passes: &mut Passes<'a, J>,
-    kept: &mut Kept,
+    kept: &mut Vec<Asked>,
     work: Work,
 ) {
     let all = mem::replace(passes, Vec::new(alloc));
@@ -99,52 +84,7 @@ pub(super) fn call_on_threads<'a, J: Recording + Send + Sync, R: Host>(
     );
     for (pass, own) in called.expect(rt, "memory for the passes") {
         passes.push(pass).expect(rt, "memory");
-        kept.made.extend_from_slice(&own.made).expect(rt, "memory");
-    }
-}
-
-/// A channel as a plain list of its pairs, in the order of their acceptance.
-#[derive(Drop)]
-struct PlainList {
-    pending: Vec<(u64, u64)>,
-}
-
-impl PlainList {
-    fn new(alloc: Global) -> Self {
-        PlainList {
-            pending: Vec::new(alloc),
-        }
-    }
-
-    // None to a call that the threads do not make.
-    fn answer<R: Host>(&mut self, rt: &R, call: Call<u64, u64>) -> Option<Reply<u64, u64>> {
-        match call {
-            Call::TrySend(msg, priority) => Some(self.send(rt, (msg, priority))),
-            Call::TryRecv => Some(self.receive()),
-            Call::Len => Some(Reply::Len(self.pending.len() as u64)),
-            _ => None,
-        }
-    }
-
-    fn send<R: Host>(&mut self, rt: &R, pair: (u64, u64)) -> Reply<u64, u64> {
-        if self.pending.len() as u64 >= CAPACITY {
-            return Reply::Sent(Err(TrySendError::Full(pair)));
-        }
-        self.pending.push(pair).expect(rt, "memory");
-        Reply::Sent(Ok(()))
-    }
-
-    // The first of those that no pair exceeds in priority.
-    fn receive(&mut self) -> Reply<u64, u64> {
-        let greatest = self.pending.iter().map(|pair| pair.1).max();
-        let at = self
-            .pending
-            .iter()
-            .position(|pair| Some(pair.1) == greatest);
-        match at {
-            Some(at) => Reply::Received(Ok(self.pending.remove(at))),
-            None => Reply::Received(Err(TryRecvError::Empty)),
-        }
+        kept.extend_from_slice(&own).expect(rt, "memory");
     }
 }
 
@@ -152,12 +92,12 @@ impl PlainList {
 fn four_threads_record_a_thousand_calls_each(rt: HostRuntime) {
     let alloc = Refusing::new(rt.alloc());
     let told = record(&rt, &alloc, Scene::Threads(Work::Mixed), CAPACITY, 4000, 4);
-    let told = told.expect(&rt, "a recorder");
-    let entries = told.history.entries();
+    let (history, _) = told.expect(&rt, "a recorder");
+    let entries = history.entries();
     expect_equal(&rt, entries.len(), 4000);
-    let mut list = PlainList::new(rt.alloc());
+    let mut list = Vec::new(rt.alloc());
     for entry in entries {
-        let wanted = list.answer(&rt, entry.call);
+        let wanted = ask_list(&rt, &mut list, CAPACITY, entry.call);
         expect_equal(&rt, (*entry, Some(entry.reply)), (*entry, wanted));
     }
 }
@@ -173,8 +113,8 @@ fn count_replies(entries: &[Made], was_open: bool) -> usize {
 fn sixteen_threads_close_a_recorded_channel(rt: HostRuntime) {
     let alloc = Refusing::new(rt.alloc());
     let told = record(&rt, &alloc, Scene::Threads(Work::Close), 1, 16, 16);
-    let told = told.expect(&rt, "a recorder");
-    let entries = told.history.entries();
+    let (history, _) = told.expect(&rt, "a recorder");
+    let entries = history.entries();
     let (closes, others) = (count_replies(entries, true), count_replies(entries, false));
     expect_equal(&rt, (entries.len(), closes, others), (16, 1, 15));
 }
