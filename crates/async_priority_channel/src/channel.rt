@@ -44,10 +44,10 @@ pub fn bounded<T: Drop, P: Ord + Drop, R: Wait + Clone, A: Allocator + Copy>(
     ends(rt, alloc, cap, Core::bounded(alloc, cap))
 }
 
-/// A channel for at most `cap` pending messages, whose memory is reserved here. Until 2^64 - 1
-/// messages were accepted, no later `try_send` or `try_sendv` fails for lack of memory. A sender or
-/// a receiver that has to wait still takes memory for its waiter and for its entry in the
-/// waiting list. The error is that memory was refused.
+/// A channel for at most `cap` pending messages, whose memory is reserved here. No later `try_send`
+/// or `try_sendv` fails for lack of memory, until accepted messages and held places come to
+/// 2^64 - 1. A sender or a receiver that has to wait still takes memory for its waiter and for its
+/// entry in the waiting list. The error is that memory was refused.
 ///
 /// ```
 /// let (tx, rx) = bounded_reserved(&rt, rt.alloc(), 1)?;

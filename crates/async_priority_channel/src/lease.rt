@@ -166,7 +166,7 @@ impl<T: Drop, P: Ord + Drop, R: Wait + Clone, A: Allocator + Copy> fmt::Debug
 
 impl<T: Drop, P: Ord + Drop, R: Wait + Clone, A: Allocator + Copy> Receiver<T, P, R, A> {
     /// Receives a message at once, and keeps its place held. The errors are those of `try_recv`,
-    /// and `Memory` once 2^64 - 1 messages were sent.
+    /// and `Memory` once accepted messages and held places come to 2^64 - 1.
     ///
     /// Cost: as many comparisons of priorities as `try_recv`.
     pub fn try_lease(&self) -> Result<Lease<'_, T, P, R, A>, TryRecvManyError>

@@ -185,8 +185,8 @@
 //! A channel asks its allocator for memory as messages come and as tasks and threads wait. If
 //! memory is refused, nothing is lost: the call returns `Memory`, and gives back what was to be
 //! sent. A loop over `&rx` does not fail but tries again, and a stream asks to be polled again. A
-//! channel of `bounded_reserved` does not return `Memory` to `try_send` and `try_sendv` before it
-//! has accepted 2^64 - 1 messages.
+//! channel of `bounded_reserved` does not return `Memory` to `try_send` and `try_sendv` before the
+//! accepted messages and the held places come to 2^64 - 1.
 //!
 //! ```
 //! let (tx, rx) = bounded_reserved(&rt, rt.alloc(), 100)?;
