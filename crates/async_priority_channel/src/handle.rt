@@ -8,6 +8,7 @@ ghost use Rattle.priority_channel_core.specs.Prelude.{opening, capacity_told};
 ghost use Rattle.async_priority_channel.specs.Handles.{source_of};
 
 use crate::identity::Identity;
+use crate::lock::Lock;
 use futures::task::{Context, Source};
 use priority_channel_core::awaitable_atomics::Wakes;
 use priority_channel_core::side::Side;
@@ -64,7 +65,7 @@ struct Shared<T, P: Ord, A: Allocator + Copy> {
     message: Waits<A>,
     // The source of the tasks that wait for the close.
     closing: Source,
-    guarded: Mutex<Guarded<T, P, A>>,
+    guarded: Lock<Guarded<T, P, A>>,
     // Whether pending messages are dropped when the last receiver is dropped.
     lets_go: AtomicBool,
     identity: Identity,
@@ -168,7 +169,7 @@ impl<T: Drop, P: Ord + Drop, R: Wait + Clone, A: Allocator + Copy> Handle<T, P, 
                     room: Waits::new(alloc),
                     message: Waits::new(alloc),
                     closing: Source::new(),
-                    guarded: Mutex::new(Guarded {
+                    guarded: Lock::new(Guarded {
                         core,
                         closing: Closing::new(alloc),
                     }),
@@ -204,7 +205,7 @@ impl<T, P: Ord, R: Wait + Clone, A: Allocator + Copy> Handle<T, P, R, A> {
     /// waiting lists. If the channel is closed by now, it wakes the waiters for the close too.
     #[inline(always)]
     pub fn release(&self, held: Held<'_, T, P, A>, wakes: Wakes<Waiter<A>, A>) {
-        if let Some(seen) = SeenClosed::of(&held.guarded.core) {
+        if let Some(seen) = held.guarded.closing.due(&held.guarded.core) {
             self.release_closed(held, wakes, seen);
             return;
         }

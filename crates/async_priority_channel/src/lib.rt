@@ -231,6 +231,7 @@ mod identity;
 mod iter;
 pub mod laws;
 mod lease;
+mod lock;
 mod many;
 mod parked;
 mod peek;

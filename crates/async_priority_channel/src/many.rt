@@ -25,10 +25,10 @@ impl<T, P: Ord, R: Wait + Clone, A: Allocator + Copy> Receiver<T, P, R, A> {
     /// call between them.
     ///
     /// The error is that of one receive, also with a `limit` of 0, or `Memory` if there is no
-    /// memory for a first message. It first reads the length, and reserves memory for the pending
-    /// messages. If that is refused, as many messages come as there is capacity for. So fewer may
-    /// come than are pending and than `limit`: what other threads send after the length was read
-    /// may have no memory here.
+    /// memory for a first message. If `batch` has no room for `limit` messages, it first reads the
+    /// length, and reserves memory for the pending messages. If that is refused, as many messages
+    /// come as there is room for. So fewer may come than are pending and than `limit`: what other
+    /// threads send after the length was read may have no memory here.
     ///
     /// ```
     /// let (tx, rx) = unbounded(&rt, rt.alloc())?;
@@ -48,7 +48,7 @@ impl<T, P: Ord, R: Wait + Clone, A: Allocator + Copy> Receiver<T, P, R, A> {
         ensures limited { IfOk result (IsWithin limit) }
         ensures unchanged { OnErr result (batch.new.items ≡ batch.old.items) }
     {
-        reserve(batch, limit, self.len());
+        self.make_room(batch, limit);
         let most = limit.min(batch.capacity() - batch.len());
         let mut held = self.handle.hold();
         let (received, wakes) = held.core().try_recv_many(batch, most);
@@ -57,6 +57,16 @@ impl<T, P: Ord, R: Wait + Clone, A: Allocator + Copy> Receiver<T, P, R, A> {
             Ok(0) if limit > 0 => Err(TryRecvManyError::Memory),
             Ok(count) => Ok(count),
             Err(error) => Err(TryRecvManyError::from(error)),
+        }
+    }
+
+    // Reserves memory for the pending messages. A batch with room for `limit` messages needs no look
+    // at how many are pending.
+    fn make_room<B: Allocator>(&self, batch: &mut Vec<(T, P), B>, limit: usize)
+        ensures { batch.new.items ≡ batch.old.items }
+    {
+        if batch.capacity() - batch.len() < limit {
+            reserve(batch, limit, self.len());
         }
     }
 

@@ -1,5 +1,5 @@
 //! The list of the waiters on one side.
-ghost use Rattle.std.specs.Prelude.{◌≡◌, ℕ, ◌+◌, ◌<◌, ◌≤◌, false, IfSome, IsSome, true, IfNone, None, List, [], ◌++◌, length, option_to_list, ◌^◌, All, HoldsAt};
+ghost use Rattle.std.specs.Prelude.{◌≡◌, ◌↔◌, ℕ, ◌+◌, ◌<◌, ◌≤◌, false, IfSome, IsSome, IsTrue, true, IfNone, None, List, [], ◌++◌, length, option_to_list, ◌^◌, All, HoldsAt};
 ghost use Rattle.priority_channel_bag.specs.Prelude.{digits};
 ghost use Rattle.priority_channel_core.specs.Prelude.{is_listed, is_given_listed, without, with_waker, without_given, IsListing};
 
@@ -35,6 +35,13 @@ impl<W, A: Allocator> WaitingList<W, A> {
         WaitingList {
             entries: Entries::new(alloc),
         }
+    }
+
+    #[inline(always)]
+    pub fn is_empty(&self) -> bool
+        ensures { IsTrue result ↔ (length self.now ≡ 0) }
+    {
+        self.entries.len() == 0
     }
 
     /// The position of the ticket, by binary search.

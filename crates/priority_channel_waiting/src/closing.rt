@@ -1,5 +1,5 @@
 //! The tasks and threads that wait for the close of a channel.
-ghost use Rattle.std.specs.Prelude.{◌≡◌, ◌↔◌, true, [], IsSome};
+ghost use Rattle.std.specs.Prelude.{◌≡◌, ◌↔◌, ◌<◌, true, [], length, IsSome};
 ghost use Rattle.priority_channel_core.specs.Prelude.{without};
 ghost use Rattle.priority_channel_waiting.specs.Closers.{Watches};
 
@@ -86,6 +86,19 @@ impl<A: Allocator> Closing<A> {
 }
 
 impl<A: Allocator + Copy> Closing<A> {
+    /// Evidence that the channel is closed, if anybody waits for the close.
+    #[inline(always)]
+    pub fn due<T, P: Ord>(&self, core: &Core<T, P, A>) -> Option<SeenClosed>
+        ensures { IsSome result
+            ↔ (core.now.state.is_closed ≡ true) × (0 < length self.now.waiters) }
+    {
+        let seen = SeenClosed::of(core)?;
+        if self.waiters.is_empty() {
+            return None;
+        }
+        Some(seen)
+    }
+
     /// Lists a waiter, if the channel is open: under its own ticket if that is listed, otherwise
     /// under the next one.
     pub fn listen<T, P: Ord>(

@@ -51,6 +51,9 @@ impl Spins {
         } else {
             -PAUSE
         };
-        self.credit.store(next, Ordering::Relaxed);
+        // A store of the same would still take the cache line from other processors.
+        if next != credit {
+            self.credit.store(next, Ordering::Relaxed);
+        }
     }
 }
