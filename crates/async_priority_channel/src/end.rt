@@ -146,6 +146,26 @@ impl<S: Role, T, P: Ord, R: Wait + Clone, A: Allocator + Copy> End<S, T, P, R, A
         self.handle.capacity()
     }
 
+    /// Gives back the memory of a queue that was longer: what the channel keeps is for the pending
+    /// messages and the held places, or what `bounded_reserved` has reserved. If a smaller block of
+    /// memory is refused, the channel keeps its own.
+    ///
+    /// Cost: the pending messages may be moved, under the lock.
+    ///
+    /// ```
+    /// let (tx, rx) = unbounded(&rt, rt.alloc())?;
+    /// tx.try_send("Foo", 0)?;
+    /// tx.try_send("Bar", 2)?;
+    /// assert_eq!(rt; rx.try_recv(), Ok(("Bar", 2)));
+    /// rx.shrink_to_fit();
+    /// assert_eq!(rt; rx.try_recv(), Ok(("Foo", 0)));
+    /// ```
+    pub fn shrink_to_fit(&self) {
+        let mut held = self.handle.hold();
+        held.core().shrink_to_fit();
+        held.unlock();
+    }
+
     /// Whether the other is a handle of the same channel, and as this one a sender or a receiver.
     ///
     /// A channel draws 128 random bits when it is compared for the first time, and is identified by

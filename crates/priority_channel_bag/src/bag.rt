@@ -115,6 +115,16 @@ impl<T, P: Ord, A: Allocator> Bag<T, P, A> {
         self.items.reserve(held as usize + 1)
     }
 
+    /// Gives free slots back, but keeps `least` slots where there are as many. If a smaller block of
+    /// memory is refused, all slots stay.
+    pub fn shrink_to(&mut self, least: u64)
+        ensures same { self.new ≡ record self.old { slots = self.new.slots } }
+        ensures fewer { self.new.slots ≤ self.old.slots }
+        ensures kept { least ≤ self.old.slots → least ≤ self.new.slots }
+    {
+        self.items.shrink_to(least as usize);
+    }
+
     /// The number of pending pairs.
     #[inline(always)]
     #[tactic(auto, using(crate::proofs::Kept::length_in_order))]
