@@ -2,6 +2,7 @@
 use crate::event::{Event, Rank};
 use async_priority_channel::{Sender, TrySendError, WeakSender};
 use std::alloc::AllocGlobal;
+use std::io::{BufRead, BufReader};
 use std::sync::Wait;
 use std::thread;
 use std::time::{Clock, Duration};
@@ -14,7 +15,8 @@ pub fn post_lines<R: Input + AllocGlobal + Wait + Clone>(
     rt: &R,
     events: &Sender<Event, Rank, R>,
 ) -> anyhow::Result<()> {
-    for line in rt.lines(rt.alloc()) {
+    let input = BufReader::new(rt.alloc(), rt.reader())?;
+    for line in input.lines(rt.alloc()) {
         events.send_blocking(Event::Line(line?), Rank::Urgent)?;
     }
     Ok(())

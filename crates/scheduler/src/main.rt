@@ -13,6 +13,7 @@ mod server;
 
 use desk::{Desk, Wish};
 use std::alloc::AllocGlobal;
+use std::io::{BufRead, BufReader};
 use std::sync::Wait;
 use std::thread;
 use std::time::{Clock, Duration};
@@ -36,7 +37,8 @@ fn ask_all<R>(rt: &R, desk: &mut Desk<R>) -> anyhow::Result<()>
 where
     R: Wait + Clone + Clock + Input + Print + AllocGlobal,
 {
-    for line in rt.lines(rt.alloc()) {
+    let input = BufReader::new(rt.alloc(), rt.reader())?;
+    for line in input.lines(rt.alloc()) {
         let line = line?;
         let words: Vec<&str> = line.split_whitespace().collect(rt.alloc())?;
         match words.as_slice() {
