@@ -1,6 +1,8 @@
 //! Memory that is not the channel's: a batch's, and that of priorities.
 use super::expect_equal;
-use async_priority_channel::{RecvTimeoutError, TryRecvManyError, unbounded};
+use async_priority_channel::{
+    RecvTimeoutError, TryRecvManyError, TrySendError, bounded_reserved, unbounded,
+};
 use refusing::Refusing;
 use std::time::Duration;
 
@@ -44,5 +46,44 @@ fn a_refused_clone_of_a_priority_is_an_error(rt: HostRuntime) {
     expect_equal(&rt, rx.peek_priority().is_err(), true);
     // To look takes none, and nothing was taken.
     expect_equal(&rt, rx.peek_with(|msg, _| *msg), Some('h'));
+    expect_equal(&rt, rx.len(), 2);
+}
+
+// What is pending keeps its memory, and so does a held place.
+#[test]
+fn the_memory_of_a_longer_queue_is_given_back(rt: HostRuntime) {
+    let alloc = Refusing::new(rt.alloc());
+    let (tx, rx) = unbounded(&rt, &alloc).expect(&rt, "a channel");
+    for number in 0..100u64 {
+        expect_equal(&rt, tx.try_send(number, number), Ok(()));
+    }
+    for number in 0..98u64 {
+        expect_equal(&rt, rx.try_recv(), Ok((99 - number, 99 - number)));
+    }
+    let permit = tx.try_reserve().expect(&rt, "a place");
+    alloc.refuse_all();
+    rx.shrink_to_fit();
+    // A smaller block was refused, so nothing has changed.
+    expect_equal(&rt, tx.try_send(7, 7), Ok(()));
+    expect_equal(&rt, rx.try_recv(), Ok((7, 7)));
+    alloc.refuse_none();
+    rx.shrink_to_fit();
+    alloc.refuse_all();
+    expect_equal(&rt, tx.try_send(8, 8), Err(TrySendError::Memory((8, 8))));
+    permit.send(9, 9);
+    for number in [9, 1, 0u64] {
+        expect_equal(&rt, rx.try_recv(), Ok((number, number)));
+    }
+}
+
+#[test]
+fn a_reserved_channel_keeps_its_memory(rt: HostRuntime) {
+    let alloc = Refusing::new(rt.alloc());
+    let (tx, rx) = bounded_reserved(&rt, &alloc, 2).expect(&rt, "a channel");
+    tx.shrink_to_fit();
+    alloc.refuse_all();
+    for number in [1, 2u64] {
+        expect_equal(&rt, tx.try_send(number, number), Ok(()));
+    }
     expect_equal(&rt, rx.len(), 2);
 }

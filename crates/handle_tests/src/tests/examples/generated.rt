@@ -215,6 +215,16 @@ fn example_of_end_close_when_done(rt: HostRuntime) {
 }
 
 #[test]
+fn example_of_end_shrink_to_fit(rt: HostRuntime) {
+    let (tx, rx) = unbounded(&rt, rt.alloc()).expect(&rt, "unbounded");
+    tx.try_send("Foo", 0).expect(&rt, "try_send");
+    tx.try_send("Bar", 2).expect(&rt, "try_send");
+    expect_equal(&rt, rx.try_recv(), Ok(("Bar", 2)));
+    rx.shrink_to_fit();
+    expect_equal(&rt, rx.try_recv(), Ok(("Foo", 0)));
+}
+
+#[test]
 fn example_of_end_same_channel(rt: HostRuntime) {
     let (tx, _rx) = unbounded::<&str, u64, _, _>(&rt, rt.alloc()).expect(&rt, "unbounded");
     let (other, _other_rx) = unbounded(&rt, rt.alloc()).expect(&rt, "unbounded");
