@@ -3,7 +3,7 @@
 use crate::load::Load;
 use anyhow::{bail, ensure};
 use async_priority_channel::{
-    Ends, Receiver, Sender, TryRecvError, TrySendError, bounded, unbounded,
+    Ends, Receiver, Sender, TryRecvError, TryRecvManyError, TrySendError, bounded, unbounded,
 };
 use futures::StreamExt;
 use futures::executor::block_on;
@@ -24,15 +24,18 @@ pub enum Calls {
     Try,
     /// `send_blocking` and `recv_blocking`.
     Blocking,
+    /// `try_send`, and `try_lease` with `finish`.
+    Lease,
     /// `block_on` of `send` and of `recv`, for each message.
     Future,
     /// `block_on` of `sendv` and of a fold over a stream, for all; for one message as `Future`.
     Stream,
 }
 
-pub const CALLS: [(&str, Calls); 4] = [
+pub const CALLS: [(&str, Calls); 5] = [
     ("try", Calls::Try),
     ("blocking", Calls::Blocking),
+    ("lease", Calls::Lease),
     ("future", Calls::Future),
     ("stream", Calls::Stream),
 ];
@@ -42,7 +45,7 @@ impl Calls {
     /// clears much memory as it begins, which would be timed with each message.
     pub fn send<R: Host>(self, rt: &R, tx: &Sender<u64, i64, R>, msg: u64, priority: i64) -> bool {
         match self {
-            Calls::Try => send_by_tries(tx, msg, priority),
+            Calls::Try | Calls::Lease => send_by_tries(tx, msg, priority),
             Calls::Blocking => send_by_waits(tx, msg, priority),
             Calls::Future | Calls::Stream => send_by_future(rt, tx, msg, priority),
         }
@@ -53,6 +56,7 @@ impl Calls {
         match self {
             Calls::Try => recv_by_tries(rx),
             Calls::Blocking => recv_by_waits(rx),
+            Calls::Lease => recv_by_leases(rx),
             Calls::Future | Calls::Stream => recv_by_future(rt, rx),
         }
     }
@@ -118,6 +122,18 @@ fn recv_by_tries<R: Wait + Clone>(rx: &Receiver<u64, i64, R>) -> Option<u64> {
             Ok((msg, _)) => return Some(msg),
             Err(TryRecvError::Empty) => thread::yield_now(),
             Err(TryRecvError::Closed) => return None,
+        }
+    }
+    None
+}
+
+#[inline(never)]
+fn recv_by_leases<R: Wait + Clone>(rx: &Receiver<u64, i64, R>) -> Option<u64> {
+    for _ in 0..u64::MAX {
+        match rx.try_lease() {
+            Ok(lease) => return Some(lease.finish().0),
+            Err(TryRecvManyError::Empty) => thread::yield_now(),
+            Err(TryRecvManyError::Closed | TryRecvManyError::Memory) => return None,
         }
     }
     None

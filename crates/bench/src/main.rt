@@ -8,6 +8,8 @@
 
 mod calls;
 mod choosing;
+mod crawl;
+mod delays;
 mod handles;
 mod load;
 mod measure;
@@ -31,7 +33,7 @@ use std::time::CpuClock;
 use threads::Machine;
 
 // Each ends with its count of messages.
-const ROWS: [&str; 24] = [
+const ROWS: [&str; 28] = [
     // How priorities come, how many pairs are pending.
     "core random 0 1000",
     "core equal 100 1000",
@@ -48,6 +50,7 @@ const ROWS: [&str; 24] = [
     "handles try 0 1000",
     "handles blocking 100 1000",
     "handles future 100 1000",
+    "handles lease 100 1000",
     // How many messages are pending.
     "witnessed 100 1000",
     // How many messages go in one call.
@@ -61,6 +64,11 @@ const ROWS: [&str; 24] = [
     "workers try 1 1 100",
     "workers blocking 4 1 100",
     "workers future 4 16 160",
+    // How many workers.
+    "crawl 4 1000",
+    // By which calls, of how many of a thousand calls, how many threads a side, and which capacity.
+    "delay blocking 999 4 10 1600",
+    "delay try 1000 4 10 1600",
     // By which calls.
     "wake blocking 20",
     "wake future 20",
@@ -92,6 +100,7 @@ fn run<R: Machine + CpuClock + Files>(rt: R, row: &str) -> anyhow::Result<Measur
     match (words.as_slice(), numbers.as_slice()) {
         (["witnessed", _, _], [pending, count]) => witnessed::steady(&rt, *pending, *count),
         (["batches", _, _], [size, count]) => handles::batches(&rt, *size, *count),
+        (["crawl", _, _], [workers, count]) => crawl::crawl(rt, *workers, *count),
         (["memory", "core", _], [count]) => memory::core(&rt, *count),
         (["memory", "handles", _], [count]) => memory::handles(&rt, *count),
         ([name, word, ..], numbers) => run_named(rt, name, word, numbers),
@@ -124,6 +133,9 @@ where
         }
         ("workers", [workers, jobs, count]) => {
             workers::workers(rt, calls, *workers, *jobs, *count)
+        }
+        ("delay", [permille, threads, capacity, count]) => {
+            delays::delay(rt, calls, *permille, *threads, *capacity, *count)
         }
         ("wake", [count]) => workers::wake(rt, calls, *count),
         _ => bail!("no row of calls: {name} {numbers:?}"),

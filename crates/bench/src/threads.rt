@@ -11,13 +11,16 @@ pub trait Machine: Host + Threads + Copy + Clock + Send + 'static {}
 impl<R: Host + Threads + Copy + Clock + Send + 'static> Machine for R {}
 
 /// It gives the sum of what came to it.
-pub type Thread = JoinHandle<anyhow::Result<u64>>;
+pub type Thread = Giving<u64>;
+
+pub type Giving<X> = JoinHandle<anyhow::Result<X>>;
 
 /// So many threads, of which each is started with its number.
-pub fn start_all<R, F>(rt: &R, count: u64, mut start: F) -> anyhow::Result<Vec<Thread>>
+pub fn start_all<R, X, F>(rt: &R, count: u64, mut start: F) -> anyhow::Result<Vec<Giving<X>>>
 where
     R: AllocGlobal,
-    F: FnMut(u64) -> anyhow::Result<Thread>,
+    X: Drop,
+    F: FnMut(u64) -> anyhow::Result<Giving<X>>,
     requires { F.IsAlwaysCallable start }
 {
     let mut threads = Vec::new(rt.alloc());
