@@ -9,6 +9,7 @@ mod either;
 mod halts;
 mod limits;
 mod places;
+mod pools;
 mod queue;
 mod refusals;
 mod soak;
