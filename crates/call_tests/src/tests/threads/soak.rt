@@ -1,6 +1,6 @@
-//! Rounds of threads that send and receive by drawn calls over a drawn channel. Each message comes
-//! once or comes back, those of one sender and one priority come in their order, and each round
-//! ends.
+//! Rounds of threads that send and receive by drawn calls over a drawn channel, and hold places of
+//! it now and then. Each message comes once or comes back, those of one sender and one priority come
+//! in their order, what is held counts, and each round ends.
 //!
 //! The test runs a few rounds, and `tools/soak` runs it for minutes, from another seed.
 use super::Threaded;
@@ -15,11 +15,14 @@ use crate::tests::{Host, expect_equal_at};
 use async_priority_channel::{
     End, Ends, Receiver, Role, Sender, bounded, bounded_reserved, unbounded,
 };
+use holds::{hold_messages, hold_places};
 use refusing::Refusing;
 use std::alloc::{AllocError, AllocGlobal};
 use std::env;
 use std::thread::{self, JoinHandle};
 use std::time::{Duration, Instant};
+
+mod holds;
 
 const PRIORITIES: u64 = 8;
 
@@ -31,6 +34,9 @@ const REQUESTS: u64 = 6;
 
 // How many messages there is room for at most.
 const ROOM: u64 = 12;
+
+// One turn of so many holds places in place of a call.
+const HOLDS: u64 = 6;
 
 const ROUNDS: u64 = 24;
 
@@ -44,6 +50,8 @@ struct Round {
     receivers: u64,
     /// Where the first sender closes the channel: how many messages it has settled then.
     close_at: Option<u64>,
+    /// Whether that close is one for when all is done.
+    is_late: bool,
     /// Whether priorities are changed and messages are put back, so that no order can be told.
     changes: bool,
     /// Whether all calls are such that wait without a limit, so that no other helps out where one
@@ -59,6 +67,7 @@ impl Round {
             senders: dice.between(1, 5),
             receivers: dice.between(1, 5),
             close_at: (dice.below(2) == 0).then_some(dice.below(100)),
+            is_late: dice.below(2) == 0,
             changes: dice.below(4) == 0,
             only_waits: dice.below(2) == 0,
         }
@@ -210,14 +219,22 @@ fn send_all<R: Threaded>(
     for _ in 0..u64::MAX {
         let settled = log.fates.len() as u64;
         if number == 0 && round.close_at.is_some_and(|at| at <= settled) {
-            tx.close();
+            if round.is_late {
+                tx.close_when_done();
+            } else {
+                tx.close();
+            }
         }
         let left = round.each.saturating_sub(settled);
         if left == 0 || tx.is_closed() {
             break;
         }
-        let call = draw_call(&mut dice, &calls);
         let first = number.wrapping_mul(round.each).wrapping_add(settled);
+        if dice.below(HOLDS) == 0 {
+            hold_places(rt, tx, round, (first, left), &mut dice, &mut log);
+            continue;
+        }
+        let call = draw_call(&mut dice, &calls);
         let input = draw_input(&mut dice, first, left);
         let other = draw_other(&mut dice, tx);
         let reply = send(rt, other.as_ref().unwrap_or(tx), call, input);
@@ -226,7 +243,7 @@ fn send_all<R: Threaded>(
     log
 }
 
-// Until the channel is closed and empty. Memory for a batch may be refused.
+// Until the channel is closed and all is done. Memory for a batch may be refused.
 fn receive_all<R: Threaded>(
     rt: &R,
     rx: &Receiver<u64, u64, R>,
@@ -237,8 +254,13 @@ fn receive_all<R: Threaded>(
     let calls = round.calls(rt, Side::Receiver);
     let mut log = Log::new(rt);
     for _ in 0..u64::MAX {
-        if rx.is_closed() && rx.is_empty() {
+        // In this order: what is held later is in the hands of receivers, who go on.
+        if rx.is_closed() && rx.held() == 0 && rx.is_empty() {
             break;
+        }
+        if dice.below(HOLDS) == 0 {
+            hold_messages(rt, rx, round, &mut dice, &mut log);
+            continue;
         }
         let call = draw_call(&mut dice, &calls);
         let any = dice.below(round.count());
@@ -303,8 +325,8 @@ fn run_round<R: Threaded>(rt: &R, seed: u64) {
     let (tx, rx) = open(rt, &mut dice);
     let threads = start(rt, (tx, &rx), round, &mut dice);
     let logs = within(rt, round, || join_all(rt, threads));
-    let left = (rx.len(), rx.sender_count(), rx.receiver_count());
-    expect_equal_at(rt, (round, "what is left"), left, (0, 0, 1));
+    let left = (rx.len(), rx.held(), rx.sender_count(), rx.receiver_count());
+    expect_equal_at(rt, (round, "what is left"), left, (0, 0, 0, 1));
     settle(rt, round, &logs);
 }
 
