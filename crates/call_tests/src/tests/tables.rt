@@ -3,8 +3,10 @@ use super::driver::calls::{Call, Input, Pairs};
 use super::driver::handles::Handles;
 use super::driver::model::Model;
 use super::driver::reply::Reply;
+use super::threads::Threaded;
 use super::{Host, expect_equal_at};
 use async_priority_channel::Ends;
+use refusing::watch::Watch;
 use std::alloc::{Allocator, Global};
 use std::fmt::Debug;
 use std::sync::Wait;
@@ -24,6 +26,21 @@ fn input(first: u64, count: u64, most: usize) -> Input {
         limit: Duration::ZERO,
         chosen: 2,
     }
+}
+
+// Makes the rounds of a table. One that hangs fails soon, and is named.
+fn watch_rounds<R: Threaded, N: Debug + Drop + Send, F: FnOnce()>(
+    rt: &R,
+    watch: &Watch<N>,
+    rounds: F,
+)
+    requires { F.pre rounds }
+{
+    watch.over(
+        rt,
+        |round| panic!(rt; "waited too long at {round:?}"),
+        rounds,
+    )
 }
 
 /// A channel, and the model beside it.

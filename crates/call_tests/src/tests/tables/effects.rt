@@ -1,5 +1,5 @@
 //! What each call does to a task that waits: whether it wakes it, and that it waits on otherwise.
-use super::{Mirrored, input};
+use super::{Mirrored, input, watch_rounds};
 use crate::tests::driver::all::ALL;
 use crate::tests::driver::calls::{Call, Input, Side, Way, is_for_close};
 use crate::tests::driver::either::tell_closed;
@@ -13,6 +13,7 @@ use async_priority_channel::bounded;
 use futures::task::Poll;
 use futures::test::MockTask;
 use futures::{Future, StreamExt};
+use refusing::watch::Watch;
 
 const CAPACITY: u64 = 3;
 
@@ -197,17 +198,21 @@ fn wake_sender<R: Host>(rt: &R, round: Round) {
 
 #[test]
 fn a_task_is_woken_by_what_it_waits_for(rt: HostRuntime) {
-    for situation in SITUATIONS {
-        for waiting in WAITING {
-            for call in ALL {
-                for input in inputs() {
-                    let round = (situation, waiting, call, input);
-                    match waiting.side() {
-                        Side::Sender => wake_sender(&rt, round),
-                        Side::Receiver => wake_receiver(&rt, round),
+    let watch = Watch::new(None);
+    watch_rounds(&rt, &watch, || {
+        for situation in SITUATIONS {
+            for waiting in WAITING {
+                for call in ALL {
+                    for input in inputs() {
+                        let round = (situation, waiting, call, input);
+                        watch.begin(&rt, Some(round));
+                        match waiting.side() {
+                            Side::Sender => wake_sender(&rt, round),
+                            Side::Receiver => wake_receiver(&rt, round),
+                        }
                     }
                 }
             }
         }
-    }
+    });
 }

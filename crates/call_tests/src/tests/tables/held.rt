@@ -1,10 +1,11 @@
 //! Places that are held: each call beside those that others hold, what comes of them afterwards, and
 //! whom that wakes.
-use super::{Mirrored, input};
+use super::{Mirrored, input, watch_rounds};
 use crate::tests::driver::all::ALL;
 use crate::tests::driver::calls::{Call, Side, Way};
 use crate::tests::{Host, expect_equal_at, expect_true, new_task, ready};
 use async_priority_channel::{Permit, Receiver, RecvError, RecvFault, Sender, bounded};
+use refusing::watch::Watch;
 
 const CAPACITY: u64 = 3;
 
@@ -80,26 +81,28 @@ fn play<R: Host>(rt: &R, round: Round) {
 
 #[test]
 fn each_call_answers_as_the_model_beside_held_places(rt: HostRuntime) {
-    for held in 0..=CAPACITY {
-        for pending in 0..=CAPACITY.saturating_sub(held) {
-            for before in BEFORE {
-                for call in ALL {
-                    for after in AFTER {
-                        play(
-                            &rt,
-                            Round {
+    let watch = Watch::new(None);
+    watch_rounds(&rt, &watch, || {
+        for held in 0..=CAPACITY {
+            for pending in 0..=CAPACITY.saturating_sub(held) {
+                for before in BEFORE {
+                    for call in ALL {
+                        for after in AFTER {
+                            let round = Round {
                                 held,
                                 pending,
                                 before,
                                 call,
                                 after,
-                            },
-                        );
+                            };
+                            watch.begin(&rt, Some(round));
+                            play(&rt, round);
+                        }
                     }
                 }
             }
         }
-    }
+    });
 }
 
 /// What the channel was told while the place was held.

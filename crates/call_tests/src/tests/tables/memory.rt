@@ -1,6 +1,6 @@
 //! Each request for memory is refused in turn: what was accepted comes out, what was not comes
 //! back, and the channel goes on.
-use super::{Mirrored, input};
+use super::{Mirrored, input, watch_rounds};
 use crate::tests::driver::all::ALL;
 use crate::tests::driver::calls::{Call, Input, Side, Way};
 use crate::tests::driver::model::Model;
@@ -8,6 +8,7 @@ use crate::tests::driver::reply::{Outcome, Reply};
 use crate::tests::{Host, expect_equal_at, expect_true};
 use async_priority_channel::{End, Ends, Role, bounded, bounded_reserved, unbounded};
 use refusing::Refusing;
+use refusing::watch::Watch;
 use std::alloc::{AllocError, Allocator, Global};
 use std::sync::Wait;
 
@@ -100,17 +101,22 @@ fn refuse<'a, R: Host>(
 #[test]
 fn no_call_loses_what_is_refused_memory(rt: HostRuntime) {
     let alloc = Refusing::new(rt.alloc());
-    for pending in PENDING {
-        for call in ALL {
-            for n in 1..MOST {
-                let ends = bounded(&rt, &alloc, CAPACITY).expect(&rt, "a channel");
-                if refuse(&rt, &alloc, ends, (pending, false, call, n)) {
-                    break;
+    let watch = Watch::new(None);
+    watch_rounds(&rt, &watch, || {
+        for pending in PENDING {
+            for call in ALL {
+                for n in 1..MOST {
+                    let ends = bounded(&rt, &alloc, CAPACITY).expect(&rt, "a channel");
+                    let round = (pending, false, call, n);
+                    watch.begin(&rt, Some(round));
+                    if refuse(&rt, &alloc, ends, round) {
+                        break;
+                    }
+                    expect_equal_at(&rt, call, n < MOST - 1, true);
                 }
-                expect_equal_at(&rt, call, n < MOST - 1, true);
             }
         }
-    }
+    });
 }
 
 // Whether a future finds nothing that it could do at once.
@@ -127,17 +133,21 @@ fn is_blocked(call: Call, pending: u64, is_closed: bool) -> bool {
 #[test]
 fn a_reserved_channel_takes_memory_for_waiting_alone(rt: HostRuntime) {
     let alloc = Refusing::new(rt.alloc());
-    for pending in PENDING {
-        for is_closed in [false, true] {
-            for call in ALL {
-                if takes_none(call, is_blocked(call, pending, is_closed)) {
-                    let ends = bounded_reserved(&rt, &alloc, CAPACITY).expect(&rt, "a channel");
-                    let round = (pending, is_closed, call, 1);
-                    expect_equal_at(&rt, round, refuse(&rt, &alloc, ends, round), true);
+    let watch = Watch::new(None);
+    watch_rounds(&rt, &watch, || {
+        for pending in PENDING {
+            for is_closed in [false, true] {
+                for call in ALL {
+                    if takes_none(call, is_blocked(call, pending, is_closed)) {
+                        let ends = bounded_reserved(&rt, &alloc, CAPACITY).expect(&rt, "a channel");
+                        let round = (pending, is_closed, call, 1);
+                        watch.begin(&rt, Some(round));
+                        expect_equal_at(&rt, round, refuse(&rt, &alloc, ends, round), true);
+                    }
                 }
             }
         }
-    }
+    });
 }
 
 #[test]

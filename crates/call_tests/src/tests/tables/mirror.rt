@@ -1,10 +1,12 @@
 //! Random calls of all kinds: each answers as the plain model does, and so do all looks after it.
-use super::Mirrored;
+use super::{Mirrored, watch_rounds};
 use crate::tests::dice::Dice;
 use crate::tests::driver::all::ALL;
 use crate::tests::driver::calls::{Call, Input, Pairs, Side};
-use crate::tests::{Host, expect_true};
+use crate::tests::expect_true;
+use crate::tests::threads::Threaded;
 use async_priority_channel::{Ends, bounded, bounded_reserved, unbounded};
+use refusing::watch::Watch;
 use std::time::Duration;
 
 // From the second number of calls on the channel may be closed, and lose its last handles.
@@ -55,18 +57,22 @@ fn draw_input(dice: &mut Dice, round: u64, spread: u64) -> Input {
     }
 }
 
-fn mirror<R: Host>(rt: &R, ends: Ends<u64, u64, R>, capacity: u64, spread: u64) {
+fn mirror<R: Threaded>(rt: &R, ends: Ends<u64, u64, R>, capacity: u64, spread: u64) {
     let mut mirrored = Mirrored::new(rt, rt.alloc(), ends, capacity, (1, 1));
     let mut dice = Dice::new(capacity);
-    for round in 0..CALLS {
-        let call = draw_call(&mut dice, round);
-        let input = draw_input(&mut dice, round, spread);
-        if !mirrored.model.waits(call, input) {
-            mirrored.agree(rt, round, call, input);
-            mirrored.agree(rt, (round, call), Call::Look(Side::Sender), input);
-            mirrored.agree(rt, (round, call), Call::Look(Side::Receiver), input);
+    let watch = Watch::new(None);
+    watch_rounds(rt, &watch, || {
+        for round in 0..CALLS {
+            let call = draw_call(&mut dice, round);
+            let input = draw_input(&mut dice, round, spread);
+            if !mirrored.model.waits(call, input) {
+                watch.begin(rt, Some((capacity, round, call, input)));
+                mirrored.agree(rt, round, call, input);
+                mirrored.agree(rt, (round, call), Call::Look(Side::Sender), input);
+                mirrored.agree(rt, (round, call), Call::Look(Side::Receiver), input);
+            }
         }
-    }
+    });
     expect_true(rt, mirrored.model.is_closed, "the end is seen too");
 }
 
