@@ -14,6 +14,7 @@
 //! - `-- what it shows` begins a story, which has no names of those before.
 use async_priority_channel::bounded_reserved;
 use refusing::Refusing;
+use refusing::watch::Watch;
 use std::alloc::{Allocator, Global};
 use std::collections::BTreeMap;
 
@@ -34,6 +35,8 @@ struct Ground<'m, R: Host, A: Allocator + Copy> {
     memory: &'m Refusing<Global>,
     alloc: A,
     title: Text,
+    // It stands at the step that is played.
+    watch: Watch<Text>,
 }
 
 fn open<R: Host, A: Allocator + Copy>(
@@ -91,6 +94,7 @@ fn play_step<R: Host, A: Allocator + Copy>(
     step: Text,
 ) {
     let rt = ground.rt;
+    ground.watch.begin(rt, step);
     let (call, wanted) = step.split_once('=').unwrap_or((step, ""));
     let call: Vec<Text> = call
         .split_whitespace()
@@ -131,7 +135,15 @@ fn play_lending<R: Host, A: Allocator + Copy>(
     play(ground, &mut stage, script);
 }
 
-/// Plays a script, and ends with a failure at the first step whose answer is another.
+// A step that hangs fails soon, and is named.
+fn watch_story<R: Host, A: Allocator + Copy>(ground: &Ground<'_, R, A>, steps: Text) {
+    let (rt, title) = (ground.rt, ground.title);
+    let fail = |step: &Text| panic!(rt; "{title}: it hangs at {step}");
+    ground.watch.over(rt, fail, || play_story(ground, steps));
+}
+
+/// Plays a script, and ends with a failure at the first step whose answer is another, or that does
+/// not end.
 pub fn run<R: Host>(rt: &R, script: Text) {
     for story in script.split("--") {
         let memory = Refusing::new(rt.alloc());
@@ -141,7 +153,8 @@ pub fn run<R: Host>(rt: &R, script: Text) {
             memory: &memory,
             alloc: &memory,
             title,
+            watch: Watch::new(title),
         };
-        play_story(&ground, steps);
+        watch_story(&ground, steps);
     }
 }

@@ -5,13 +5,14 @@ use std::iter::Peekable;
 use std::process::Abort;
 use std::random::RandomSource;
 use std::sync::Wait;
+use std::thread::Threads;
 use std::time::Clock;
 use std::vec::IntoIter;
 
 /// What a test's runtime can do.
-pub trait Host: Wait + Clone + Clock + RandomSource + AllocGlobal + Abort {}
+pub trait Host: Wait + Clone + Clock + RandomSource + AllocGlobal + Abort + Threads + Sync {}
 
-impl<R: Wait + Clone + Clock + RandomSource + AllocGlobal + Abort> Host for R {}
+impl<R: Wait + Clone + Clock + RandomSource + AllocGlobal + Abort + Threads + Sync> Host for R {}
 
 /// A script, and each word of it.
 pub type Text = &'static str;
