@@ -1,9 +1,10 @@
 //! Pools of workers over leases: what a worker gives up comes to another one, and a channel that is
 //! told to close when all is done closes neither early nor never.
+use super::either::long;
 use super::watch::{beside, within};
 use super::{Threaded, let_others_wait, wait_until};
 use crate::tests::dice::Dice;
-use crate::tests::driver::calls::{Call, Input, Pairs, Way};
+use crate::tests::driver::calls::{Call, Input, Pairs, Side, Way};
 use crate::tests::driver::receive::receive;
 use crate::tests::driver::reply::{Outcome, Reply};
 use crate::tests::{Host, expect_equal_at, expect_true};
@@ -12,7 +13,7 @@ use std::iter::once;
 use std::sync::Wait;
 use std::sync::atomic::{AtomicBool, AtomicU64, Ordering};
 use std::thread;
-use std::time::{Clock, Duration};
+use std::time::Clock;
 
 const WORKERS: usize = 16;
 
@@ -96,13 +97,12 @@ fn workers_that_fail_at_random_finish_each_message_once(rt: HostRuntime) {
     }
 }
 
-/// What is told to the channel while its only message is in hand.
-#[derive(Clone, Copy, Debug)]
-enum Told {
-    Nothing,
-    Close,
-    CloseWhenDone,
-}
+// What is called while the last message is in hand.
+const CALLED: [Option<Call>; 3] = [
+    None,
+    Some(Call::Close(Side::Receiver)),
+    Some(Call::CloseWhenDone(Side::Receiver)),
+];
 
 // Has no strength for a second message: it ends with that one in hand, once another waits for it.
 fn die<R: Wait + Clone + Clock>(
@@ -122,13 +122,19 @@ fn die<R: Wait + Clone + Clock>(
     Some(())
 }
 
-// How another waits for what it may take over, and what it is told then.
-fn take_over<R: Threaded>(rt: &R, way: Way, told: Told) {
+// Another waits in this way for the message of one that dies, and gets it.
+fn take_over<R: Threaded>(rt: &R, way: Way, called: Option<Call>) {
     let (tx, rx) = bounded(rt, rt.alloc(), 2).expect(rt, "a channel");
     for pair in [(6u64, 6u64), (7, 5)] {
         expect_true(rt, tx.try_send(pair.0, pair.1).is_ok(), "there is room");
     }
-    let round = ("a message of one that died", way, told);
+    let input = Input {
+        pairs: Pairs::new(0, 0, 1),
+        most: 1,
+        limit: long(),
+        chosen: 0,
+    };
+    let round = ("a message of one that died", way, called);
     let is_in_hand = AtomicBool::new(false);
     let (died, reply) = beside(
         rt,
@@ -136,42 +142,24 @@ fn take_over<R: Threaded>(rt: &R, way: Way, told: Told) {
         || die(rt, &rx, &is_in_hand),
         || {
             wait_until(rt, || is_in_hand.load(Ordering::SeqCst));
-            match told {
-                Told::Nothing => {}
-                Told::Close => expect_true(rt, tx.close(), "it was open"),
-                Told::CloseWhenDone => tx.close_when_done(),
+            if let Some(call) = called {
+                let _ = receive(rt, rt.alloc(), &rx, call, input);
             }
-            lease_by(rt, &rx, way)
+            receive(rt, rt.alloc(), &rx, Call::Lease(way), input)
         },
     );
     expect_equal_at(rt, round, died, None);
-    expect_equal_at(
-        rt,
-        round,
-        reply,
-        Reply::with(rt, Outcome::Done, once((7, 5))),
-    );
-    let is_closed = !matches!(told, Told::Nothing);
+    let wanted = Reply::with(rt, Outcome::Done, once((7, 5)));
+    expect_equal_at(rt, round, reply, wanted);
     let left = (rx.len(), rx.held(), rx.is_closed());
-    expect_equal_at(rt, round, left, (0, 0, is_closed));
-}
-
-// Takes a message, and finishes it.
-fn lease_by<R: Threaded>(rt: &R, rx: &Receiver<u64, u64, R>, way: Way) -> Reply {
-    let input = Input {
-        pairs: Pairs::new(0, 0, 1),
-        most: 1,
-        limit: Duration::from_secs(60),
-        chosen: 0,
-    };
-    receive(rt, rt.alloc(), rx, Call::Lease(way), input)
+    expect_equal_at(rt, round, left, (0, 0, called.is_some()));
 }
 
 #[test]
 fn another_worker_goes_on_with_the_message_of_one_that_dies(rt: HostRuntime) {
     for way in [Way::Blocking, Way::Timeout, Way::Future] {
-        for told in [Told::Nothing, Told::Close, Told::CloseWhenDone] {
-            take_over(&rt, way, told);
+        for called in CALLED {
+            take_over(&rt, way, called);
         }
     }
 }
