@@ -37,57 +37,49 @@ fn expect_debug<R: Abort + AllocGlobal>(rt: &R, error: impl Error, wanted: &str)
 }
 
 #[test]
-fn texts_of_the_errors(rt: HostRuntime) {
+fn each_error_prints_its_texts_whatever_it_holds(rt: HostRuntime) {
+    // texts of the errors
     expect_text(&rt, TryRecvError::Empty, RECV_EMPTY);
     expect_text(&rt, TryRecvError::Closed, RECV_CLOSED);
     expect_text(&rt, TrySendError::Full(1), SEND_FULL);
     expect_text(&rt, SendError(1), SEND_CLOSED);
+    expect_text(&rt, RecvError, RECV_CLOSED);
+    expect_text(&rt, SendError(Opaque), SEND_CLOSED);
+    expect_text(&rt, TrySendError::Full(Opaque), SEND_FULL);
+    expect_text(&rt, TrySendError::Closed(Opaque), SEND_CLOSED);
+    expect_text(&rt, RecvFault::Closed(RecvError), RECV_CLOSED);
+    // texts of the refusals for memory
+    let closed = SendFault::Closed(SendError(1));
+    expect_text(&rt, TrySendError::Memory(1), SEND_MEMORY);
+    expect_text(&rt, SendFault::Memory(1), SEND_MEMORY);
+    expect_text(&rt, closed, SEND_CLOSED);
+    expect_text(&rt, RecvFault::Memory, WAIT_MEMORY);
+    let closed = SendFault::Closed(SendError(Opaque));
+    expect_text(&rt, TrySendError::Memory(Opaque), SEND_MEMORY);
+    expect_text(&rt, SendFault::Memory(Opaque), SEND_MEMORY);
+    expect_text(&rt, closed, SEND_CLOSED);
 }
 
 #[test]
-fn debug_texts_of_the_errors(rt: HostRuntime) {
+fn each_error_prints_its_debug_text_whatever_it_holds(rt: HostRuntime) {
+    // debug texts of the errors
     expect_debug(&rt, SendError(1), "SendError(..)");
     expect_debug(&rt, TrySendError::Full(1), "Full(..)");
     expect_debug(&rt, TrySendError::Closed(1), "Closed(..)");
     expect_debug(&rt, TrySendError::Memory(1), "Memory(..)");
     expect_equal(&rt, TrySendError::Memory(1).is_full(), false);
     expect_equal(&rt, TrySendError::Memory(1).is_closed(), false);
+    expect_debug(&rt, SendError(Opaque), "SendError(..)");
+    expect_debug(&rt, TrySendError::Full(Opaque), "Full(..)");
+    expect_debug(&rt, TrySendError::Closed(Opaque), "Closed(..)");
+    expect_debug(&rt, TrySendError::Memory(Opaque), "Memory(..)");
+    let closed = SendFault::Closed(SendError(Opaque));
+    expect_debug(&rt, closed, "Closed(..)");
+    expect_debug(&rt, SendFault::Memory(Opaque), "Memory(..)");
     // These are derived.
     expect_debug(&rt, RecvError, "RecvError");
     expect_debug(&rt, TryRecvError::Empty, "Empty");
     expect_debug(&rt, TryRecvError::Closed, "Closed");
-}
-
-#[test]
-fn texts_of_the_refusals_for_memory(rt: HostRuntime) {
-    let closed = SendFault::Closed(SendError(1));
-    expect_text(&rt, TrySendError::Memory(1), SEND_MEMORY);
-    expect_text(&rt, SendFault::Memory(1), SEND_MEMORY);
-    expect_text(&rt, closed, SEND_CLOSED);
-    expect_text(&rt, RecvFault::Memory, WAIT_MEMORY);
-}
-
-// Of an error that holds what cannot be printed.
-fn expect_both<R: Abort + AllocGlobal>(rt: &R, error: impl Error, text: &str, debug: &str) {
-    let printed = format!(in rt.alloc(); "{error} / {error:?}").expect(rt, "memory");
-    let wanted = format!(in rt.alloc(); "{text} / {debug}").expect(rt, "memory");
-    expect_equal(rt, printed.as_str(), wanted.as_str());
-}
-
-#[test]
-fn each_error_prints_its_texts_whatever_it_holds(rt: HostRuntime) {
-    let closed = SendFault::Closed(SendError(Opaque));
-    expect_both(&rt, SendError(Opaque), SEND_CLOSED, "SendError(..)");
-    expect_text(&rt, RecvError, RECV_CLOSED);
-    expect_both(&rt, TrySendError::Full(Opaque), SEND_FULL, "Full(..)");
-    expect_both(&rt, TrySendError::Closed(Opaque), SEND_CLOSED, "Closed(..)");
-    expect_both(&rt, TrySendError::Memory(Opaque), SEND_MEMORY, "Memory(..)");
-    expect_text(&rt, TryRecvError::Empty, RECV_EMPTY);
-    expect_text(&rt, TryRecvError::Closed, RECV_CLOSED);
-    expect_both(&rt, closed, SEND_CLOSED, "Closed(..)");
-    expect_both(&rt, SendFault::Memory(Opaque), SEND_MEMORY, "Memory(..)");
-    expect_text(&rt, RecvFault::Closed(RecvError), RECV_CLOSED);
-    expect_text(&rt, RecvFault::Memory, WAIT_MEMORY);
 }
 
 #[test]

@@ -104,7 +104,7 @@ fn fill<'a>(rt: &impl Abort, bag: &mut Counting<'a>, count: &'a Cell<u64>) {
         assert!(rt; bag.can_push());
         count.set(0);
         bag.push(length, Counted { value, count });
-        assert!(rt; count.get() <= most_of_push(length), "a push to {length}");
+        expect_equal_at(rt, length, count.get() <= most_of_push(length), true);
     }
 }
 
@@ -116,8 +116,13 @@ fn drain(rt: &impl Abort, bag: &mut Counting<'_>, count: &Cell<u64>) {
         let Some((_, priority)) = bag.pop() else {
             panic!(rt; "{length} are to be pending");
         };
-        assert!(rt; count.get() <= most_of_pop(length), "a pop from {length}");
-        assert!(rt; priority.value <= last, "the order at {length}");
+        let is_seldom = count.get() <= most_of_pop(length);
+        expect_equal_at(
+            rt,
+            length,
+            (is_seldom, priority.value <= last),
+            (true, true),
+        );
         last = priority.value;
     }
 }
@@ -149,10 +154,8 @@ fn displace<'a>(rt: &impl Abort, bag: &mut Counting<'a>, count: &'a Cell<u64>) {
         count.set(0);
         let displaced = bag.displace(number, Counted { value, count });
         let (_, least) = displaced.ok().expect(rt, "a pair that makes room");
-        assert!(rt;
-            count.get() <= most && last <= least.value,
-            "displacement {number}"
-        );
+        let is_seldom = count.get() <= most;
+        expect_equal_at(rt, number, (is_seldom, last <= least.value), (true, true));
         last = least.value;
     }
 }

@@ -53,62 +53,53 @@ fn count_pairs(rest: Pairs<'_>) -> u64 {
     count
 }
 
-#[derive(Clone, Copy, Debug, Drop, PartialEq)]
-enum Told {
-    Sent,
-    /// With how many pairs left.
-    Full(u64),
-    Closed(u64),
-    Memory(u64),
-}
+/// The answer, and how many pairs came back.
+type Told = (&'static str, u64);
 
 fn tell(sent: Result<(), TrySendError<Pairs<'_>>>) -> Told {
     match sent {
-        Ok(()) => Told::Sent,
-        Err(TrySendError::Full(rest)) => Told::Full(count_pairs(rest)),
-        Err(TrySendError::Closed(rest)) => Told::Closed(count_pairs(rest)),
-        Err(TrySendError::Memory(rest)) => Told::Memory(count_pairs(rest)),
+        Ok(()) => ("Ok", 0),
+        Err(TrySendError::Full(rest)) => ("Full", count_pairs(rest)),
+        Err(TrySendError::Closed(rest)) => ("Closed", count_pairs(rest)),
+        Err(TrySendError::Memory(rest)) => ("Memory", count_pairs(rest)),
     }
 }
 
-// Sends so many pairs on the core and by a handle. The calls are those before the rest is walked.
-fn expect_both<R: Host>(
-    rt: &R,
-    core: &mut Core,
-    tx: &Sender<u64, u64, R>,
-    count: u64,
-    wanted: (Told, Calls),
-) {
+// Sends so many pairs on a core and by a handle, each with room for two. None closes both. The
+// calls are those before the rest is walked.
+fn expect_both<R: Host>(rt: &R, sends: &[Option<(u64, Told, Calls)>]) {
+    let mut core = Core::bounded(rt.alloc(), 2);
+    let (tx, _rx) = bounded(rt, rt.alloc(), 2).expect(rt, "a channel");
     let calls = Cell::new((0, false));
-    let sent = unwoken(rt, core.try_sendv(counted(count, &calls)));
-    let made = calls.get();
-    expect_equal_at(rt, "the core", (tell(sent), made), wanted);
-    let sent = tx.try_sendv(counted(count, &calls));
-    let made = calls.get();
-    expect_equal_at(rt, "handles", (tell(sent), made), wanted);
+    for send in sends {
+        let Some((count, told, made)) = *send else {
+            let are_open = (unwoken(rt, core.close()), tx.close());
+            expect_equal_at(rt, "a close", are_open, (true, true));
+            continue;
+        };
+        let sent = unwoken(rt, core.try_sendv(counted(count, &calls)));
+        expect_equal_at(rt, "calls on the core", calls.get(), made);
+        expect_equal_at(rt, "the core", tell(sent), told);
+        let sent = tx.try_sendv(counted(count, &calls));
+        expect_equal_at(rt, "calls on handles", calls.get(), made);
+        expect_equal_at(rt, "handles", tell(sent), told);
+    }
 }
 
 #[test]
-fn a_bulk_send_takes_no_more_than_there_is_room_for(rt: HostRuntime) {
-    let mut core = Core::bounded(rt.alloc(), 2);
-    let (tx, _rx) = bounded(&rt, rt.alloc(), 2).expect(&rt, "a channel");
-    expect_both(&rt, &mut core, &tx, 5, (Told::Full(3), (3, false)));
-}
-
-#[test]
-fn a_refused_bulk_send_does_not_touch_its_iterator(rt: HostRuntime) {
-    let mut core = Core::bounded(rt.alloc(), 2);
-    let (tx, _rx) = bounded(&rt, rt.alloc(), 2).expect(&rt, "a channel");
-    expect_both(&rt, &mut core, &tx, 2, (Told::Sent, (3, true)));
-    expect_both(&rt, &mut core, &tx, 5, (Told::Full(5), (0, false)));
-    let are_open = (unwoken(&rt, core.close()), tx.close());
-    expect_equal_at(&rt, "a close", are_open, (true, true));
-    expect_both(&rt, &mut core, &tx, 5, (Told::Closed(5), (0, false)));
-}
-
-#[test]
-fn a_bulk_send_that_fits_asks_once_more(rt: HostRuntime) {
-    let mut core = Core::bounded(rt.alloc(), 2);
-    let (tx, _rx) = bounded(&rt, rt.alloc(), 2).expect(&rt, "a channel");
-    expect_both(&rt, &mut core, &tx, 2, (Told::Sent, (3, true)));
+fn how_often_a_bulk_send_calls_its_iterator(rt: HostRuntime) {
+    // a bulk send takes no more than there is room for
+    expect_both(&rt, &[Some((5, ("Full", 3), (3, false)))]);
+    // a refused bulk send does not touch its iterator
+    expect_both(
+        &rt,
+        &[
+            Some((2, ("Ok", 0), (3, true))),
+            Some((5, ("Full", 5), (0, false))),
+            None,
+            Some((5, ("Closed", 5), (0, false))),
+        ],
+    );
+    // a bulk send that fits asks once more
+    expect_both(&rt, &[Some((2, ("Ok", 0), (3, true)))]);
 }

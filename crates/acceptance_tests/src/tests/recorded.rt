@@ -13,16 +13,14 @@ use super::{Host, expect_equal};
 use async_priority_channel::recorded::{
     Call, Entry, Fresh, History, NoPlace, Pass, Recorded, Recording, Reply,
 };
-use passes::{call_again, come_back};
 use refusing::Refusing;
 use std::alloc::{AllocError, Global};
 use std::marker::Brand;
+use steps::play;
 pub use steps::{Step, expect_book, expect_history};
-use steps::{play, play_until_refused};
 use threads::{Work, call_on_threads};
 
 mod memory;
-mod passes;
 mod steps;
 mod threads;
 
@@ -45,12 +43,15 @@ enum Scene<'s> {
     UntilRefused(&'s [Step]),
     /// Each pass on a thread of its own.
     Threads(Work),
-    ComesBack,
-    CallAgain,
 }
 
-/// A caller's number, its call, and what it was told. Each caller keeps its own, in their order.
-type Asked = (u64, Call<u64, u64>, Result<Reply<u64, u64>, NoPlace>);
+/// What callers keep: the entries of their calls, each caller's in its order, and how many calls
+/// were refused their entry.
+#[derive(Drop)]
+struct Kept {
+    made: Vec<Made>,
+    refused: u64,
+}
 
 /// What a scene left, and how many calls were refused their entry.
 type Told<'a> = (History<u64, u64, Alloc<'a>>, u64);
@@ -88,7 +89,10 @@ fn record_as<'a, J: Recording + Send + Sync, R: Host>(
     let (cap, entries, count) = sizes;
     let made = Recorder::<J>::new(alloc, fresh, cap, entries, count);
     let (recorder, mut passes) = made?;
-    let mut kept = Vec::new(rt.alloc());
+    let mut kept = Kept {
+        made: Vec::new(rt.alloc()),
+        refused: 0,
+    };
     within(
         rt,
         "the end of a scene",
@@ -98,8 +102,8 @@ fn record_as<'a, J: Recording + Send + Sync, R: Host>(
         panic!(rt; "a pass is missing");
     }
     let history = recorder.end(rt, passes);
-    expect_kept(rt, count, kept.as_slice(), history.entries());
-    Ok((history, count_refused(kept.as_slice())))
+    expect_kept(rt, count, kept.made.as_slice(), history.entries());
+    Ok((history, kept.refused))
 }
 
 // Gives the passes back that it takes.
@@ -109,23 +113,21 @@ fn act<'a, J: Recording + Send + Sync, R: Host>(
     scene: Scene<'_>,
     recorder: &Recorder<'a, J>,
     passes: &mut Passes<'a, J>,
-    kept: &mut Vec<Asked>,
+    kept: &mut Kept,
 ) {
     match scene {
-        Scene::Steps(steps) => play(rt, alloc, recorder, passes, kept, steps),
-        Scene::UntilRefused(steps) => play_until_refused(rt, recorder, passes, kept, steps),
+        Scene::Steps(steps) => play(rt, alloc, recorder, passes, kept, steps, false),
+        Scene::UntilRefused(steps) => play(rt, alloc, recorder, passes, kept, steps, true),
         Scene::Threads(work) => call_on_threads(rt, alloc, recorder, passes, kept, work),
-        Scene::ComesBack => come_back(rt, recorder, passes, kept),
-        Scene::CallAgain => call_again(rt, alloc, recorder, passes, kept),
     }
 }
 
-// Makes a call, and keeps it with its reply. After a refusal the pass has seen what it had seen.
+// Makes a call, and keeps what came of it. After a refusal the pass has seen what it had seen.
 fn call_and_keep<'a, J: Recording, R: Host>(
     rt: &R,
     recorder: &Recorder<'a, J>,
     pass: &mut Caller<J>,
-    kept: &mut Vec<Asked>,
+    kept: &mut Kept,
     call: Call<u64, u64>,
 ) -> Result<Reply<u64, u64>, NoPlace>
     ensures told { IfOk result (λ reply. IsTold nat_cmp J.capacity pass.old
@@ -134,40 +136,22 @@ fn call_and_keep<'a, J: Recording, R: Host>(
 {
     let who = pass.number();
     let told = recorder.call(rt, pass, call);
-    kept.push((who, call, told)).expect(rt, "memory");
+    match told {
+        Ok(reply) => kept
+            .made
+            .push(Entry { who, call, reply })
+            .expect(rt, "memory"),
+        Err(NoPlace) => kept.refused = kept.refused.wrapping_add(1),
+    }
     told
 }
 
-fn count_refused(kept: &[Asked]) -> u64 {
-    let mut count = 0u64;
-    for (_, _, told) in kept {
-        if *told == Err(NoPlace) {
-            count = count.wrapping_add(1);
-        }
-    }
-    count
-}
-
 // What the callers kept are all entries, and those of each caller stand in its order.
-fn expect_kept<R: Host>(rt: &R, passes: usize, kept: &[Asked], entries: &[Made]) {
-    let made = made_of(rt, kept);
+fn expect_kept<R: Host>(rt: &R, passes: usize, made: &[Made], entries: &[Made]) {
     expect_equal(rt, entries.len(), made.len());
-    for number in 0..passes {
-        let who = number as u64;
-        expect_equal(rt, under(rt, entries, who), under(rt, made.as_slice(), who));
+    for who in 0..passes as u64 {
+        expect_equal(rt, under(rt, entries, who), under(rt, made, who));
     }
-}
-
-// The entries of the calls that were made.
-fn made_of<R: Host>(rt: &R, kept: &[Asked]) -> Vec<Made> {
-    let mut made = Vec::new(rt.alloc());
-    for (who, call, told) in kept {
-        if let Ok(reply) = *told {
-            let (who, call) = (*who, *call);
-            made.push(Entry { who, call, reply }).expect(rt, "memory");
-        }
-    }
-    made
 }
 
 // Those under one number, in their order.

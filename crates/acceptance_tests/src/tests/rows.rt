@@ -385,20 +385,16 @@ pub const CORE: &str = "
 ";
 
 #[test]
-fn examples_on_the_core(rt: HostRuntime) {
-    play(&rt, Core, SENDS);
-    play(&rt, Core, CHANNELS);
-    play(&rt, Core, CORE);
-}
-
-#[test]
-fn examples_on_handles(rt: HostRuntime) {
-    play(&rt, Handles, SENDS);
-    play(&rt, Handles, CHANNELS);
-}
-
-#[test]
-fn examples_by_futures(rt: HostRuntime) {
-    play(&rt, Futures, SENDS);
-    play(&rt, Futures, POLLED_ONCE);
+fn examples_on_the_core_on_handles_and_by_futures(rt: HostRuntime) {
+    for (ground, script) in [
+        (Core, SENDS),
+        (Core, CHANNELS),
+        (Core, CORE),
+        (Handles, SENDS),
+        (Handles, CHANNELS),
+        (Futures, SENDS),
+        (Futures, POLLED_ONCE),
+    ] {
+        play(&rt, ground, script);
+    }
 }

@@ -174,12 +174,6 @@ fn expect_came(rt: &impl Abort, n: u64, is_sent: bool, came: &[Pair]) {
     expect_equal_at(rt, n, came, accepted);
 }
 
-#[test]
-fn a_run_of_eight_calls(rt: HostRuntime) {
-    let alloc = Refusing::new(rt.alloc());
-    expect_equal(&rt, run_eight(&rt, &alloc, 0, true), Some(0));
-}
-
 // Each request for memory is refused in turn.
 fn expect_rounds<R: Abort + AllocGlobal>(rt: &R, goes_on: bool) {
     let alloc = Refusing::new(rt.alloc());
@@ -197,40 +191,37 @@ fn expect_rounds<R: Abort + AllocGlobal>(rt: &R, goes_on: bool) {
 }
 
 #[test]
-fn a_run_stops_where_a_reply_is_refused_memory(rt: HostRuntime) {
+fn runs_of_eight_calls(rt: HostRuntime) {
+    // a run of eight calls
+    let alloc = Refusing::new(rt.alloc());
+    expect_equal(&rt, run_eight(&rt, &alloc, 0, true), Some(0));
+    // a run stops where a reply is refused memory
     expect_rounds(&rt, true);
-}
-
-#[test]
-fn what_a_run_accepted_comes_out_whichever_request_is_refused(rt: HostRuntime) {
+    // what a run accepted comes out whichever request is refused
     expect_rounds(&rt, false);
 }
 
-// Its place in the run.
-fn place_of(answer: &Answer<u64, u64, Pairs>) -> usize {
-    match answer {
-        Answer::TrySend(Ok(())) => 0,
-        Answer::TrySendv(Err(_)) => 1,
-        Answer::TryRecv(Ok(_)) => 2,
-        Answer::Close(true) => 3,
-        Answer::IsClosed(true) => 4,
-        Answer::IsEmpty(true) => 5,
-        Answer::IsFull(false) => 6,
-        Answer::Len(0) => 7,
-        Answer::Capacity(Some(1)) => 8,
-        Answer::SenderCount(1) => 9,
-        Answer::ReceiverCount(1) => 10,
-        Answer::CloneSender(true) => 11,
-        Answer::CloneReceiver(true) => 12,
-        Answer::DropSender => 13,
-        Answer::DropReceiver => 14,
-        Answer::PollSend(CorePoll::Ready(Err(_))) => 15,
-        Answer::PollSendv(CorePoll::Ready(Err(_))) => 16,
-        Answer::PollRecv(CorePoll::Ready(Err(_))) => 17,
-        Answer::GiveUp => 18,
-        _ => 99,
-    }
-}
+const EACH: [&str; 19] = [
+    "TrySend(Ok(()))",
+    "TrySendv(Err(Full([])))",
+    "TryRecv(Ok((7, 1)))",
+    "Close(true)",
+    "IsClosed(true)",
+    "IsEmpty(true)",
+    "IsFull(false)",
+    "Len(0)",
+    "Capacity(Some(1))",
+    "SenderCount(1)",
+    "ReceiverCount(1)",
+    "CloneSender(true)",
+    "CloneReceiver(true)",
+    "DropSender",
+    "DropReceiver",
+    "PollSend(Ready(Err(Closed(..))))",
+    "PollSendv(Ready(Err(Closed(..))))",
+    "PollRecv(Ready(Err(Closed(RecvError))))",
+    "GiveUp",
+];
 
 #[test]
 fn a_run_has_each_call(rt: HostRuntime) {
@@ -258,8 +249,5 @@ fn a_run_has_each_call(rt: HostRuntime) {
     let mut core: Core<'_> = Core::bounded(&alloc, 1);
     let Ran { done, left } = core.run(calls);
     expect_equal(&rt, (done.len(), left.len()), (19, 0));
-    for (place, response) in done.iter().enumerate() {
-        expect_equal(&rt, place_of(&response.answer), place);
-        expect_nobody(&rt, response);
-    }
+    expect_answers(&rt, done, &EACH, 0, &mut Vec::new(rt.alloc()));
 }

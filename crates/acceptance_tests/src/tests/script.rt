@@ -7,6 +7,7 @@
 //! - `(Foo,0)` is the message `Foo` of priority 0. `100 times (a,0)` is as many of it, and a line
 //!   that begins with `20 times` makes its call as often.
 //! - `tx len` asks a sender, and `rx len` a receiver. On the core `len` is enough.
+//! - `tx is_printed`: whether `{:?}` prints anything of it.
 //! - `send` and `recv` are `try_send` and `try_recv`, or futures that are waited for.
 //! - `poll_once_and_drop send (y,2)` polls such a future once.
 //! - `try_sendv the rest` sends the very iterator that came back.
@@ -30,10 +31,9 @@ mod words;
 
 use answers::text;
 use asking::Asking;
-use ledger::Ledger;
 use on_core::CoreStage;
 use on_handles::{HandleStage, Way};
-use words::{Text, number, split};
+use words::{Text, split, times};
 
 /// What a script is played on.
 #[derive(Clone, Copy)]
@@ -50,105 +50,54 @@ enum Stage<'a, R: Host> {
     Handles(HandleStage<'a, R>),
 }
 
-#[derive(Drop)]
-struct Player<'a, R: Host> {
-    rt: &'a R,
-    title: Text,
-    alloc: &'a Refusing<Global>,
-    stage: Stage<'a, R>,
-}
-
-impl<R: Host> Stage<'_, R> {
-    fn make(&mut self, rt: &R, ledger: &mut Ledger, call: &[Text]) -> String {
-        match self {
-            Stage::Core(stage) => stage.make(rt, ledger, call),
-            Stage::Handles(stage) => stage.make(rt, ledger, call),
-        }
-    }
-
-    // Receives what is pending.
-    fn drain(&mut self, rt: &R, ledger: &mut Ledger) {
-        match self {
-            Stage::Core(stage) => stage.drain(rt, ledger),
-            Stage::Handles(stage) => stage.drain(rt, ledger),
-        }
-    }
-}
-
-impl<'a, R: Host> Player<'a, R> {
-    fn new(title: Text, permission: &'a Asking<'a, R>, ground: Ground) -> Self {
-        let (rt, alloc) = (permission.rt, permission.alloc);
-        let stage = match ground {
-            Ground::Core => Stage::Core(CoreStage::new(rt, alloc)),
+impl<'a, R: Host> Stage<'a, R> {
+    fn new(permission: &'a Asking<'a, R>, ground: Ground) -> Self {
+        match ground {
+            Ground::Core => Stage::Core(CoreStage::new(permission.rt, permission.alloc)),
             Ground::Handles => Stage::Handles(HandleStage::new(permission, Way::AtOnce)),
             Ground::Futures => Stage::Handles(HandleStage::new(permission, Way::AsFuture)),
-        };
-        Player {
-            rt,
-            title,
-            alloc,
-            stage,
         }
     }
 
     // What comes of one call.
-    fn make(&mut self, ledger: &mut Ledger, call: &[Text]) -> String {
+    fn make(&mut self, rt: &R, alloc: &Refusing<Global>, call: &[Text]) -> String {
         match call {
-            ["refuse_next"] => self.alloc.refuse_nth(1),
-            ["refuse_all"] => self.alloc.refuse_all(),
+            ["refuse_next"] => alloc.refuse_nth(1),
+            ["refuse_all"] => alloc.refuse_all(),
             ["refuse_none"] => {
-                self.alloc.refuse_none();
+                alloc.refuse_none();
             }
-            _ => return self.stage.make(self.rt, ledger, call),
+            _ => {
+                return match self {
+                    Stage::Core(stage) => stage.make(rt, call),
+                    Stage::Handles(stage) => stage.make(rt, call),
+                };
+            }
         }
-        text(self.rt, "")
+        text(rt, "")
     }
 
     // Makes the calls of a line, and tells the first answer that is not as it says.
-    fn find_other_answer(&mut self, ledger: &mut Ledger, line: Text) -> Option<String> {
+    fn find_other(&mut self, rt: &R, alloc: &Refusing<Global>, line: Text) -> Option<String> {
         let (call, wanted) = line.split_once(" = ").unwrap_or((line, ""));
-        let words = split(self.rt, call);
-        match words.as_slice() {
-            [] => None,
-            [times, "times", call @ ..] => {
-                let times = number(self.rt, *times);
-                self.repeat(ledger, times, call, wanted)
-            }
-            call => self.repeat(ledger, 1, call, wanted),
-        }
-    }
-
-    fn repeat(
-        &mut self,
-        ledger: &mut Ledger,
-        times: u64,
-        call: &[Text],
-        wanted: Text,
-    ) -> Option<String> {
-        for _ in 0..times {
-            let got = self.make(ledger, call);
-            if !is_wanted(got.as_str(), wanted) {
+        let words = split(rt, call);
+        let (count, call) = times(rt, words.as_slice());
+        for _ in 0..count {
+            let got = self.make(rt, alloc, call);
+            if !is_wanted(got.as_str(), wanted.trim()) {
                 return Some(got);
             }
         }
         None
     }
 
-    fn play(&mut self, ledger: &mut Ledger, calls: Text) {
+    // Ends at the first call that is refused memory, where that may be, and tells whether there
+    // was one.
+    fn play(&mut self, rt: &R, alloc: &Refusing<Global>, calls: Text, is_scarce: bool) -> bool {
         for line in calls.lines() {
-            if let Some(got) = self.find_other_answer(ledger, line) {
-                panic!(self.rt; "{}: {line}: it answered {got}", self.title);
-            }
-        }
-    }
-
-    // Ends at the first call that is refused memory, and tells whether there was one.
-    fn play_until_refused(&mut self, ledger: &mut Ledger, calls: Text) -> bool {
-        for line in calls.lines() {
-            if let Some(got) = self.find_other_answer(ledger, line) {
-                if !is_refusal(got.as_str()) {
-                    panic!(self.rt; "{}: {line}: it answered {got}", self.title);
-                }
+            if let Some(got) = self.find_other(rt, alloc, line) {
+                let is_refusal = got.as_str() == "AllocError" || got.contains("Memory");
+                assert!(rt; is_scarce && is_refusal, "{line}: it answered {got}");
                 return true;
             }
         }
@@ -156,59 +105,43 @@ impl<'a, R: Host> Player<'a, R> {
     }
 
     // What was accepted is received, and what was not has come back.
-    fn settle(&mut self, mut ledger: Ledger) {
-        self.stage.drain(self.rt, &mut ledger);
-        ledger.expect_settled(self.rt);
+    fn settle(&mut self, rt: &R) {
+        match self {
+            Stage::Core(stage) => stage.settle(rt),
+            Stage::Handles(stage) => stage.settle(rt),
+        }
     }
 }
 
 fn is_wanted(got: &str, wanted: &str) -> bool {
-    let wanted = wanted.trim();
     got == wanted.strip_suffix(", handed nobody").unwrap_or(wanted)
-}
-
-// Of the making of a channel or of a handle, or of a send.
-fn is_refusal(answer: &str) -> bool {
-    answer == "AllocError" || answer.contains("Memory")
 }
 
 /// Plays each example of a script, and fails at the first call that answers otherwise.
 pub fn play<R: Host>(rt: &R, ground: Ground, script: Text) {
     for example in script.split("# ") {
-        let (title, calls) = example.split_once('\n').unwrap_or((example, ""));
+        let (_title, calls) = example.split_once('\n').unwrap_or((example, ""));
         let alloc = Refusing::new(rt.alloc());
         let permission = Asking { rt, alloc: &alloc };
-        let mut ledger = Ledger::new(rt);
-        Player::new(title, &permission, ground).play(&mut ledger, calls);
+        Stage::new(&permission, ground).play(rt, &alloc, calls, false);
     }
-}
-
-fn find<R: Host>(rt: &R, script: Text, title: Text) -> Text {
-    for example in script.split("# ") {
-        if let Some((first, calls)) = example.split_once('\n') {
-            if first == title {
-                return calls;
-            }
-        }
-    }
-    panic!(rt; "no example has the title {title}");
 }
 
 /// Plays one example again and again, each time with another request for memory refused, until none
 /// is met. A call answers as the script says until the refusal, which it tells. Then the example
 /// ends, and each pair has come out or back.
 pub fn play_refused<R: Host>(rt: &R, ground: Ground, script: Text, title: Text) {
-    let calls = find(rt, script, title);
+    let (_, behind) = script.split_once(title).expect(rt, title);
+    let (calls, _) = behind.split_once("# ").unwrap_or((behind, ""));
     let alloc = Refusing::new(rt.alloc());
     let permission = Asking { rt, alloc: &alloc };
     for round in alloc.rounds() {
         let n = round.expect(rt, "a request");
-        let mut ledger = Ledger::new(rt);
-        let mut player = Player::new(title, &permission, ground);
+        let mut stage = Stage::new(&permission, ground);
         alloc.refuse_nth(n);
-        let was_refused = player.play_until_refused(&mut ledger, calls);
+        let was_refused = stage.play(rt, &alloc, calls, true);
         let met_none = alloc.refuse_none();
         expect_true(rt, was_refused != met_none, title);
-        player.settle(ledger);
+        stage.settle(rt);
     }
 }

@@ -1,34 +1,26 @@
-//! Callers that name each public item by its path: where a name goes, this no longer compiles.
+//! Callers that name each public item by its path: where a name goes, this no longer compiles. The
+//! players of scripts name those of `channel`, of `waiting` and of the handles.
 use super::recorded::{Step, expect_book, expect_history};
+use super::script::Ground::{Core, Futures};
+use super::script::play;
 use super::word::{expect_handed, unwoken};
-use super::{Host, expect_equal, expect_true, wait_for};
+use super::{expect_equal, expect_true};
 use async_priority_channel::laws::{
     alike_law, closing_law, conservation_law, digits_law, drain_law, history_law, list_law,
     one_greatest_law, one_least_law, queue_law, waiting_law,
 };
 use async_priority_channel::recorded::{Call, Reply};
-use async_priority_channel::waiting::{
-    Recv, RecvState, Send as SendFuture, SendState, Sendv, SendvState,
-};
-use async_priority_channel::{Receiver, Sender, bounded, bounded_reserved, unbounded};
-use futures::task::Poll;
 use priority_channel_core::awaitable_atomics::AwaitableAtomicCounterAndBit;
 use priority_channel_core::bag::Bag;
-use priority_channel_core::channel::{CorePoll, PriorityQueueChannel};
 use priority_channel_core::errors::{
     RecvError, RecvFault, SendError, SendFault, TryRecvError, TrySendError,
 };
 use priority_channel_core::item::Item;
-use std::alloc::{AllocError, AllocGlobal};
+use std::alloc::AllocError;
 use std::cmp::Ordering;
-use std::iter::Peekable;
 use std::vec::IntoIter;
 
 type Word = AwaitableAtomicCounterAndBit<u64>;
-
-type Core = PriorityQueueChannel<u64, u64, u64>;
-
-type Pairs = Peekable<IntoIter<(u64, u64)>>;
 
 #[test]
 fn awaitable_atomics_has_its_items(rt: HostRuntime) {
@@ -57,14 +49,10 @@ fn item(priority: u64) -> Item<char, u64> {
 }
 
 #[test]
-fn item_has_its_items(rt: HostRuntime) {
+fn item_and_bag_have_their_items(rt: HostRuntime) {
     expect_true(&rt, item(1) == item(1), "they are equal");
     expect_equal(&rt, item(1).cmp(&item(2)), Ordering::Less);
     expect_equal(&rt, item(1).partial_cmp(&item(0)), Some(Ordering::Greater));
-}
-
-#[test]
-fn bag_has_its_items(rt: HostRuntime) {
     let made: Result<Bag<u64, u64>, AllocError> = Bag::reserved(rt.alloc(), 1);
     expect_equal(&rt, made.expect(&rt, "a bag").len(), 0);
     let mut bag: Bag<u64, u64> = Bag::new(rt.alloc());
@@ -88,104 +76,101 @@ fn errors_has_its_items(rt: HostRuntime) {
     expect_equal(&rt, faults.0 == faults.1, false);
 }
 
-fn no_pairs<R: AllocGlobal>(rt: &R) -> Pairs {
-    Vec::new(rt.alloc()).into_iter().peekable()
-}
+const ON_THE_CORE: &str = "
+    # channel has its items
+    bounded_reserved 1
+    is_full = false
+    unbounded
+    capacity = None
+    bounded 1
+    try_send (7,1) = Ok
+    try_sendv = Full with 0 left
+    try_recv = (7,1)
+    is_closed = false
+    is_empty = true
+    len = 0
+    poll_recv None w7 = Pending 0
+    give_up 0
+    poll_send (7,1) None w7 = Ready Ok
+    poll_sendv None w7 = Pending 1
+    give_up 1
+    close = true
+
+    # channel counts its handles
+    bounded 1
+    clone_sender = true
+    clone_receiver = true
+    sender_count = 2
+    receiver_count = 2
+    bounded 1
+    drop_sender
+    sender_count = 0
+    is_closed = true
+    bounded 1
+    drop_receiver
+    receiver_count = 0
+    is_closed = true
+
+    # waiting has the states
+    bounded 1
+    S is send (7,1)
+    V is sendv
+    R is recv
+    R poll w7 = Pending 0
+    R ticket = Some(0)
+    R is_done = false
+    R give_up = Some(())
+    S poll w7 = Ready Ok
+    S ticket = None
+    S is_done = true
+    S give_up = None
+    V poll w7 = Pending 1
+    V ticket = Some(1)
+    V is_done = false
+    V give_up = Some(0)
+";
+
+const ON_HANDLES: &str = "
+    # the crate has its items
+    unbounded
+    tx capacity = None
+    bounded_reserved 1
+    rx capacity = Some(1)
+    bounded 1
+    send (7,1) = Ok
+    recv = (7,1)
+    poll_once_and_drop sendv = Ready Ok
+    try_send (7,1) = Ok
+    try_sendv = Full with 0 left
+    tx is_closed = false
+    tx is_empty = false
+    tx is_full = true
+    rx is_closed = false
+    rx is_empty = false
+    rx is_full = true
+    tx len = 1
+    rx len = 1
+    try_recv = (7,1)
+    clone_sender = true
+    clone_receiver = true
+    tx sender_count = 2
+    tx receiver_count = 2
+    drop_sender
+    drop_receiver
+    rx sender_count = 1
+    rx receiver_count = 1
+    tx capacity = Some(1)
+    rx capacity = Some(1)
+    tx close = true
+    rx close = false
+    tx is_printed = true
+    rx is_printed = true
+";
 
 #[test]
-fn channel_has_its_items(rt: HostRuntime) {
-    let made: Result<Core, AllocError> = Core::bounded_reserved(rt.alloc(), 1);
-    expect_equal(&rt, made.expect(&rt, "a channel").is_full(), false);
-    expect_equal(&rt, Core::unbounded(rt.alloc()).capacity(), None);
-    let mut core = Core::bounded(rt.alloc(), 1);
-    expect_equal(&rt, unwoken(&rt, core.try_send(7, 1)), Ok(()));
-    let sent = unwoken(&rt, core.try_sendv(no_pairs(&rt)));
-    expect_equal(&rt, sent.is_ok(), false);
-    expect_equal(&rt, unwoken(&rt, core.try_recv()), Ok((7, 1)));
-    let told = (core.is_closed(), core.is_empty(), core.len());
-    expect_equal(&rt, told, (false, true, 0));
-    let polled = unwoken(&rt, core.poll_recv(None, &7));
-    expect_equal(&rt, polled, CorePoll::Pending((), 0));
-    core.give_up(0);
-    let polled = unwoken(&rt, core.poll_send(7, 1, None, &7));
-    expect_equal(&rt, polled, CorePoll::Ready(Ok(())));
-    let polled = unwoken(&rt, core.poll_sendv(no_pairs(&rt), None, &7));
-    expect_true(&rt, matches!(polled, CorePoll::Pending(_, 1)), "it waits");
-    core.give_up(1);
-    expect_equal(&rt, unwoken(&rt, core.close()), true);
-}
-
-#[test]
-fn channel_counts_its_handles(rt: HostRuntime) {
-    let mut core = Core::bounded(rt.alloc(), 1);
-    let are_cloned = (core.clone_sender(), core.clone_receiver());
-    expect_equal(&rt, are_cloned, (true, true));
-    expect_equal(&rt, (core.sender_count(), core.receiver_count()), (2, 2));
-    let mut core = Core::bounded(rt.alloc(), 1);
-    unwoken(&rt, ((), core.drop_sender()));
-    expect_equal(&rt, (core.sender_count(), core.is_closed()), (0, true));
-    let mut core = Core::bounded(rt.alloc(), 1);
-    unwoken(&rt, ((), core.drop_receiver()));
-    expect_equal(&rt, (core.receiver_count(), core.is_closed()), (0, true));
-}
-
-#[test]
-fn waiting_has_the_states(rt: HostRuntime) {
-    let mut core = Core::bounded(rt.alloc(), 1);
-    let mut sending = SendState::new(7, 1);
-    let mut bulk = SendvState::new(no_pairs(&rt));
-    let mut receiving = RecvState::new();
-    let polled = unwoken(&rt, receiving.poll_on(&mut core, &7));
-    expect_equal(&rt, polled, Poll::Pending);
-    let told = (receiving.ticket(), receiving.is_done());
-    expect_equal(&rt, told, (Some(0), false));
-    expect_equal(&rt, receiving.give_up_on(&mut core), Some(()));
-    let polled = unwoken(&rt, sending.poll_on(&mut core, &7));
-    expect_equal(&rt, polled, Poll::Ready(Ok(())));
-    expect_equal(&rt, (sending.ticket(), sending.is_done()), (None, true));
-    expect_equal(&rt, sending.give_up_on(&mut core), None);
-    let polled = unwoken(&rt, bulk.poll_on(&mut core, &7));
-    expect_true(&rt, matches!(polled, Poll::Pending), "it waits");
-    expect_equal(&rt, (bulk.ticket(), bulk.is_done()), (Some(1), false));
-    let kept = bulk.give_up_on(&mut core);
-    expect_equal(&rt, kept.is_some(), true);
-}
-
-fn expect_futures<R: Host>(rt: &R, tx: &Sender<u64, u64, R>, rx: &Receiver<u64, u64, R>) {
-    let sending: SendFuture<'_, u64, u64, R> = tx.send(7, 1);
-    expect_equal(rt, wait_for(rt, sending), Ok(()));
-    let receiving: Recv<'_, u64, u64, R> = rx.recv();
-    expect_equal(rt, wait_for(rt, receiving), Ok((7, 1)));
-    let bulk: Sendv<'_, u64, u64, Pairs, R> = tx.sendv(no_pairs(rt));
-    expect_equal(rt, wait_for(rt, bulk).is_ok(), true);
-}
-
-#[test]
-fn the_crate_has_its_items(rt: HostRuntime) {
-    let made = unbounded::<u64, u64, _, _>(&rt, rt.alloc());
-    expect_equal(&rt, made.expect(&rt, "a channel").0.capacity(), None);
-    let made = bounded_reserved::<u64, u64, _, _>(&rt, rt.alloc(), 1);
-    expect_equal(&rt, made.expect(&rt, "a channel").1.capacity(), Some(1));
-    let (tx, rx) = bounded(&rt, rt.alloc(), 1).expect(&rt, "a channel");
-    expect_futures(&rt, &tx, &rx);
-    expect_equal(&rt, tx.try_send(7, 1), Ok(()));
-    expect_equal(&rt, tx.try_sendv(no_pairs(&rt)).is_ok(), false);
-    let told = (tx.is_closed(), tx.is_empty(), tx.is_full());
-    expect_equal(&rt, told, (false, false, true));
-    let told = (rx.is_closed(), rx.is_empty(), rx.is_full());
-    expect_equal(&rt, told, (false, false, true));
-    expect_equal(&rt, (tx.len(), rx.len(), rx.try_recv()), (1, 1, Ok((7, 1))));
-    let others = (
-        tx.clone().expect(&rt, "a sender"),
-        rx.clone().expect(&rt, "a receiver"),
-    );
-    expect_equal(&rt, (tx.sender_count(), tx.receiver_count()), (2, 2));
-    drop(others);
-    expect_equal(&rt, (rx.sender_count(), rx.receiver_count()), (1, 1));
-    expect_equal(&rt, (tx.capacity(), rx.capacity()), (Some(1), Some(1)));
-    expect_equal(&rt, (tx.close(), rx.close()), (true, false));
-    let printed = format!(in rt.alloc(); "{tx:?} {rx:?}").expect(&rt, "memory");
-    expect_equal(&rt, printed.is_empty(), false);
+fn channel_waiting_and_the_crate_have_their_items(rt: HostRuntime) {
+    play(&rt, Core, ON_THE_CORE);
+    play(&rt, Futures, ON_HANDLES);
 }
 
 const BOOK: [Step; 7] = [
@@ -198,18 +183,14 @@ const BOOK: [Step; 7] = [
     Step::Call(0, Call::Len, Ok(Reply::Len(0)), 7),
 ];
 
-#[test]
-fn recorded_has_the_book(rt: HostRuntime) {
-    expect_book(&rt, &BOOK, 1, 7);
-}
-
 const RECORDER: [Step; 2] = [
     Step::Call(0, Call::Close, Ok(Reply::Bool(true)), 1),
     Step::Meet,
 ];
 
 #[test]
-fn recorded_has_the_recorder(rt: HostRuntime) {
+fn recorded_has_the_book_and_the_recorder(rt: HostRuntime) {
+    expect_book(&rt, &BOOK, 1, 7);
     expect_history(&rt, &RECORDER, 1, 8, 2, 0);
 }
 

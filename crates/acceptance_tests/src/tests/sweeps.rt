@@ -5,16 +5,19 @@ use super::script::play_refused;
 
 #[test]
 fn each_request_for_memory_is_refused_in_turn(rt: HostRuntime) {
-    for ground in [Core, Handles] {
-        play_refused(&rt, ground, CHANNELS, "three sends come out by priority");
-        play_refused(
-            &rt,
-            ground,
+    for (ground, script, title) in [
+        (Core, CHANNELS, "three sends come out by priority"),
+        (Handles, CHANNELS, "three sends come out by priority"),
+        (Core, CHANNELS, "a bulk send of a hundred into ten places"),
+        (
+            Handles,
             CHANNELS,
             "a bulk send of a hundred into ten places",
-        );
+        ),
+        // On the core a clone takes no memory.
+        (Handles, CHANNELS, "twenty clones and their drops"),
+        (Core, CORE, "a bulk send's state over five pairs"),
+    ] {
+        play_refused(&rt, ground, script, title);
     }
-    // On the core a clone takes no memory.
-    play_refused(&rt, Handles, CHANNELS, "twenty clones and their drops");
-    play_refused(&rt, Core, CORE, "a bulk send's state over five pairs");
 }

@@ -36,13 +36,15 @@ fn a_close_ends_ten_receiving_threads(rt: HostRuntime) {
     within(&rt, "ten receives", || close_ten_receivers(&rt));
 }
 
-fn send_numbers<R: Host>(rt: &R, tx: &Sender<u64, u64, R>, first: u64, count: u64) {
+// Gives no numbers, as one that receives does.
+fn send_numbers<R: Host>(rt: &R, tx: &Sender<u64, u64, R>, (first, count): (u64, u64)) -> Vec<u64> {
     let own = tx.clone().expect(rt, "a sender");
     for i in 0..count {
         let number = first.wrapping_add(i);
         let sent = wait_for(rt, own.send(number, number));
         expect_equal_at(rt, number, sent, Ok(()));
     }
+    Vec::new(rt.alloc())
 }
 
 fn receive_numbers<R: Host>(rt: &R, rx: &Receiver<u64, u64, R>, count: u64) -> Vec<u64> {
@@ -59,39 +61,28 @@ fn receive_numbers<R: Host>(rt: &R, rx: &Receiver<u64, u64, R>, count: u64) -> V
 /// How many threads, and how many messages of each.
 type Crew = (usize, u64);
 
-fn send_on_threads<R: Host>(rt: &R, tx: &Sender<u64, u64, R>, (senders, each): Crew) {
-    let send = |number| send_numbers(rt, tx, each.wrapping_mul(number as u64), each);
-    let sent = thread::map_indices(rt, rt.alloc(), senders, &send);
-    expect_true(rt, sent.is_ok(), "memory");
-}
-
-fn receive_on_threads<R: Host>(
-    rt: &R,
-    rx: &Receiver<u64, u64, R>,
-    (receivers, each): Crew,
-) -> Vec<u64> {
-    let receive = |_| receive_numbers(rt, rx, each);
-    let received = thread::map_indices(rt, rt.alloc(), receivers, &receive);
-    let mut came = Vec::new(rt.alloc());
-    for numbers in received.expect(rt, "memory") {
-        came.extend(numbers.into_iter()).expect(rt, "memory");
-    }
-    came
-}
-
 // Each number comes once.
 fn exchange<R: Host>(rt: &R, ends: Ends<u64, u64, R>, senders: Crew, receivers: Crew) {
     let (tx, rx) = ends;
-    let ((), mut came) = thread::join(
-        rt,
-        || send_on_threads(rt, &tx, senders),
-        || receive_on_threads(rt, &rx, receivers),
-    );
-    came.sort().expect(rt, "memory");
-    expect_equal(rt, came.len(), senders.0.saturating_mul(senders.1 as usize));
-    for (place, number) in came.iter().enumerate() {
-        expect_equal(rt, *number, place as u64);
+    let ((senders, sent), (receivers, received)) = (senders, receivers);
+    let take_part = |thread: usize| {
+        if thread < senders {
+            send_numbers(rt, &tx, (sent.wrapping_mul(thread as u64), sent))
+        } else {
+            receive_numbers(rt, &rx, received)
+        }
+    };
+    let threads = senders.saturating_add(receivers);
+    let all = thread::map_indices(rt, rt.alloc(), threads, &take_part);
+    let mut came = Vec::new(rt.alloc());
+    for numbers in all.expect(rt, "memory") {
+        came.extend(numbers.into_iter()).expect(rt, "memory");
     }
+    came.sort().expect(rt, "memory");
+    let wanted: Vec<u64> = (0..sent.saturating_mul(senders as u64))
+        .collect(rt.alloc())
+        .expect(rt, "memory");
+    expect_equal(rt, came, wanted);
 }
 
 // On a channel with no limit, and on one for ten.
@@ -143,64 +134,46 @@ fn sixteen_threads_close_one_channel(rt: HostRuntime) {
 
 const NUMBERS: u64 = 10;
 
-// How many tries a side makes at most.
+// How many tries one of the two sides makes at most.
 const TRIES: u64 = 10_000_000;
 
-/// One of the two sides.
-#[derive(Drop)]
-struct Side<'a, R: Host> {
-    rt: &'a R,
-    tx: &'a Sender<u64, u64, R>,
-    rx: &'a Receiver<u64, u64, R>,
-    tries: u64,
+fn send<R: Host>(rt: &R, tx: &Sender<u64, u64, R>, number: u64, tries: &mut u64) {
+    for _ in *tries..TRIES {
+        *tries = tries.wrapping_add(1);
+        if tx.try_send(number, number).is_ok() {
+            return;
+        }
+        thread::yield_now();
+    }
+    panic!(rt; "{TRIES} tries, the last to send {number}");
 }
 
-impl<'a, R: Host> Side<'a, R> {
-    fn new(rt: &'a R, tx: &'a Sender<u64, u64, R>, rx: &'a Receiver<u64, u64, R>) -> Self {
-        Side {
-            rt,
-            tx,
-            rx,
-            tries: 0,
+fn receive<R: Host>(rt: &R, rx: &Receiver<u64, u64, R>, tries: &mut u64) -> u64 {
+    for _ in *tries..TRIES {
+        *tries = tries.wrapping_add(1);
+        if let Ok((number, _)) = rx.try_recv() {
+            return number;
         }
+        thread::yield_now();
     }
-
-    fn send(&mut self, number: u64) {
-        for _ in self.tries..TRIES {
-            self.tries = self.tries.wrapping_add(1);
-            if self.tx.try_send(number, number).is_ok() {
-                return;
-            }
-            thread::yield_now();
-        }
-        panic!(self.rt; "{TRIES} tries, the last to send {number}");
-    }
-
-    fn receive(&mut self) -> u64 {
-        for _ in self.tries..TRIES {
-            self.tries = self.tries.wrapping_add(1);
-            if let Ok((number, _)) = self.rx.try_recv() {
-                return number;
-            }
-            thread::yield_now();
-        }
-        panic!(self.rt; "{TRIES} tries, the last to receive");
-    }
+    panic!(rt; "{TRIES} tries, the last to receive");
 }
 
 // Sends each number once the one before has come back.
-fn ping<R: Host>(mut side: Side<'_, R>) {
+fn ping<R: Host>(rt: &R, tx: &Sender<u64, u64, R>, rx: &Receiver<u64, u64, R>) {
+    let mut tries = 0;
     for i in 1..=NUMBERS {
-        side.send(i);
-        expect_equal(side.rt, side.receive(), i);
+        send(rt, tx, i, &mut tries);
+        expect_equal(rt, receive(rt, rx, &mut tries), i);
     }
 }
 
 // Sends back what it receives.
-fn pong<R: Host>(mut side: Side<'_, R>) {
+fn pong<R: Host>(rt: &R, tx: &Sender<u64, u64, R>, rx: &Receiver<u64, u64, R>) {
+    let mut tries = 0;
     for _ in 0..NUMBERS {
-        let number = side.receive();
-        side.send(number);
+        let number = receive(rt, rx, &mut tries);
+        send(rt, tx, number, &mut tries);
     }
 }
 
@@ -211,7 +184,7 @@ fn two_threads_play_ping_pong(rt: HostRuntime) {
     let (back_tx, back_rx) = bounded(&rt, rt.alloc(), 1).expect(&rt, "a channel");
     thread::join(
         &rt,
-        || ping(Side::new(&rt, &there_tx, &back_rx)),
-        || pong(Side::new(&rt, &back_tx, &there_rx)),
+        || ping(&rt, &there_tx, &back_rx),
+        || pong(&rt, &back_tx, &there_rx),
     );
 }

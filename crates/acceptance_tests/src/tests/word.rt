@@ -35,10 +35,7 @@ fn the_word_counts_and_closes(rt: HostRuntime) {
     expect_equal(&rt, unwoken(&rt, word.decr()), (true, 7));
     expect_equal(&rt, unwoken(&rt, word.incr(0)), (true, 6));
     expect_equal(&rt, unwoken(&rt, word.set_bit()), true);
-}
-
-#[test]
-fn the_word_at_its_greatest_count(rt: HostRuntime) {
+    // the word at its greatest count
     let mut word = Word::new(rt.alloc(), 9223372036854775807);
     expect_equal(&rt, word.load(), (false, 9223372036854775807));
     expect_equal(&rt, unwoken(&rt, word.decr()), (false, 9223372036854775807));

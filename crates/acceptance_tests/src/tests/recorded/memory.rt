@@ -1,13 +1,12 @@
 //! Each request for memory of a recorded history is refused in turn.
 use super::steps::SEVEN;
 use super::{Made, Scene, record};
-use crate::tests::plain_list::Pair;
 use crate::tests::{Host, expect_equal, expect_equal_at};
 use async_priority_channel::recorded::{Call, Reply};
 use refusing::Refusing;
 
-// What a channel accepted, and what came out of it.
-fn accepted_and_received<R: Host>(rt: &R, entries: &[Made]) -> (Vec<Pair>, Vec<Pair>) {
+// What was accepted is received.
+fn expect_received<R: Host>(rt: &R, n: u64, entries: &[Made]) {
     let mut accepted = Vec::new(rt.alloc());
     let mut received = Vec::new(rt.alloc());
     for entry in entries {
@@ -15,13 +14,13 @@ fn accepted_and_received<R: Host>(rt: &R, entries: &[Made]) -> (Vec<Pair>, Vec<P
             (Call::TrySend(msg, priority), Reply::Sent(Ok(()))) => {
                 accepted.push((msg, priority)).expect(rt, "memory");
             }
-            (Call::TryRecv, Reply::Received(Ok(pair))) => {
-                received.push(pair).expect(rt, "memory");
-            }
+            (_, Reply::Received(Ok(pair))) => received.push(pair).expect(rt, "memory"),
             _ => {}
         }
     }
-    (accepted, received)
+    accepted.sort().expect(rt, "memory");
+    received.sort().expect(rt, "memory");
+    expect_equal_at(rt, n, received, accepted);
 }
 
 // Each request is refused in turn, on recorders with memory for so many entries. Until then the
@@ -35,17 +34,17 @@ fn refuse_in_turn<R: Host>(rt: &R, entries: usize) -> (u64, u64) {
         alloc.refuse_nth(n);
         let told = record(rt, &alloc, Scene::UntilRefused(&SEVEN), 2, entries, 1);
         let met_none = alloc.refuse_none();
-        let Ok((history, refused)) = told else {
-            expect_equal_at(rt, n, met_none, false);
-            recorders = recorders.wrapping_add(1);
-            continue;
-        };
-        expect_equal_at(rt, n, refused == 0, met_none);
-        calls = calls.wrapping_add(refused);
-        let (mut accepted, mut received) = accepted_and_received(rt, history.entries());
-        accepted.sort().expect(rt, "memory");
-        received.sort().expect(rt, "memory");
-        expect_equal_at(rt, n, received, accepted);
+        match told {
+            Ok((history, refused)) => {
+                expect_equal_at(rt, n, refused == 0, met_none);
+                calls = calls.wrapping_add(refused);
+                expect_received(rt, n, history.entries());
+            }
+            Err(_) => {
+                expect_equal_at(rt, n, met_none, false);
+                recorders = recorders.wrapping_add(1);
+            }
+        }
     }
     (recorders, calls)
 }

@@ -1,17 +1,25 @@
 //! Calls of one thread, with their answers.
-ghost use Rattle.std.specs.Prelude.{◌<◌, ◌^◌};
+ghost use Rattle.std.specs.Prelude.{◌<◌, ◌^◌, IfOk};
+ghost use Rattle.std.specs.Ordering.{nat_cmp};
+ghost use Rattle.priority_channel_recorded.specs.History.{entry};
+ghost use Rattle.priority_channel_recorded.specs.Passes.{IsTold};
 
-use super::{Alloc, Asked, Caller, Made, Passes, Recorder, Scene, call_and_keep, record};
+use super::{Alloc, Caller, Kept, Made, Passes, Recorder, Scene, call_and_keep, record};
 use crate::tests::{Host, expect_equal};
 use async_priority_channel::TrySendError;
 use async_priority_channel::recorded::{Book, Call, Entry, NoPlace, Recording, Reply};
 use refusing::Refusing;
+use std::thread;
 
 /// One step of an example.
 #[derive(Clone, Copy)]
 pub enum Step {
     /// The pass of this number makes a call, is answered so, and has then this count.
     Call(u64, Call<u64, u64>, Result<Reply<u64, u64>, NoPlace>, u64),
+    /// The same by the last pass, on a thread that gives it back.
+    OnThread(u64, Call<u64, u64>, Result<Reply<u64, u64>, NoPlace>, u64),
+    /// The same by pass 0, whose call is first refused its entry.
+    Again(u64, Call<u64, u64>, Result<Reply<u64, u64>, NoPlace>, u64),
     /// Passes 0 and 1 meet.
     Meet,
     /// The next request for memory is refused.
@@ -53,25 +61,60 @@ const TWO_PASSES: [Step; 4] = [
     Step::Call(0, Call::Len, Ok(Reply::Len(0)), 2),
 ];
 
-// Plays the steps. The answers are those that they name.
-pub(super) fn play<'a, J: Recording, R: Host>(
+const COMES_BACK: [Step; 3] = [
+    Step::OnThread(1, Call::Close, Ok(Reply::Bool(true)), 1),
+    Step::Meet,
+    Step::Call(
+        0,
+        Call::TrySend(4, 4),
+        Ok(Reply::Sent(Err(TrySendError::Closed((4, 4))))),
+        1,
+    ),
+];
+
+const CALLED_AGAIN: [Step; 2] = [
+    Step::Again(0, Call::TrySend(1, 1), Ok(Reply::Sent(Ok(()))), 1),
+    Step::Call(0, Call::Len, Ok(Reply::Len(1)), 2),
+];
+
+// Plays the steps. The answers are those that they name. Where memory is scarce, a call may be
+// refused its entry, which leaves the count. Then what is pending is received.
+pub(super) fn play<'a, J: Recording + Send + Sync, R: Host>(
     rt: &R,
     alloc: Alloc<'a>,
     recorder: &Recorder<'a, J>,
     passes: &mut Passes<'a, J>,
-    kept: &mut Vec<Asked>,
+    kept: &mut Kept,
     steps: &[Step],
+    is_scarce: bool,
 ) {
     for step in steps {
         match *step {
             Step::Call(who, call, wanted, count) => {
                 let pass = passes.get_mut(who as usize).expect(rt, "a pass");
+                let before = pass.count();
                 let told = call_and_keep(rt, recorder, pass, kept, call);
+                if is_scarce && told == Err(NoPlace) {
+                    expect_equal(rt, pass.count(), before);
+                    break;
+                }
                 expect_equal(rt, (call, told, pass.count()), (call, wanted, count));
+            }
+            Step::OnThread(_, call, wanted, count) => {
+                let told = call_on_thread(rt, recorder, passes, kept, call);
+                expect_equal(rt, told, (wanted, count));
+            }
+            Step::Again(_, call, wanted, count) => {
+                let pass = passes.get_mut(0).expect(rt, "a pass");
+                let told = call_again(rt, alloc, recorder, pass, kept, call);
+                expect_equal(rt, (told, pass.count()), (wanted, count));
             }
             Step::Meet => meet(rt, recorder, passes),
             Step::RefuseNext => alloc.refuse_nth(1),
         }
+    }
+    if is_scarce {
+        receive_rest(rt, recorder, passes, kept);
     }
 }
 
@@ -86,36 +129,55 @@ fn meet<'a, J: Recording, R: Host>(rt: &R, recorder: &Recorder<'a, J>, passes: &
     passes.push(second).expect(rt, "its own place");
 }
 
-// Plays the calls of pass 0 until one is refused its entry, which leaves its count. Then it
-// receives what is pending.
-pub(super) fn play_until_refused<'a, J: Recording, R: Host>(
+// The last pass calls on a thread, which gives it back with its answer.
+fn call_on_thread<'a, J: Recording + Send + Sync, R: Host>(
     rt: &R,
     recorder: &Recorder<'a, J>,
     passes: &mut Passes<'a, J>,
-    kept: &mut Vec<Asked>,
-    steps: &[Step],
-) {
-    let pass = passes.get_mut(0).expect(rt, "a pass");
-    for (step, made) in steps.iter().zip(0..u64::MAX) {
-        let Step::Call(_, call, wanted, _) = *step else {
-            panic!(rt; "not a call");
-        };
-        let told = call_and_keep(rt, recorder, pass, kept, call);
-        if told == Err(NoPlace) {
-            expect_equal(rt, pass.count(), made);
-            break;
-        }
-        expect_equal(rt, (made, told), (made, wanted));
-    }
-    receive_rest(rt, recorder, pass, kept);
+    kept: &mut Kept,
+    call: Call<u64, u64>,
+) -> (Result<Reply<u64, u64>, NoPlace>, u64) {
+    let mut away = passes.pop().expect(rt, "a pass");
+    let ((told, back), ()) = thread::join(
+        rt,
+        || {
+            let told = call_and_keep(rt, recorder, &mut away, kept, call);
+            (told, away)
+        },
+        || {},
+    );
+    let count = back.count();
+    passes.push(back).expect(rt, "its own place");
+    (told, count)
+}
+
+// Makes a call that is refused its entry, and then again. What the pass has seen afterwards is what
+// it had seen before both, what others did meanwhile, and this one entry.
+fn call_again<'a, J: Recording, R: Host>(
+    rt: &R,
+    alloc: Alloc<'a>,
+    recorder: &Recorder<'a, J>,
+    pass: &mut Caller<J>,
+    kept: &mut Kept,
+    call: Call<u64, u64>,
+) -> Result<Reply<u64, u64>, NoPlace>
+    ensures { IfOk result (λ reply. IsTold nat_cmp J.capacity pass.old
+        (entry pass.old.number call reply) pass.new) }
+{
+    alloc.refuse_nth(1);
+    let Err(NoPlace) = call_and_keep(rt, recorder, pass, kept, call) else {
+        panic!(rt; "a call was made without memory");
+    };
+    call_and_keep(rt, recorder, pass, kept, call)
 }
 
 fn receive_rest<'a, J: Recording, R: Host>(
     rt: &R,
     recorder: &Recorder<'a, J>,
-    pass: &mut Caller<J>,
-    kept: &mut Vec<Asked>,
+    passes: &mut Passes<'a, J>,
+    kept: &mut Kept,
 ) {
+    let pass = passes.get_mut(0).expect(rt, "a pass");
     // Two pairs, a refusal, and the answer that there are no more.
     for _ in 0..4u64 {
         let told = call_and_keep(rt, recorder, pass, kept, Call::TryRecv);
@@ -130,7 +192,10 @@ fn receive_rest<'a, J: Recording, R: Host>(
 fn entries_of<R: Host>(rt: &R, steps: &[Step]) -> Vec<Made> {
     let mut entries = Vec::new(rt.alloc());
     for step in steps {
-        if let Step::Call(who, call, Ok(reply), _) = *step {
+        if let Step::Call(who, call, Ok(reply), _)
+        | Step::OnThread(who, call, Ok(reply), _)
+        | Step::Again(who, call, Ok(reply), _) = *step
+        {
             entries
                 .push(Entry { who, call, reply })
                 .expect(rt, "memory");
@@ -175,19 +240,18 @@ pub fn expect_book<R: Host>(rt: &R, steps: &[Step], cap: u64, entries: usize)
 }
 
 #[test]
-fn a_recorded_history_of_seven_calls(rt: HostRuntime) {
+fn recorded_histories(rt: HostRuntime) {
+    // a recorded history of seven calls
     expect_history(&rt, &SEVEN, 2, 8, 1, 0);
     expect_book(&rt, &SEVEN, 2, 8);
-}
-
-#[test]
-fn an_entry_is_refused_memory(rt: HostRuntime) {
+    // an entry is refused memory
     expect_history(&rt, &REFUSED_AN_ENTRY, 1, 0, 1, 1);
-}
-
-#[test]
-fn two_passes_meet(rt: HostRuntime) {
+    // after a refused entry a pass has seen what it had seen
+    expect_history(&rt, &CALLED_AGAIN, 1, 0, 1, 1);
+    // two passes meet
     expect_history(&rt, &TWO_PASSES, 2, 8, 2, 0);
+    // a pass comes back from a thread
+    expect_history(&rt, &COMES_BACK, 1, 2, 2, 0);
 }
 
 // As many as any program that runs for long.

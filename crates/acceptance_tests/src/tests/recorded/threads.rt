@@ -1,5 +1,5 @@
 //! Threads with a pass each, which call at once.
-use super::{Alloc, Asked, Caller, Made, Passes, Recorder, Scene, call_and_keep, record};
+use super::{Alloc, Caller, Kept, Made, Passes, Recorder, Scene, call_and_keep, record};
 use crate::tests::plain_list::ask_list;
 use crate::tests::watch::arrive;
 use crate::tests::{Host, expect_equal};
@@ -19,29 +19,15 @@ const CALLS: u64 = 1000;
 
 const CAPACITY: u64 = 3;
 
-impl Work {
-    fn count(self) -> u64 {
-        match self {
-            Work::Mixed => CALLS,
-            Work::Close => 1,
-        }
-    }
-
-    fn call(self, who: u64, i: u64) -> Call<u64, u64> {
-        match self {
-            Work::Mixed => mixed_call(who, i),
-            Work::Close => Call::Close,
-        }
-    }
-}
-
-fn mixed_call(who: u64, i: u64) -> Call<u64, u64> {
+// The ith call of a pass.
+fn ith_call(work: Work, who: u64, i: u64) -> Call<u64, u64> {
     let msg = who.wrapping_mul(CALLS).wrapping_add(i);
-    match i.wrapping_add(who) % 4 {
-        0 => Call::TrySend(msg, i % 7),
-        1 => Call::TryRecv,
-        2 => Call::Len,
-        _ => Call::TrySend(msg, i % 5),
+    match (work, i.wrapping_add(who) % 4) {
+        (Work::Close, _) => Call::Close,
+        (Work::Mixed, 0) => Call::TrySend(msg, i % 7),
+        (Work::Mixed, 1) => Call::TryRecv,
+        (Work::Mixed, 2) => Call::Len,
+        (Work::Mixed, _) => Call::TrySend(msg, i % 5),
     }
 }
 
@@ -51,14 +37,21 @@ fn call_often<'a, J: Recording, R: Host>(
     recorder: &Recorder<'a, J>,
     mut pass: Caller<J>,
     work: Work,
-) -> (Caller<J>, Vec<Asked>) {
+) -> (Caller<J>, Kept) {
     let who = pass.number();
-    let mut kept = Vec::new(rt.alloc());
-    for i in 0..work.count() {
-        let told = call_and_keep(rt, recorder, &mut pass, &mut kept, work.call(who, i));
+    let mut kept = Kept {
+        made: Vec::new(rt.alloc()),
+        refused: 0,
+    };
+    let calls = match work {
+        Work::Mixed => CALLS,
+        Work::Close => 1,
+    };
+    for i in 0..calls {
+        let told = call_and_keep(rt, recorder, &mut pass, &mut kept, ith_call(work, who, i));
         expect_equal(rt, (who, i, told.is_ok()), (who, i, true));
     }
-    expect_equal(rt, (who, pass.count()), (who, work.count()));
+    expect_equal(rt, (who, pass.count()), (who, calls));
     (pass, kept)
 }
 
@@ -68,7 +61,7 @@ pub(super) fn call_on_threads<'a, J: Recording + Send + Sync, R: Host>(
     alloc: Alloc<'a>,
     recorder: &Recorder<'a, J>,
     passes: &mut Passes<'a, J>,
-    kept: &mut Vec<Asked>,
+    kept: &mut Kept,
     work: Work,
 ) {
     let all = mem::replace(passes, Vec::new(alloc));
@@ -84,7 +77,7 @@ pub(super) fn call_on_threads<'a, J: Recording + Send + Sync, R: Host>(
     );
     for (pass, own) in called.expect(rt, "memory for the passes") {
         passes.push(pass).expect(rt, "memory");
-        kept.extend_from_slice(&own).expect(rt, "memory");
+        kept.made.extend_from_slice(&own.made).expect(rt, "memory");
     }
 }
 

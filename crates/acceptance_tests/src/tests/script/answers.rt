@@ -1,37 +1,26 @@
 //! The texts of answers.
 use super::ledger::Ledger;
 use super::words::{Bulk, Pair, Text};
-use crate::tests::Host;
-use async_priority_channel::{RecvFault, SendFault, TryRecvError, TrySendError};
+use async_priority_channel::{RecvFault, SendFault, TrySendError};
 use priority_channel_core::awaitable_atomics::Wakes;
-use std::alloc::Allocator;
+use std::alloc::{AllocGlobal, Allocator};
 use std::fmt::Debug;
+use std::process::Abort;
 
 /// A number, a truth or an option.
-pub fn told<R: Host>(rt: &R, answer: impl Debug + Drop) -> String {
+pub fn told<R: Abort + AllocGlobal>(rt: &R, answer: impl Debug + Drop) -> String {
     format!(in rt.alloc(); "{answer:?}").expect(rt, "memory")
 }
 
-pub fn text<R: Host>(rt: &R, words: &str) -> String {
+pub fn text<R: Abort + AllocGlobal>(rt: &R, words: &str) -> String {
     format!(in rt.alloc(); "{words}").expect(rt, "memory")
 }
 
-pub fn told_pair<R: Host>(rt: &R, pair: Pair) -> String {
+/// A pair that has come out or back.
+pub fn told_pair<R: Abort + AllocGlobal>(rt: &R, ledger: &mut Ledger, pair: Pair) -> String {
+    ledger.end(rt, pair);
     let (msg, priority) = pair;
     format!(in rt.alloc(); "({msg},{priority})").expect(rt, "memory")
-}
-
-// The two, one behind the other.
-fn beside<R: Host>(rt: &R, first: Text, second: String) -> String {
-    format!(in rt.alloc(); "{first} {second}").expect(rt, "memory")
-}
-
-/// A state that is done has no ticket.
-pub fn told_pending<R: Host>(rt: &R, ticket: Option<u64>) -> String {
-    match ticket {
-        Some(ticket) => beside(rt, "Pending", told(rt, ticket)),
-        None => text(rt, "Pending"),
-    }
 }
 
 #[derive(Clone, Copy, Debug)]
@@ -50,7 +39,7 @@ fn refusal<K>(error: TrySendError<K>) -> (Why, K) {
     }
 }
 
-pub fn told_sent<R: Host>(
+pub fn told_sent<R: Abort + AllocGlobal>(
     rt: &R,
     ledger: &mut Ledger,
     sent: Result<(), TrySendError<Pair>>,
@@ -59,14 +48,13 @@ pub fn told_sent<R: Host>(
         Ok(()) => text(rt, "Ok"),
         Err(error) => {
             let (why, pair) = refusal(error);
-            ledger.end(rt, pair);
-            let pair = told_pair(rt, pair);
+            let pair = told_pair(rt, ledger, pair);
             format!(in rt.alloc(); "{why:?}({pair})").expect(rt, "memory")
         }
     }
 }
 
-pub fn told_sent_many<R: Host>(
+pub fn told_sent_many<R: Abort + AllocGlobal>(
     rt: &R,
     ledger: &mut Ledger,
     sent: Result<(), TrySendError<Bulk>>,
@@ -81,78 +69,77 @@ pub fn told_sent_many<R: Host>(
     }
 }
 
-pub fn told_received<R: Host>(
+/// Of an error its variant alone.
+pub fn told_received<R: Abort + AllocGlobal>(
     rt: &R,
     ledger: &mut Ledger,
-    received: Result<Pair, TryRecvError>,
+    received: Result<Pair, impl Debug + Drop>,
 ) -> String {
     match received {
-        Ok(pair) => {
-            ledger.end(rt, pair);
-            told_pair(rt, pair)
+        Ok(pair) => told_pair(rt, ledger, pair),
+        Err(error) => {
+            let error = told(rt, error);
+            let (variant, _) = error.split_once('(').unwrap_or((error.as_str(), ""));
+            text(rt, variant)
         }
-        Err(TryRecvError::Empty) => text(rt, "Empty"),
-        Err(TryRecvError::Closed) => text(rt, "Closed"),
     }
 }
 
-/// The same of a receive that may wait.
-pub fn told_waited<R: Host>(
-    rt: &R,
-    ledger: &mut Ledger,
-    received: Result<Pair, RecvFault>,
-) -> String {
-    match received {
-        Ok(pair) => {
-            ledger.end(rt, pair);
-            told_pair(rt, pair)
-        }
-        Err(RecvFault::Closed(_)) => text(rt, "Closed"),
-        Err(RecvFault::Memory) => text(rt, "Memory"),
-    }
+// Of a poll.
+fn ready<R: Abort + AllocGlobal>(rt: &R, told: String) -> String {
+    format!(in rt.alloc(); "Ready {told}").expect(rt, "memory")
 }
 
-/// The same of a poll that is ready.
-pub fn ready_sent<R: Host>(
+pub fn ready_sent<R: Abort + AllocGlobal>(
     rt: &R,
     ledger: &mut Ledger,
     sent: Result<(), SendFault<Pair>>,
 ) -> String {
-    let sent = told_sent(rt, ledger, sent.map_err(TrySendError::from));
-    beside(rt, "Ready", sent)
+    ready(rt, told_sent(rt, ledger, sent.map_err(TrySendError::from)))
 }
 
-pub fn ready_sent_many<R: Host>(
+pub fn ready_sent_many<R: Abort + AllocGlobal>(
     rt: &R,
     ledger: &mut Ledger,
     sent: Result<(), SendFault<Bulk>>,
 ) -> String {
-    let sent = told_sent_many(rt, ledger, sent.map_err(TrySendError::from));
-    beside(rt, "Ready", sent)
+    ready(
+        rt,
+        told_sent_many(rt, ledger, sent.map_err(TrySendError::from)),
+    )
 }
 
-pub fn ready_received<R: Host>(
+pub fn ready_received<R: Abort + AllocGlobal>(
     rt: &R,
     ledger: &mut Ledger,
     received: Result<Pair, RecvFault>,
 ) -> String {
-    let ready = if received.is_ok() {
-        "Ready Ok"
-    } else {
-        "Ready"
-    };
-    beside(rt, ready, told_waited(rt, ledger, received))
+    let ok = if received.is_ok() { "Ok " } else { "" };
+    let told = told_received(rt, ledger, received);
+    format!(in rt.alloc(); "Ready {ok}{told}").expect(rt, "memory")
+}
+
+/// A state that is done has no ticket.
+pub fn pending<R: Abort + AllocGlobal>(rt: &R, ticket: Option<u64>) -> String {
+    match ticket {
+        Some(ticket) => format!(in rt.alloc(); "Pending {ticket}").expect(rt, "memory"),
+        None => text(rt, "Pending"),
+    }
 }
 
 /// An answer with those whom its call handed out.
-pub fn handed<R: Host, A: Allocator>(rt: &R, answer: String, wakes: Wakes<u64, A>) -> String {
+pub fn handed<R: Abort + AllocGlobal, A: Allocator>(
+    rt: &R,
+    answer: String,
+    wakes: Wakes<u64, A>,
+) -> String {
     let (room, message) = wakes.into_lists();
     let answer = add_handed(rt, answer, room, " from the room side");
     add_handed(rt, answer, message, "")
 }
 
 // By their tickets, since the order of a list is not said.
-fn add_handed<R: Host, A: Allocator>(
+fn add_handed<R: Abort + AllocGlobal, A: Allocator>(
     rt: &R,
     mut answer: String,
     list: Vec<(u64, u64), A>,

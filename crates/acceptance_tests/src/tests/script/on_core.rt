@@ -1,16 +1,15 @@
 //! Scripts on the core, where a waker is a number.
 use super::answers::{
-    handed, ready_received, ready_sent, text, told, told_pending, told_received, told_sent,
-    told_sent_many,
+    handed, pending, ready_received, ready_sent, ready_sent_many, text, told, told_received,
+    told_sent, told_sent_many,
 };
 use super::ledger::Ledger;
 use super::states::State;
-use super::words::{Text, capacity, number, pair, reserved_capacity, ticket, waker};
-use crate::tests::Host;
+use super::words::{MOST_RESERVED, Text, capacity, number, ticket, waker};
 use priority_channel_core::channel::{CorePoll, PriorityQueueChannel};
 use refusing::Refusing;
-use std::alloc::Global;
-use std::collections::BTreeMap;
+use std::alloc::{AllocError, AllocGlobal, Global};
+use std::process::Abort;
 
 pub type Core<'a> = PriorityQueueChannel<Text, u64, u64, &'a Refusing<Global>>;
 
@@ -19,62 +18,63 @@ pub type Core<'a> = PriorityQueueChannel<Text, u64, u64, &'a Refusing<Global>>;
 pub struct CoreStage<'a> {
     alloc: &'a Refusing<Global>,
     core: Core<'a>,
-    states: BTreeMap<Text, State>,
+    states: Vec<(Text, State)>,
+    ledger: Ledger,
 }
 
 impl<'a> CoreStage<'a> {
-    pub fn new<R: Host>(rt: &R, alloc: &'a Refusing<Global>) -> Self {
+    pub fn new<R: AllocGlobal>(rt: &R, alloc: &'a Refusing<Global>) -> Self {
         CoreStage {
             alloc,
             core: Core::unbounded(alloc),
-            states: BTreeMap::new(rt.alloc()),
+            states: Vec::new(rt.alloc()),
+            ledger: Ledger::new(rt),
         }
     }
 
-    pub fn make<R: Host>(&mut self, rt: &R, ledger: &mut Ledger, call: &[Text]) -> String {
+    pub fn make<R: Abort + AllocGlobal>(&mut self, rt: &R, call: &[Text]) -> String {
         match call {
             ["unbounded"] => self.core = Core::unbounded(self.alloc),
-            ["bounded", word] => self.core = Core::bounded(self.alloc, capacity(rt, *word)),
+            ["bounded", word] => {
+                self.core = Core::bounded(self.alloc, capacity(rt, *word, u64::MAX));
+            }
             ["bounded_reserved", word] => {
-                let capacity = reserved_capacity(rt, *word);
-                let made: Result<Core<'a>, _> = Core::bounded_reserved(self.alloc, capacity);
+                let capacity = capacity(rt, *word, MOST_RESERVED);
+                let made: Result<Core<'a>, AllocError> = Core::bounded_reserved(
+                    self.alloc, capacity,
+                );
                 match made {
                     Ok(core) => self.core = core,
                     Err(error) => return told(rt, error),
                 }
             }
             [name, "is", call @ ..] => {
-                let state = State::new(rt, ledger, call);
-                self.keep(rt, *name, state);
+                let state = State::new(rt, &mut self.ledger, call);
+                self.states.push((*name, state)).expect(rt, "memory");
             }
             [name, call @ ..] => {
-                let Some(mut state) = self.states.remove(*name) else {
-                    return ask(rt, ledger, &mut self.core, *name, call);
-                };
-                let told = state.make(rt, ledger, &mut self.core, call);
-                self.keep(rt, *name, state);
-                return told;
+                for (other, state) in self.states.iter_mut() {
+                    if *other == *name {
+                        return state.make(rt, &mut self.ledger, &mut self.core, call);
+                    }
+                }
+                return ask(rt, &mut self.ledger, &mut self.core, *name, call);
             }
             [] => {}
         }
         text(rt, "")
     }
 
-    fn keep<R: Host>(&mut self, rt: &R, name: Text, state: State) {
-        if self.states.insert(name, state).is_err() {
-            panic!(rt; "memory for {name}");
-        }
-    }
-
-    /// Receives what is pending.
-    pub fn drain<R: Host>(&mut self, rt: &R, ledger: &mut Ledger) {
+    /// Receives what is pending, so that each pair has come out or back.
+    pub fn settle<R: Abort + AllocGlobal>(&mut self, rt: &R) {
         for _ in 0..self.core.len() {
-            ask(rt, ledger, &mut self.core, "try_recv", &[]);
+            ask(rt, &mut self.ledger, &mut self.core, "try_recv", &[]);
         }
+        self.ledger.expect_settled(rt);
     }
 }
 
-fn ask<R: Host>(
+fn ask<R: Abort + AllocGlobal>(
     rt: &R,
     ledger: &mut Ledger,
     core: &mut Core<'_>,
@@ -83,8 +83,7 @@ fn ask<R: Host>(
 ) -> String {
     match (name, arguments) {
         ("send" | "try_send", [word]) => {
-            let (msg, priority) = pair(rt, *word);
-            ledger.submit(rt, (msg, priority));
+            let (msg, priority) = ledger.submit(rt, *word);
             let (sent, wakes) = core.try_send(msg, priority);
             handed(rt, told_sent(rt, ledger, sent), wakes)
         }
@@ -97,6 +96,9 @@ fn ask<R: Host>(
             handed(rt, told_received(rt, ledger, received), wakes)
         }
         ("poll_send", [word, given, by]) => poll_send(rt, ledger, core, *word, *given, *by),
+        ("poll_sendv", [given, by, words @ ..]) => {
+            poll_sendv(rt, ledger, core, words, *given, *by)
+        }
         ("poll_recv", [given, by]) => poll_recv(rt, ledger, core, *given, *by),
         ("give_up", [given]) => {
             core.give_up(number(rt, *given));
@@ -108,7 +110,7 @@ fn ask<R: Host>(
     }
 }
 
-fn ask_itself<R: Host>(rt: &R, core: &mut Core<'_>, call: Text) -> String {
+fn ask_itself<R: Abort + AllocGlobal>(rt: &R, core: &mut Core<'_>, call: Text) -> String {
     match call {
         "close" => {
             let (was_open, wakes) = core.close();
@@ -116,10 +118,20 @@ fn ask_itself<R: Host>(rt: &R, core: &mut Core<'_>, call: Text) -> String {
         }
         "clone_sender" => told(rt, core.clone_sender()),
         "clone_receiver" => told(rt, core.clone_receiver()),
-        "drop_sender" if core.sender_count() > 0 => handed(rt, text(rt, ""), core.drop_sender()),
-        "drop_receiver" if core.receiver_count() > 0 => {
+        "drop_sender" => {
+            assert!(rt; core.sender_count() > 0);
+            handed(rt, text(rt, ""), core.drop_sender())
+        }
+        "drop_receiver" => {
+            assert!(rt; core.receiver_count() > 0);
             handed(rt, text(rt, ""), core.drop_receiver())
         }
+        _ => look_at(rt, core, call),
+    }
+}
+
+fn look_at<R: Abort + AllocGlobal>(rt: &R, core: &Core<'_>, call: Text) -> String {
+    match call {
         "is_closed" => told(rt, core.is_closed()),
         "is_empty" => told(rt, core.is_empty()),
         "is_full" => told(rt, core.is_full()),
@@ -131,7 +143,7 @@ fn ask_itself<R: Host>(rt: &R, core: &mut Core<'_>, call: Text) -> String {
     }
 }
 
-fn poll_send<R: Host>(
+fn poll_send<R: Abort + AllocGlobal>(
     rt: &R,
     ledger: &mut Ledger,
     core: &mut Core<'_>,
@@ -139,20 +151,39 @@ fn poll_send<R: Host>(
     given: Text,
     by: Text,
 ) -> String {
-    let (msg, priority) = pair(rt, word);
-    ledger.submit(rt, (msg, priority));
+    let (msg, priority) = ledger.submit(rt, word);
     let (polled, wakes) = core.poll_send(msg, priority, ticket(rt, given), &waker(rt, by));
     let told = match polled {
         CorePoll::Ready(sent) => ready_sent(rt, ledger, sent),
         CorePoll::Pending(pair, ticket) => {
             ledger.end(rt, pair);
-            told_pending(rt, Some(ticket))
+            pending(rt, Some(ticket))
         }
     };
     handed(rt, told, wakes)
 }
 
-fn poll_recv<R: Host>(
+fn poll_sendv<R: Abort + AllocGlobal>(
+    rt: &R,
+    ledger: &mut Ledger,
+    core: &mut Core<'_>,
+    words: &[Text],
+    given: Text,
+    by: Text,
+) -> String {
+    let msgs = ledger.submit_many(rt, words);
+    let (polled, wakes) = core.poll_sendv(msgs, ticket(rt, given), &waker(rt, by));
+    let told = match polled {
+        CorePoll::Ready(sent) => ready_sent_many(rt, ledger, sent),
+        CorePoll::Pending(rest, ticket) => {
+            ledger.keep(rt, rest);
+            pending(rt, Some(ticket))
+        }
+    };
+    handed(rt, told, wakes)
+}
+
+fn poll_recv<R: Abort + AllocGlobal>(
     rt: &R,
     ledger: &mut Ledger,
     core: &mut Core<'_>,
@@ -162,7 +193,7 @@ fn poll_recv<R: Host>(
     let (polled, wakes) = core.poll_recv(ticket(rt, given), &waker(rt, by));
     let told = match polled {
         CorePoll::Ready(received) => ready_received(rt, ledger, received),
-        CorePoll::Pending((), ticket) => told_pending(rt, Some(ticket)),
+        CorePoll::Pending((), ticket) => pending(rt, Some(ticket)),
     };
     handed(rt, told, wakes)
 }

@@ -1,18 +1,18 @@
 //! Scripts on the handles of a channel.
 use super::answers::{
-    ready_sent, ready_sent_many, text, told, told_received, told_sent, told_sent_many, told_waited,
+    ready_sent, ready_sent_many, text, told, told_received, told_sent, told_sent_many,
 };
 use super::asking::Asking;
 use super::ledger::Ledger;
-use super::words::{Text, capacity, pair, reserved_capacity};
+use super::words::{Bulk, MOST_RESERVED, Text, capacity};
 use crate::tests::{Host, expect_equal, wait_for};
+use async_priority_channel::waiting::{Recv, Send, Sendv};
 use async_priority_channel::{
     End, Ends, Receiver, Role, Sender, TrySendError, bounded, bounded_reserved, unbounded,
 };
 use futures::future::poll_immediate;
 use refusing::Refusing;
-use std::alloc::{AllocError, Allocator, Global};
-use std::sync::Wait;
+use std::alloc::{AllocError, Global};
 
 /// How `send` and `recv` are made.
 #[derive(Clone, Copy)]
@@ -23,14 +23,21 @@ pub enum Way {
 
 type Memory<'a> = &'a Refusing<Global>;
 
+type Handle<'a, S, R> = End<S, Text, u64, Asking<'a, R>, Memory<'a>>;
+
+type Tx<'a, R> = Sender<Text, u64, Asking<'a, R>, Memory<'a>>;
+
+type Rx<'a, R> = Receiver<Text, u64, Asking<'a, R>, Memory<'a>>;
+
 /// The handles of one channel, of which the last of either kind makes the calls.
 #[derive(Drop)]
 pub struct HandleStage<'a, R: Host> {
     permission: &'a Asking<'a, R>,
     alloc: Memory<'a>,
     way: Way,
-    senders: Vec<Sender<Text, u64, Asking<'a, R>, Memory<'a>>>,
-    receivers: Vec<Receiver<Text, u64, Asking<'a, R>, Memory<'a>>>,
+    senders: Vec<Tx<'a, R>>,
+    receivers: Vec<Rx<'a, R>>,
+    ledger: Ledger,
 }
 
 impl<'a, R: Host> HandleStage<'a, R> {
@@ -43,26 +50,42 @@ impl<'a, R: Host> HandleStage<'a, R> {
             way,
             senders: Vec::new(rt.alloc()),
             receivers: Vec::new(rt.alloc()),
+            ledger: Ledger::new(rt),
         }
     }
 
-    pub fn make(&mut self, rt: &R, ledger: &mut Ledger, call: &[Text]) -> String {
+    pub fn make(&mut self, rt: &R, call: &[Text]) -> String {
         match call {
             ["unbounded" | "bounded" | "bounded_reserved", ..] => self.open(rt, call),
             ["clone_sender"] => clone_last(rt, &mut self.senders),
             ["clone_receiver"] => clone_last(rt, &mut self.receivers),
             ["drop_sender"] => drop_last(rt, &mut self.senders),
             ["drop_receiver"] => drop_last(rt, &mut self.receivers),
-            _ => self.ask(rt, ledger, call),
+            ["tx", "is_printed"] => { told(rt, !told(rt, last(rt, &self.senders)).is_empty()) }
+            ["rx", "is_printed"] => { told(rt, !told(rt, last(rt, &self.receivers)).is_empty()) }
+            ["tx", call] => ask_either(rt, last(rt, &self.senders), *call),
+            ["rx", call] => ask_either(rt, last(rt, &self.receivers), *call),
+            ["recv" | "try_recv"] => {
+                let is_future = matches!(self.way, Way::AsFuture) && matches!(call, ["recv"]);
+                receive(rt, &mut self.ledger, last(rt, &self.receivers), is_future)
+            }
+            [] => text(rt, ""),
+            _ => {
+                let way = self.way;
+                send(rt, &mut self.ledger, last(rt, &self.senders), call, way)
+            }
         }
     }
 
     // Makes a channel in place of the one before.
     fn open(&mut self, rt: &R, call: &[Text]) -> String {
         let made: Result<Ends<Text, u64, Asking<'a, R>, Memory<'a>>, AllocError> = match call {
-            ["bounded", word] => bounded(self.permission, self.alloc, capacity(rt, *word)),
+            ["bounded", word] => {
+                bounded(self.permission, self.alloc, capacity(rt, *word, u64::MAX))
+            }
             ["bounded_reserved", word] => {
-                bounded_reserved(self.permission, self.alloc, reserved_capacity(rt, *word))
+                let capacity = capacity(rt, *word, MOST_RESERVED);
+                bounded_reserved(self.permission, self.alloc, capacity)
             }
             _ => unbounded(self.permission, self.alloc),
         };
@@ -78,34 +101,17 @@ impl<'a, R: Host> HandleStage<'a, R> {
         }
     }
 
-    fn ask(&self, rt: &R, ledger: &mut Ledger, call: &[Text]) -> String {
-        match call {
-            ["tx", call] => ask_either(rt, last(rt, &self.senders), *call),
-            ["rx", call] => ask_either(rt, last(rt, &self.receivers), *call),
-            ["recv"] => receive(rt, ledger, last(rt, &self.receivers), self.way),
-            ["try_recv"] => receive(rt, ledger, last(rt, &self.receivers), Way::AtOnce),
-            ["send", word] => send(rt, ledger, last(rt, &self.senders), *word, self.way),
-            ["try_send", word] => send(rt, ledger, last(rt, &self.senders), *word, Way::AtOnce),
-            ["try_sendv", words @ ..] => {
-                let sent = last(rt, &self.senders).try_sendv(ledger.submit_many(rt, words));
-                told_sent_many(rt, ledger, sent)
-            }
-            ["poll_once_and_drop", call @ ..] => {
-                poll_once(rt, ledger, last(rt, &self.senders), call)
-            }
-            _ => panic!(rt; "a handle has no call {call:?}"),
-        }
-    }
-
-    /// Receives what is pending. The channel counts the handles that there are.
-    pub fn drain(&mut self, rt: &R, ledger: &mut Ledger) {
+    /// Receives what is pending, so that each pair has come out or back. The channel counts the
+    /// handles that there are.
+    pub fn settle(&mut self, rt: &R) {
         if let Some(rx) = self.receivers.last() {
             for _ in 0..rx.len() {
-                receive(rt, ledger, rx, Way::AtOnce);
+                receive(rt, &mut self.ledger, rx, false);
             }
             let counts = (rx.sender_count(), rx.receiver_count());
             expect_equal(rt, counts, (self.senders.len(), self.receivers.len()));
         }
+        self.ledger.expect_settled(rt);
     }
 }
 
@@ -113,10 +119,7 @@ fn last<'a, R: Host, H>(rt: &R, handles: &'a Vec<H>) -> &'a H {
     handles.last().expect(rt, "a handle")
 }
 
-fn clone_last<S: Role, R: Host, W: Wait + Clone, A: Allocator + Copy>(
-    rt: &R,
-    handles: &mut Vec<End<S, Text, u64, W, A>>,
-) -> String {
+fn clone_last<'a, S: Role, R: Host>(rt: &R, handles: &mut Vec<Handle<'a, S, R>>) -> String {
     match last(rt, handles).clone() {
         Ok(other) => {
             handles.push(other).expect(rt, "memory");
@@ -131,65 +134,59 @@ fn drop_last<R: Host, H: Drop>(rt: &R, handles: &mut Vec<H>) -> String {
     text(rt, "")
 }
 
-fn receive<R: Host, W: Wait + Clone, A: Allocator + Copy>(
-    rt: &R,
-    ledger: &mut Ledger,
-    rx: &Receiver<Text, u64, W, A>,
-    way: Way,
-) -> String {
-    match way {
-        Way::AtOnce => told_received(rt, ledger, rx.try_recv()),
-        Way::AsFuture => told_waited(rt, ledger, wait_for(rt, rx.recv())),
+fn receive<'a, R: Host>(rt: &R, ledger: &mut Ledger, rx: &Rx<'a, R>, is_future: bool) -> String {
+    if is_future {
+        let future: Recv<'_, Text, u64, Asking<'a, R>, Memory<'a>> = rx.recv();
+        told_received(rt, ledger, wait_for(rt, future))
+    } else {
+        told_received(rt, ledger, rx.try_recv())
     }
 }
 
-fn send<R: Host, W: Wait + Clone, A: Allocator + Copy>(
+fn send<'a, R: Host>(
     rt: &R,
     ledger: &mut Ledger,
-    tx: &Sender<Text, u64, W, A>,
-    word: Text,
+    tx: &Tx<'a, R>,
+    call: &[Text],
     way: Way,
 ) -> String {
-    let (msg, priority) = pair(rt, word);
-    ledger.submit(rt, (msg, priority));
-    let sent = match way {
-        Way::AtOnce => tx.try_send(msg, priority),
-        Way::AsFuture => wait_for(rt, tx.send(msg, priority)).map_err(TrySendError::from),
-    };
-    told_sent(rt, ledger, sent)
-}
-
-fn poll_once<R: Host, W: Wait + Clone, A: Allocator + Copy>(
-    rt: &R,
-    ledger: &mut Ledger,
-    tx: &Sender<Text, u64, W, A>,
-    call: &[Text],
-) -> String {
     match call {
-        ["send", word] => {
-            let (msg, priority) = pair(rt, *word);
+        ["send", word] if matches!(way, Way::AsFuture) => {
+            let (msg, priority) = ledger.submit(rt, *word);
+            let future: Send<'_, Text, u64, Asking<'a, R>, Memory<'a>> = tx.send(msg, priority);
+            let sent = wait_for(rt, future).map_err(TrySendError::from);
+            told_sent(rt, ledger, sent)
+        }
+        ["send" | "try_send", word] => {
+            let (msg, priority) = ledger.submit(rt, *word);
+            told_sent(rt, ledger, tx.try_send(msg, priority))
+        }
+        ["try_sendv", words @ ..] => {
+            let sent = tx.try_sendv(ledger.submit_many(rt, words));
+            told_sent_many(rt, ledger, sent)
+        }
+        ["poll_once_and_drop", "send", word] => {
+            let (msg, priority) = ledger.submit(rt, *word);
             match wait_for(rt, poll_immediate(tx.send(msg, priority))) {
                 Some(sent) => ready_sent(rt, ledger, sent),
                 None => text(rt, "Pending"),
             }
         }
-        ["sendv", words @ ..] => {
-            let msgs = ledger.submit_many(rt, words);
-            match wait_for(rt, poll_immediate(tx.sendv(msgs))) {
+        ["poll_once_and_drop", "sendv", words @ ..] => {
+            let future: Sendv<'_, Text, u64, Bulk, Asking<'a, R>, Memory<'a>> = tx.sendv(
+                ledger.submit_many(rt, words),
+            );
+            match wait_for(rt, poll_immediate(future)) {
                 Some(sent) => ready_sent_many(rt, ledger, sent),
                 None => text(rt, "Pending"),
             }
         }
-        _ => panic!(rt; "no future of {call:?}"),
+        _ => panic!(rt; "a handle has no call {call:?}"),
     }
 }
 
 // What a sender and a receiver have both.
-fn ask_either<S: Role, R: Host, W: Wait + Clone, A: Allocator + Copy>(
-    rt: &R,
-    end: &End<S, Text, u64, W, A>,
-    call: Text,
-) -> String {
+fn ask_either<'a, S: Role, R: Host>(rt: &R, end: &Handle<'a, S, R>, call: Text) -> String {
     match call {
         "close" => told(rt, end.close()),
         "is_closed" => told(rt, end.is_closed()),

@@ -1,13 +1,14 @@
 //! The states of futures by their names, polled on the core.
 use super::answers::{
-    handed, ready_received, ready_sent, ready_sent_many, text, told, told_pair, told_pending,
+    handed, pending, ready_received, ready_sent, ready_sent_many, text, told, told_pair,
 };
 use super::ledger::Ledger;
 use super::on_core::Core;
-use super::words::{Bulk, Text, pair, waker};
-use crate::tests::Host;
+use super::words::{Bulk, Text, waker};
 use async_priority_channel::waiting::{RecvState, SendState, SendvState};
 use futures::task::Poll;
+use std::alloc::AllocGlobal;
+use std::process::Abort;
 
 #[derive(Drop)]
 pub enum State {
@@ -17,11 +18,10 @@ pub enum State {
 }
 
 impl State {
-    pub fn new<R: Host>(rt: &R, ledger: &mut Ledger, call: &[Text]) -> Self {
+    pub fn new<R: Abort + AllocGlobal>(rt: &R, ledger: &mut Ledger, call: &[Text]) -> Self {
         match call {
             ["send", word] => {
-                let (msg, priority) = pair(rt, *word);
-                ledger.submit(rt, (msg, priority));
+                let (msg, priority) = ledger.submit(rt, *word);
                 State::Send(SendState::new(msg, priority))
             }
             ["sendv", words @ ..] => State::Sendv(SendvState::new(ledger.submit_many(rt, words))),
@@ -46,7 +46,7 @@ impl State {
         }
     }
 
-    pub fn make<R: Host>(
+    pub fn make<R: Abort + AllocGlobal>(
         &mut self,
         rt: &R,
         ledger: &mut Ledger,
@@ -62,7 +62,7 @@ impl State {
         }
     }
 
-    fn poll<R: Host>(
+    fn poll<R: Abort + AllocGlobal>(
         &mut self,
         rt: &R,
         ledger: &mut Ledger,
@@ -76,14 +76,18 @@ impl State {
         }
     }
 
-    fn give_up<R: Host>(&mut self, rt: &R, ledger: &mut Ledger, core: &mut Core<'_>) -> String {
+    fn give_up<R: Abort + AllocGlobal>(
+        &mut self,
+        rt: &R,
+        ledger: &mut Ledger,
+        core: &mut Core<'_>,
+    ) -> String {
         let kept = match self {
             State::Send(send) => {
                 let Some(pair) = send.give_up_on(core) else {
                     return text(rt, "None");
                 };
-                ledger.end(rt, pair);
-                told_pair(rt, pair)
+                told_pair(rt, ledger, pair)
             }
             State::Sendv(sendv) => {
                 let Some(rest) = sendv.give_up_on(core) else {
@@ -102,7 +106,7 @@ impl State {
     }
 }
 
-fn poll_send<R: Host>(
+fn poll_send<R: Abort + AllocGlobal>(
     rt: &R,
     ledger: &mut Ledger,
     core: &mut Core<'_>,
@@ -112,12 +116,12 @@ fn poll_send<R: Host>(
     let (polled, wakes) = send.poll_on(core, &waker);
     let told = match polled {
         Poll::Ready(sent) => ready_sent(rt, ledger, sent),
-        Poll::Pending => told_pending(rt, send.ticket()),
+        Poll::Pending => pending(rt, send.ticket()),
     };
     handed(rt, told, wakes)
 }
 
-fn poll_sendv<R: Host>(
+fn poll_sendv<R: Abort + AllocGlobal>(
     rt: &R,
     ledger: &mut Ledger,
     core: &mut Core<'_>,
@@ -127,12 +131,12 @@ fn poll_sendv<R: Host>(
     let (polled, wakes) = sendv.poll_on(core, &waker);
     let told = match polled {
         Poll::Ready(sent) => ready_sent_many(rt, ledger, sent),
-        Poll::Pending => told_pending(rt, sendv.ticket()),
+        Poll::Pending => pending(rt, sendv.ticket()),
     };
     handed(rt, told, wakes)
 }
 
-fn poll_recv<R: Host>(
+fn poll_recv<R: Abort + AllocGlobal>(
     rt: &R,
     ledger: &mut Ledger,
     core: &mut Core<'_>,
@@ -142,7 +146,7 @@ fn poll_recv<R: Host>(
     let (polled, wakes) = recv.poll_on(core, &waker);
     let told = match polled {
         Poll::Ready(received) => ready_received(rt, ledger, received),
-        Poll::Pending => told_pending(rt, recv.ticket()),
+        Poll::Pending => pending(rt, recv.ticket()),
     };
     handed(rt, told, wakes)
 }
