@@ -6,8 +6,8 @@ use super::script::play;
 use super::word::{expect_handed, unwoken};
 use super::{expect_equal, expect_true};
 use async_priority_channel::laws::{
-    alike_law, closing_law, conservation_law, digits_law, drain_law, history_law, list_law,
-    one_greatest_law, one_least_law, queue_law, waiting_law,
+    alike_law, closing_law, conservation_law, digits_law, done_law, drain_law, history_law,
+    list_law, one_greatest_law, one_least_law, queue_law, waiting_law,
 };
 use async_priority_channel::recorded::{Call, Reply};
 use priority_channel_core::awaitable_atomics::AwaitableAtomicCounterAndBit;
@@ -200,6 +200,7 @@ fn laws_has_each_law(_rt: HostRuntime) {
     closing_law();
     conservation_law::<u64, u64, u64>();
     digits_law();
+    done_law::<u64, u64, u64>();
     drain_law::<u64, u64, u64>();
     history_law::<u64, u64>();
     list_law::<IntoIter<(u64, u64)>>();
