@@ -15,7 +15,7 @@ const TRIES: u32 = 10;
 // as the one before, up to 2^DOUBLINGS times as long. If all tried again at once, lock and heap
 // would move between the processors at each call. While they pause, one thread makes several calls
 // in a row.
-const PAUSES: u32 = 16;
+const PAUSES: u32 = 32;
 
 const DOUBLINGS: u32 = 4;
 

@@ -8,7 +8,7 @@ use crate::tests::driver::calls::{Call, Input, Pairs, Side, Way};
 use crate::tests::driver::receive::receive;
 use crate::tests::driver::reply::{Outcome, Reply};
 use crate::tests::{Host, expect_equal_at, expect_true};
-use async_priority_channel::{Lease, Receiver, Sender, bounded, unbounded};
+use async_priority_channel::{Ends, Lease, Receiver, Sender, bounded, unbounded};
 use std::iter::once;
 use std::sync::Wait;
 use std::sync::atomic::{AtomicBool, AtomicU64, Ordering};
@@ -57,8 +57,8 @@ fn send_all<R: Host>(rt: &R, tx: &Sender<u64, u64, R>) {
 }
 
 // One thread sends, and the others work.
-fn run_unsteady<R: Threaded>(rt: &R, capacity: u64) {
-    let (tx, rx) = bounded(rt, rt.alloc(), capacity).expect(rt, "a channel");
+fn run_unsteady<R: Threaded>(rt: &R, ends: Ends<u64, u64, R>, capacity: u64) {
+    let (tx, rx) = ends;
     let mut finished = Vec::new(rt.alloc());
     for _ in 0..MESSAGES {
         let times = AtomicU64::new(0);
@@ -89,10 +89,11 @@ fn run_unsteady<R: Threaded>(rt: &R, capacity: u64) {
 #[test]
 fn workers_that_fail_at_random_finish_each_message_once(rt: HostRuntime) {
     for capacity in [1u64, 5, 40] {
+        let ends = bounded(&rt, rt.alloc(), capacity).expect(&rt, "a channel");
         within(
             &rt,
             ("unsteady workers", capacity),
-            || run_unsteady(&rt, capacity),
+            || run_unsteady(&rt, ends, capacity),
         );
     }
 }
