@@ -5,8 +5,8 @@ use crate::load::Load;
 use crate::measure::Measure;
 use crate::threads::{Giving, Machine, start_all};
 use anyhow::{Context, ensure};
-use async_priority_channel::{Receiver, Sender};
-use std::thread::{self, Threads};
+use async_priority_channel::{Ends, Receiver, Sender};
+use std::thread;
 use std::time::Instant;
 
 /// How many nanoseconds each call of a thread took.
@@ -22,13 +22,15 @@ pub fn delay<R: Machine>(
     capacity: u64,
     count: u64,
 ) -> anyhow::Result<Measure> {
-    let (tx, rx) = channel(&rt, capacity)?;
+    let ends = channel(&rt, capacity)?;
     let share = count / threads.max(1);
-    let receiving = start_all(&rt, threads, |_| start_receiver(rt, calls, &rx, share))?;
-    let sending = start_all(&rt, threads, |_| start_sender(rt, calls, &tx, share))?;
+    let started = start_all(&rt, threads.saturating_mul(2), |number| {
+        start_thread(rt, calls, &ends, number < threads, share)
+    })?;
     let mut delays = Vec::new(rt.alloc());
-    join_onto(&rt, sending, &mut delays)?;
-    join_onto(&rt, receiving, &mut delays)?;
+    for thread in started {
+        delays.append(&mut thread.join(&rt)?)?;
+    }
     delays.sort_unstable();
     let last = u64::try_from(delays.len().saturating_sub(1))?;
     let position = usize::try_from(last.saturating_mul(permille) / 1000)?;
@@ -39,69 +41,36 @@ pub fn delay<R: Machine>(
     })
 }
 
-fn start_sender<R: Machine>(
+fn start_thread<R: Machine>(
     rt: R,
     calls: Calls,
-    tx: &Sender<u64, i64, R>,
+    ends: &Ends<u64, i64, R>,
+    sends: bool,
     count: u64,
 ) -> anyhow::Result<Giving<Delays>> {
-    let tx: Sender<u64, i64, R> = tx.clone()?;
-    Ok(thread::spawn(&rt, move || send_timed(&rt, calls, &tx, count))?)
+    let tx: Sender<u64, i64, R> = ends.0.clone()?;
+    let rx: Receiver<u64, i64, R> = ends.1.clone()?;
+    Ok(thread::spawn(&rt, move || time_calls(&rt, calls, &tx, &rx, sends, count))?)
 }
 
-fn send_timed<R: Machine>(
+fn time_calls<R: Machine>(
     rt: &R,
     calls: Calls,
     tx: &Sender<u64, i64, R>,
+    rx: &Receiver<u64, i64, R>,
+    sends: bool,
     count: u64,
 ) -> anyhow::Result<Delays> {
     let mut delays = Vec::new(rt.alloc());
     for number in 0..count {
         let start = Instant::now(rt)?;
-        let is_sent = calls.send(rt, tx, number, Load::Random.priority(number));
-        ensure!(is_sent, "a number was not sent");
-        push_delay(rt, start, &mut delays)?;
+        let is_done = if sends {
+            calls.send(rt, tx, number, Load::Random.priority(number))
+        } else {
+            calls.recv(rt, rx).is_some()
+        };
+        ensure!(is_done, "a call failed");
+        delays.push(u64::try_from(start.elapsed(rt)?.as_nanos())?)?;
     }
     Ok(delays)
-}
-
-fn start_receiver<R: Machine>(
-    rt: R,
-    calls: Calls,
-    rx: &Receiver<u64, i64, R>,
-    count: u64,
-) -> anyhow::Result<Giving<Delays>> {
-    let rx: Receiver<u64, i64, R> = rx.clone()?;
-    Ok(thread::spawn(&rt, move || recv_timed(&rt, calls, &rx, count))?)
-}
-
-fn recv_timed<R: Machine>(
-    rt: &R,
-    calls: Calls,
-    rx: &Receiver<u64, i64, R>,
-    count: u64,
-) -> anyhow::Result<Delays> {
-    let mut delays = Vec::new(rt.alloc());
-    for _ in 0..count {
-        let start = Instant::now(rt)?;
-        ensure!(calls.recv(rt, rx).is_some(), "no message came");
-        push_delay(rt, start, &mut delays)?;
-    }
-    Ok(delays)
-}
-
-fn push_delay<R: Machine>(rt: &R, start: Instant, delays: &mut Delays) -> anyhow::Result<()> {
-    delays.push(u64::try_from(start.elapsed(rt)?.as_nanos())?)?;
-    Ok(())
-}
-
-fn join_onto<R: Threads>(
-    rt: &R,
-    threads: Vec<Giving<Delays>>,
-    delays: &mut Delays,
-) -> anyhow::Result<()> {
-    for thread in threads {
-        delays.append(&mut thread.join(rt)?)?;
-    }
-    Ok(())
 }

@@ -93,11 +93,20 @@ impl<'a, R: Host> Stage<'a, R> {
 
     // Ends at the first call that is refused memory, where that may be, and tells whether there
     // was one.
-    fn play(&mut self, rt: &R, alloc: &Refusing<Global>, calls: Text, is_scarce: bool) -> bool {
+    fn play(
+        &mut self,
+        rt: &R,
+        alloc: &Refusing<Global>,
+        (title, calls): (Text, Text),
+        is_scarce: bool,
+    ) -> bool {
         for line in calls.lines() {
             if let Some(got) = self.find_other(rt, alloc, line) {
                 let is_refusal = got.as_str() == "AllocError" || got.contains("Memory");
-                assert!(rt; is_scarce && is_refusal, "{line}: it answered {got}");
+                assert!(rt;
+                    is_scarce && is_refusal,
+                    "{title}: {line}: it answered {got}"
+                );
                 return true;
             }
         }
@@ -120,10 +129,10 @@ fn is_wanted(got: &str, wanted: &str) -> bool {
 /// Plays each example of a script, and fails at the first call that answers otherwise.
 pub fn play<R: Host>(rt: &R, ground: Ground, script: Text) {
     for example in script.split("# ") {
-        let (_title, calls) = example.split_once('\n').unwrap_or((example, ""));
+        let example = example.split_once('\n').unwrap_or((example, ""));
         let alloc = Refusing::new(rt.alloc());
         let permission = Asking { rt, alloc: &alloc };
-        Stage::new(&permission, ground).play(rt, &alloc, calls, false);
+        Stage::new(&permission, ground).play(rt, &alloc, example, false);
     }
 }
 
@@ -139,7 +148,7 @@ pub fn play_refused<R: Host>(rt: &R, ground: Ground, script: Text, title: Text) 
         let n = round.expect(rt, "a request");
         let mut stage = Stage::new(&permission, ground);
         alloc.refuse_nth(n);
-        let was_refused = stage.play(rt, &alloc, calls, true);
+        let was_refused = stage.play(rt, &alloc, (title, calls), true);
         let met_none = alloc.refuse_none();
         expect_true(rt, was_refused != met_none, title);
         stage.settle(rt);
