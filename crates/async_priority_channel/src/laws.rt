@@ -19,9 +19,9 @@
 //! The laws of histories that exist in contracts alone, `last_law` and `wait_law`, are in
 //! `priority_channel_witnessed::laws`.
 
-pub use priority_channel_core::laws::{digits_law, list_law, one_greatest_law, one_least_law};
-pub use priority_channel_laws::laws::{
-    alike_law, conservation_law, done_law, drain_law, queue_law, waiting_law,
+pub use priority_channel_core::laws::{
+    alike_law, conservation_law, digits_law, done_law, drain_law, list_law, one_greatest_law,
+    one_least_law,
 };
 pub use priority_channel_recorded::laws::history_law;
-pub use priority_channel_waiting::law::closing_law;
+pub use priority_channel_waiting::laws::{closing_law, queue_law, waiting_law};

@@ -1,6 +1,6 @@
 //! Calls that count, change, receive or take out the messages that a test chooses.
 ghost use Rattle.std.specs.Prelude.{true, false, All, IfOk, IfSome};
-ghost use Rattle.priority_channel_bag.specs.Prelude.{Tells};
+ghost use Rattle.priority_channel_core.specs.bag.Prelude.{Tells};
 
 use crate::end::{End, Role};
 use crate::receiver::Receiver;

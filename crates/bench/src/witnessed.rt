@@ -1,6 +1,6 @@
 //! A witnessed channel, on one thread: what it costs that each caller knows a history.
 ghost use Rattle.std.specs.Prelude.{◌≡◌, ◌-◌, ◌^◌, false};
-ghost use Rattle.priority_channel_witnessed.specs.Log.{names};
+ghost use Rattle.priority_channel_recorded.specs.chronicle.Log.{names};
 
 use crate::load::Load;
 use crate::measure::{Measure, add_at};

@@ -1,6 +1,6 @@
 -- What a change of priority is in the channel.
 use Rattle.std.proofs.Common.{◌≡◌, ℕ, Bool, length, length-append, refl, arith, Result, Ok, Err, IfOk, IfErr, OnErr}
-use Rattle.priority_channel_bag.specs.Prelude.{Contents, Changes, PassesFirst}
+use Rattle.priority_channel_core.specs.bag.Prelude.{Contents, Changes, PassesFirst}
 use Rattle.priority_channel_core.specs.Prelude.{Word, State, nobody, Step, state_of, IsSound, Ordering}
 use Rattle.priority_channel_core.specs.declared.calls.Call.TheVariants as call
 use Rattle.priority_channel_core.specs.declared.calls.Answer.TheVariants as answer

@@ -3,7 +3,7 @@
 use Rattle.std.proofs.lemmas.Bool.Decides.{nat_tests}
 use Rattle.std.proofs.Common.{◌≡◌, ℕ, ◌+◌, ◌-◌, ◌<◌, ◌≤◌, ◌^◌, ◌⊎◌, Bool, false, List, [], ◌++◌, length, refl, arith, length-append, ◌==◌, if◌then◌else◌}
 use Rattle.priority_channel_core.specs.Prelude.{State, Handed, nobody, AddsFront, Word, HasOwnTickets, state_of, IsSound}
-use Rattle.priority_channel_bag.specs.Prelude.{Contents}
+use Rattle.priority_channel_core.specs.bag.Prelude.{Contents}
 
 module _ {T P W : Type 0} (bag bag' : Contents T P) (word word' : Word W) (handed : Handed W) (capacity : ℕ) (is_reserved : Bool)
     (senders receivers n : ℕ) (front : List (T × P)) (long : length front ≡ n)

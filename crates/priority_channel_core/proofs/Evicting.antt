@@ -1,8 +1,8 @@
 -- What a displacement is in the channel, and what it is to take out a pair that a test chooses.
 use Rattle.std.proofs.Common.{◌≡◌, ℕ, ◌+◌, ◌-◌, ◌<◌, ◌^◌, Bool, false, List, [], ◌∷◌, length, sym, subst, length-append, refl, arith, Some, Ok, is_lt}
 use Rattle.std.proofs.lemmas.List.Elements.{recursion_from_All}
-use Rattle.priority_channel_bag.proofs.Kept.{every_part}
-use Rattle.priority_channel_bag.specs.Prelude.{Contents, TakesOne, NoneBelow, Displaces}
+use Rattle.priority_channel_core.proofs.items.Kept.{every_part}
+use Rattle.priority_channel_core.specs.bag.Prelude.{Contents, TakesOne, NoneBelow, Displaces}
 use Rattle.priority_channel_core.specs.Prelude.{State, Handed, nobody, room, IsGood, Evicts, Frees, HasOwnTickets, SomeBelow, Ordering, Word, bit_at, state_of, IsSound}
 use Rattle.priority_channel_core.proofs.Closing.{good_settled}
 

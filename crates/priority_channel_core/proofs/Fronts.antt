@@ -3,7 +3,7 @@ use Rattle.std.proofs.lemmas.List.{nil_from_length}
 use Rattle.std.proofs.Common.{◌≡◌, ℕ, ◌+◌, ◌<◌, ◌≤◌, List, [], ◌∷◌, ◌++◌, length, sym, ap, ◌∙◌, arith, append_assoc, length-append, Option, Some, Bool, true, false, IsTrue, ◌↔◌}
 use Rattle.std.specs.Iterator.Adapters.{peekable_steps}
 use Rattle.std.specs.declared.iter.Ahead.{Ahead}
-use Rattle.priority_channel_bag.specs.Prelude.{Contents}
+use Rattle.priority_channel_core.specs.bag.Prelude.{Contents}
 use Rattle.priority_channel_core.specs.Prelude.{HasList, State, Handed, HasMore, HasEnded, MovesFront, SendsFront, StopsFor, sent_before, Stop}
 use Rattle.priority_channel_core.specs.code.Front.{Takes}
 use Rattle.priority_channel_core.proofs.Lists.{list_at_some}

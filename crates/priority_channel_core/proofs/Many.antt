@@ -4,9 +4,9 @@ use Rattle.std.proofs.lemmas.Nat.{mul-le}
 use Rattle.priority_channel_core.specs.declared.calls.Call.TheVariants as call
 use Rattle.priority_channel_core.specs.declared.calls.Answer.TheVariants as answer
 use Rattle.priority_channel_core.specs.Prelude.{TryRecvError, State, Handed, nobody, Step, Operation, Run, in_turn, receives, ReceivesInTurn, Ordering}
-use Rattle.priority_channel_bag.specs.Prelude.{digits}
-use Rattle.priority_channel_bag.proofs.Digits.{digits-mono}
-use Rattle.priority_channel_core.proofs.Runs.{Run-more}
+use Rattle.priority_channel_core.specs.bag.Prelude.{digits}
+use Rattle.priority_channel_core.proofs.items.Digits.{digits-mono}
+use Rattle.priority_channel_core.proofs.Running.{Run-more}
 
 module _ {T P W : Type 0} where
   receives-push : (pairs : List (T × P)) (pair : T × P) → in_turn {W = W} receives (pairs ++ pair ∷ []) nobody ≡ in_turn receives pairs nobody ++ in_turn receives (pair ∷ []) nobody

@@ -1,11 +1,11 @@
 -- Polls, by what their try left and how they ended.
-use Rattle.priority_channel_bag.proofs.Digits.{digits-mono}
+use Rattle.priority_channel_core.proofs.items.Digits.{digits-mono}
 use Rattle.std.proofs.Common.{◌≡◌, ℕ, ◌*◌, ◌≤◌, true, List, length, refl, arith, Ok, Err, Option, None, Some, IfSome, IfErr}
 use Rattle.priority_channel_core.specs.declared.calls.Call.TheVariants as call
 use Rattle.priority_channel_core.specs.declared.calls.Answer.TheVariants as answer
 use Rattle.priority_channel_core.specs.Prelude.{Ready, Pending, Side, Room, Full, Closed, Memory, rest_of, is_given_listed, unlist, search_bound, State, Handed, IsGood, AddsFront, Sends, Receives, send_answer, recv_answer, Ends, CountedState, ComparesAtMost, IsBlocked, kept_by, waits_under, PollsFront, SameReply, SamePoll, Performs, Ordering, SendReply, RecvReply, SendPoll, RecvPoll}
 use Rattle.priority_channel_core.specs.declared.errors.SendFault.TheVariants as send
-use Rattle.priority_channel_bag.specs.Prelude.{digits}
+use Rattle.priority_channel_core.specs.bag.Prelude.{digits}
 
 -- what holds of each answer to a poll of a send, with the reply and the ticket that it is made from
 pub send_answers : {K : Type 0} (Q : SendReply K → Option ℕ → SendPoll K → Type 0)

@@ -1,7 +1,7 @@
 -- What takings in a row do in the channel.
 use Rattle.std.proofs.Common.{◌≡◌, ℕ, ◌+◌, ◌-◌, Bool, false, ◌&&◌, ◌||◌, ◌∙◌, ◌==◌, if◌then◌else◌, List, [], ◌∷◌, length, length-append, map, refl, sym, ap, subst, arith, Some}
 use Rattle.std.proofs.lemmas.Bool.Decides.{nat_tests}
-use Rattle.priority_channel_bag.specs.Prelude.{Contents, TakesOne, TakesAll}
+use Rattle.priority_channel_core.specs.bag.Prelude.{Contents, TakesOne, TakesAll}
 use Rattle.priority_channel_core.specs.Prelude.{HasOwnTickets, State, Handed, nobody, IsGood, Frees, Step, Run, Placed, in_turn, takes, TakesInTurn, Ordering, Word, bit_at, settled, state_of}
 use Rattle.priority_channel_core.specs.declared.calls.Call.TheVariants as call
 use Rattle.priority_channel_core.specs.declared.calls.Answer.TheVariants as answer

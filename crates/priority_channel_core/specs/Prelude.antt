@@ -1,9 +1,5 @@
 -- The names that contracts and proofs cite, passed on from one place. Declares nothing.
 pub use Rattle.priority_channel_core.specs.Errors.{batch_error_for, recv_fault_text, refusal_for, rest_of, send_fault_debug, send_fault_text, try_recv_error_text, try_recv_many_error_text, try_send_error_debug, try_send_error_text, unsent}
-pub use Rattle.priority_channel_core.specs.Future.{Future, future_after, Futures, GivesUpTicket, poll_of, Standing, Task, Tasks, ticket_of}
-pub use Rattle.priority_channel_core.specs.Future.Standing.{Called, Done, New, Waiting}
-pub use Rattle.priority_channel_core.specs.Future.Task.{Recv, Send, Sendv}
-pub use Rattle.priority_channel_core.specs.Lines.{IsFirst, Lined, Lists}
 pub use Rattle.priority_channel_core.specs.Waiters.{enlist, Enlists, HasOwnTickets, no_waiters, on_side, search_bound, unlist, Waiters}
 pub use Rattle.priority_channel_core.specs.Waiting.{fresh, is_given_listed, is_listed, IsListing, IsRising, listing, Listing, with_waker, without, without_given}
 pub use Rattle.priority_channel_core.specs.Word.{bit_at, closed_bit, count_below, CountedWord, Word}

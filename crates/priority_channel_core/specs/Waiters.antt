@@ -1,6 +1,6 @@
 -- The waiters on both sides of a channel.
 use Rattle.std.specs.Prelude.{◌≡◌, true, false, ℕ, ◌+◌, ◌<◌, List, [], length, Option, Some, None, All}
-use Rattle.priority_channel_bag.specs.Prelude.{digits}
+use Rattle.priority_channel_core.specs.bag.Prelude.{digits}
 use Rattle.priority_channel_core.specs.Types.{Side, Room, Message}
 use Rattle.priority_channel_core.specs.Waiting.{Listing, IsRising, is_listed, without_given, listing}
 

@@ -7,9 +7,9 @@ ghost use Rattle.std.specs.Prelude.{◌≡◌, ◌+◌, ◌-◌, ◌<◌, ◌≤
 ghost use Rattle.priority_channel_core.specs.Word.{bit_at, nobody};
 ghost use Rattle.priority_channel_core.specs.Prelude.{is_given_listed, HasOwnTickets, no_waiters, on_side, unlist, Enlists, search_bound, closed_bit, count_below};
 
+use crate::comparisons::Comparisons;
 use crate::side::Side;
 use crate::waiting_list::WaitingList;
-use priority_channel_bag::comparisons::Comparisons;
 use std::alloc::{Allocator, Global};
 use std::marker::Model;
 

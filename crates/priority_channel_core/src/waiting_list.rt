@@ -1,12 +1,12 @@
 //! The list of the waiters on one side.
 ghost use Rattle.std.specs.Prelude.{◌≡◌, ◌↔◌, ℕ, ◌+◌, ◌<◌, ◌≤◌, false, IfSome, IsSome, IsTrue, true, IfNone, None, List, [], ◌++◌, length, option_to_list, ◌^◌, All, HoldsAt};
-ghost use Rattle.priority_channel_bag.specs.Prelude.{digits};
+ghost use Rattle.priority_channel_core.specs.bag.Prelude.{digits};
 ghost use Rattle.priority_channel_core.specs.Prelude.{is_listed, is_given_listed, without, with_waker, without_given, IsListing};
 
 mod entries;
 
+use crate::comparisons::Comparisons;
 use entries::Entries;
-use priority_channel_bag::comparisons::Comparisons;
 use std::alloc::{Allocator, Global};
 use std::cmp::Ordering;
 use std::marker::Model;

@@ -5,7 +5,7 @@ use Rattle.std.specs.Cmp.{IsTotalOrder}
 use Rattle.priority_channel_core.specs.declared.calls.Answer.TheVariants as answer
 use Rattle.priority_channel_core.specs.declared.errors.TrySendError.TheVariants as send_error
 use Rattle.priority_channel_core.specs.declared.errors.TryRecvError.TheVariants as recv_error
-use Rattle.priority_channel_bag.proofs.Extremes.{one_greatest, one_least}
+use Rattle.priority_channel_core.proofs.items.Extremes.{one_greatest, one_least}
 use Rattle.priority_channel_core.specs.Prelude.{Handed, opening, settled, AddsFront, Sends, Moves, Step, Answers, Operation, Run, Ordering}
 use Rattle.priority_channel_recorded.specs.declared.book.Call.{Call}
 use Rattle.priority_channel_recorded.specs.declared.book.Call.TheVariants.{TrySend, TrySendEvicting, TryRecv, Close, IsClosed, IsEmpty, IsFull, Len}

@@ -4,7 +4,7 @@ use Rattle.priority_channel_core.specs.declared.calls.Answer.TheVariants as answ
 use Rattle.priority_channel_core.specs.declared.errors.TrySendError.TheVariants as send_error
 use Rattle.priority_channel_core.specs.declared.errors.TryRecvError.TheVariants as recv_error
 use Rattle.priority_channel_core.specs.Prelude.{Handed, opening, Moves, Step, Answers, Operation, Ordering}
-use Rattle.priority_channel_core.proofs.Runs.{zip_push, Run-more}
+use Rattle.priority_channel_core.proofs.Running.{zip_push, Run-more}
 use Rattle.priority_channel_recorded.specs.declared.book.Call.{Call}
 use Rattle.priority_channel_recorded.specs.declared.book.Call.TheVariants.{TrySend, TrySendEvicting, TryRecv, Close, IsClosed, IsEmpty, IsFull, Len}
 use Rattle.priority_channel_recorded.specs.declared.book.Reply.{Reply}

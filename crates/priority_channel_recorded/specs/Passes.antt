@@ -3,8 +3,8 @@ use Rattle.std.specs.Prelude.{ℕ, List}
 use Rattle.std.specs.declared.cmp.Ordering.{Ordering}
 use Rattle.priority_channel_recorded.specs.declared.book.Entry.{Entry}
 use Rattle.priority_channel_recorded.specs.History.{who_of, IsLegal}
-use Rattle.priority_channel_chronicle.specs.Passes as chronicle
-pub use Rattle.priority_channel_chronicle.specs.Passes.{AreNew, calls_made, AreApart}
+use Rattle.priority_channel_recorded.specs.chronicle.Passes as chronicle
+pub use Rattle.priority_channel_recorded.specs.chronicle.Passes.{AreNew, calls_made, AreApart}
 
 abbrev pub Carried : Type 0 → Type 0 → Type 0
 Carried T P = chronicle.Carried (Entry T P)

@@ -6,11 +6,12 @@
 #![tactic(auto)]
 
 mod book;
-mod chronicle;
+mod calls;
+pub mod chronicle;
 pub mod laws;
 mod recorder;
 
 pub use book::{Book, Call, Entry, NoPlace, Reply};
-pub use chronicle::{Calls, Fresh, Pass};
-pub use priority_channel_chronicle::Recording;
+pub use calls::{Calls, Fresh, Pass};
+pub use chronicle::Recording;
 pub use recorder::{History, Recorded};

@@ -1,13 +1,13 @@
 //! A channel that many threads call, with the history of all calls.
 ghost use Rattle.std.specs.Prelude.{◌≡◌, ◌+◌, ◌<◌, ◌≤◌, ◌^◌, ◌∷◌, [], ◌++◌, length, vec_len, All, IfOk, OnErr};
 ghost use mathlib.Core.List.{IsPrefix};
-ghost use Rattle.priority_channel_recorded.specs.History.{entry, IsStep};
-ghost use Rattle.priority_channel_recorded.specs.Log.{IsLegal, names};
+ghost use Rattle.priority_channel_recorded.specs.History.{entry, IsLegal, IsStep};
+ghost use Rattle.priority_channel_recorded.specs.chronicle.Log.{names};
 ghost use Rattle.priority_channel_recorded.specs.Passes.{calls_made, AreNew, AreApart, Accounts, IsTold};
 
 use crate::book::{Book, Call, Entry, NoPlace, Reply};
-use crate::chronicle::{Calls, Fresh, Log, Pass};
-use priority_channel_chronicle::{Journal, Recording};
+use crate::calls::{Calls, Fresh, Log, Pass};
+use crate::chronicle::{Journal, Recording};
 use std::alloc::{AllocError, Allocator, Global};
 use std::marker::Model;
 use std::sync::ledger::Share;
@@ -75,7 +75,8 @@ impl<T: Copy, P: Copy + Ord, J: Recording, A: Allocator + Copy> Guarded<T, P, J,
 /// ```
 /// ghost use Rattle.std.specs.Prelude.{◌≡◌, IfOk};
 /// ghost use Rattle.std.specs.Ordering.{nat_cmp};
-/// ghost use Rattle.priority_channel_recorded.specs.Log.{names, IsLegal};
+/// ghost use Rattle.priority_channel_recorded.specs.chronicle.Log.{names};
+/// ghost use Rattle.priority_channel_recorded.specs.History.{IsLegal};
 ///
 /// fn audited<J: Recording, R: Wait>(
 ///     rt: &R,

@@ -8,7 +8,9 @@ use Rattle.priority_channel_core.specs.declared.calls.CorePoll.{CorePoll}
 use Rattle.priority_channel_core.specs.declared.calls.CorePoll.TheVariants.{Ready, Pending}
 use Rattle.priority_channel_core.specs.declared.errors.TrySendError.{TrySendError}
 use Rattle.priority_channel_core.specs.declared.side.Side.TheVariants.{Room}
-use Rattle.priority_channel_core.specs.Prelude.{State, Handed, rest_of, Sends, send_answer, Polls, Performs, SamePoll, SameReply, kept_by, Task, poll_of, future_after, Sendv, Ordering, SendReply, SendPoll}
+use Rattle.priority_channel_core.specs.Prelude.{State, Handed, rest_of, Sends, send_answer, Polls, Performs, SamePoll, SameReply, kept_by, Ordering, SendReply, SendPoll}
+use Rattle.priority_channel_waiting.specs.Future.{Task, poll_of, future_after}
+use Rattle.priority_channel_waiting.specs.Future.Task.{Sendv}
 use Rattle.priority_channel_core.specs.declared.calls.Call.TheVariants as call
 use Rattle.priority_channel_core.specs.declared.calls.Answer.TheVariants as answer
 use Rattle.priority_channel_core.specs.declared.errors.SendFault.TheVariants as send_fault

@@ -5,3 +5,6 @@ pub mod Ends
 pub mod Closers
 pub mod Listed
 pub mod Watchers
+pub mod Lines
+pub mod worlds
+pub mod queue

@@ -5,7 +5,9 @@ use Rattle.std.proofs.lemmas.Bool.Decides.{nat_tests}
 use Rattle.std.proofs.lemmas.List.{get_or-map, length-map}
 use Rattle.std.proofs.lemmas.List.Elements.{All-contains, All-contains_itself, All-filter, All-map, All-weaker, filter_passes, Contains-append_left, Contains-push, Contains-push_cases, at_from_Contains}
 use Rattle.std.proofs.lemmas.List.Folds.{Any-from_list_any}
-use Rattle.priority_channel_core.specs.Prelude.{is_listed, without_given, with_waker, listing, fresh, Listing, Standing, ticket_of, Waiting, Done}
+use Rattle.priority_channel_core.specs.Prelude.{is_listed, without_given, with_waker, listing, fresh, Listing}
+use Rattle.priority_channel_waiting.specs.Future.{Standing, ticket_of}
+use Rattle.priority_channel_waiting.specs.Future.Standing.{Waiting, Done}
 use Rattle.priority_channel_core.proofs.Waiting.{listed_at}
 use Rattle.priority_channel_waiting.specs.Closers.{Closers}
 

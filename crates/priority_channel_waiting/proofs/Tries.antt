@@ -4,12 +4,14 @@ use Rattle.priority_channel_core.specs.declared.calls.Call.{Call}
 use Rattle.priority_channel_core.specs.declared.calls.CorePoll.TheVariants.{Ready}
 use Rattle.priority_channel_core.specs.declared.side.Side.{Side}
 use Rattle.priority_channel_core.specs.declared.side.Side.TheVariants.{Room, Message}
-use Rattle.priority_channel_core.specs.Prelude.{rest_of, State, Handed, IsGood, Step, Performs, unlist, search_bound, as_list, AddsFront, Polls, send_answer, recv_answer, CountedState, ComparesAtMost, Sendv, GivesUpTicket, Task, poll_of, future_after, Ordering, SendReply, RecvReply, SendEnd, RecvEnd, SendPoll}
+use Rattle.priority_channel_core.specs.Prelude.{rest_of, State, Handed, IsGood, Step, Performs, unlist, search_bound, as_list, AddsFront, Polls, send_answer, recv_answer, CountedState, ComparesAtMost, Ordering, SendReply, RecvReply, SendEnd, RecvEnd, SendPoll}
+use Rattle.priority_channel_waiting.specs.Future.{GivesUpTicket, Task, poll_of, future_after}
+use Rattle.priority_channel_waiting.specs.Future.Task.{Sendv}
 use Rattle.std.proofs.Common.{◌≡◌, ◌≤◌, ◌*◌, ℕ, List, [], ◌∷◌, length, ap, refl, arith, Option, None, Some, IfSome, IfErr}
 use Rattle.futures.specs.declared.task.Poll.{Poll}
 use Rattle.futures.specs.declared.task.Poll.TheVariants as poll
 use Rattle.futures.specs.Poll.{IfReady, OnPending}
-use Rattle.priority_channel_bag.specs.Prelude.{digits}
+use Rattle.priority_channel_core.specs.bag.Prelude.{digits}
 use Rattle.priority_channel_core.specs.declared.calls.Call.TheVariants as call
 use Rattle.priority_channel_core.specs.declared.calls.Answer.TheVariants as answer
 use Rattle.priority_channel_core.proofs.Polls.{performs_poll, sent_searches_less, ends_unlisted}

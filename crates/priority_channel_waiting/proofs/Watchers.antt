@@ -4,11 +4,13 @@ use Rattle.std.specs.List.{list_any}
 use Rattle.std.proofs.lemmas.Bool.Decides.{nat_tests}
 use Rattle.std.proofs.lemmas.List.Elements.{at_from_Contains}
 use Rattle.std.proofs.lemmas.List.Folds.{list_any_at}
-use Rattle.priority_channel_core.specs.Prelude.{without_given, listing, Standing, ticket_of, Waiting, Called, Done}
+use Rattle.priority_channel_core.specs.Prelude.{without_given, listing}
+use Rattle.priority_channel_waiting.specs.Future.{Standing, ticket_of}
+use Rattle.priority_channel_waiting.specs.Future.Standing.{Waiting, Called, Done}
 use Rattle.priority_channel_waiting.specs.Closers.{Closers}
 use Rattle.priority_channel_waiting.specs.declared.closing.Watch.TheVariants.{Listed, Closed, Refused}
-use Rattle.priority_channel_waiting.specs.CloseLaw.{CloseWorld, CloseEvent, opening, turned, called_by, Happens, Leads, NobodyIsForgotten}
-use Rattle.priority_channel_waiting.specs.CloseLaw.CloseEvent.{Looks, GivesUp, Closes}
+use Rattle.priority_channel_waiting.specs.laws.CloseLaw.{CloseWorld, CloseEvent, opening, turned, called_by, Happens, Leads, NobodyIsForgotten}
+use Rattle.priority_channel_waiting.specs.laws.CloseLaw.CloseEvent.{Looks, GivesUp, Closes}
 use Rattle.priority_channel_waiting.proofs.Listed.{Turns, ends, Waits, waits}
 
 -- the law holds of the new world, and each ticket there was its watcher's before, or was given since

@@ -7,7 +7,10 @@ use Rattle.priority_channel_core.specs.declared.calls.Call.{Call}
 use Rattle.priority_channel_core.specs.declared.calls.Answer.{Answer}
 use Rattle.priority_channel_core.specs.declared.calls.CorePoll.{CorePoll}
 use Rattle.priority_channel_core.specs.declared.calls.CorePoll.TheVariants.{Ready, Pending}
-use Rattle.priority_channel_core.specs.Prelude.{unsent, State, Handed, AddsFront, unlist, Task, Tasks, Standing, Future, ticket_of, poll_of, future_after, Send, Recv, Done, SendReply, SendEnd}
+use Rattle.priority_channel_core.specs.Prelude.{unsent, State, Handed, AddsFront, unlist, SendReply, SendEnd}
+use Rattle.priority_channel_waiting.specs.Future.{Task, Tasks, Standing, Future, ticket_of, poll_of, future_after}
+use Rattle.priority_channel_waiting.specs.Future.Standing.{Done}
+use Rattle.priority_channel_waiting.specs.Future.Task.{Send, Recv}
 use Rattle.priority_channel_core.specs.declared.errors.SendFault.TheVariants as send_fault
 use Rattle.priority_channel_core.specs.declared.errors.TrySendError.TheVariants as send_error
 

@@ -7,7 +7,7 @@
 
 pub mod attempts;
 pub mod closing;
-pub mod law;
+pub mod laws;
 pub mod line;
 mod reading;
 pub mod spins;

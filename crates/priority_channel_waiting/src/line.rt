@@ -8,7 +8,8 @@
 //! see to it that something wakes the head (`Duty`, `Unlisted`). Whoever takes the head's ticket
 //! must take it off the channel's list (`Ticket`).
 ghost use Rattle.std.specs.Prelude.{◌≡◌, ◌≢◌, ◌↔◌, ℕ, ◌+◌, ◌-◌, ◌<◌, ◌≤◌, ◌∷◌, ◌++◌, [], option_to_list, IfOk, IfErr, IfNone, IfSome, IsSome, IsTrue, OnOk, OnErr, Some, None};
-ghost use Rattle.priority_channel_core.specs.Prelude.{without, unlist, IsBlocked, nobody, Step, IsGood, IsFirst, Lists};
+ghost use Rattle.priority_channel_core.specs.Prelude.{without, unlist, IsBlocked, nobody, Step, IsGood};
+ghost use Rattle.priority_channel_waiting.specs.Lines.{IsFirst, Lists};
 
 use crate::waiter::{Core, Waiter};
 use priority_channel_core::calls::{Answer, Call};
@@ -34,7 +35,7 @@ pub struct Line<A: Allocator> {
 
 impl<A: Allocator> Model for Line<A> {
     ghost use Rattle.std.specs.Prelude.{◌≡◌, ◌<◌, [], None, All};
-    ghost use Rattle.priority_channel_core.specs.Prelude.{Lined};
+    ghost use Rattle.priority_channel_waiting.specs.Lines.{Lined};
 
     ghost Value = { Lined };
 

@@ -3,8 +3,10 @@
 ghost use Rattle.std.specs.Prelude.{◌≡◌, ◌↔◌, ◌*◌, List, [], length, false, IsTrue, IfSome, MatchOption, Some, None, is_some};
 ghost use Rattle.std.specs.Option.{ForSome};
 ghost use Rattle.std.specs.Iterator.Adapters.{peekable_can};
-ghost use Rattle.priority_channel_bag.specs.Prelude.{digits};
-ghost use Rattle.priority_channel_core.specs.Prelude.{nobody, room, IsGoingOn, IsGood, HasList, PollsFront, Step, Performs, ComparesAtMost, search_bound, Sendv as sendv_of, GivesUpTicket};
+ghost use Rattle.priority_channel_core.specs.bag.Prelude.{digits};
+ghost use Rattle.priority_channel_core.specs.Prelude.{nobody, room, IsGoingOn, IsGood, HasList, PollsFront, Step, Performs, ComparesAtMost, search_bound};
+ghost use Rattle.priority_channel_waiting.specs.Future.{GivesUpTicket};
+ghost use Rattle.priority_channel_waiting.specs.Future.Task.{Sendv as sendv_of};
 ghost use Rattle.priority_channel_waiting.specs.Holding.{unpolled, done, told_by, left_by, told_at_once, left_at_once, handed_back, HoldsTail, send_of, recv_of, TriesFront, PollsKept};
 ghost use Rattle.futures.specs.Poll.{IfReady, OnPending};
 

@@ -2,7 +2,7 @@
 use Rattle.std.proofs.Common.{ℕ, Bool, List, [], ◌∷◌, ◌++◌, map, refl, subst}
 use Rattle.std.proofs.lemmas.List.{map-append}
 use Rattle.priority_channel_core.specs.Prelude.{State, opening, Step, Run, Ordering}
-use Rattle.priority_channel_core.proofs.Runs.{Run-more}
+use Rattle.priority_channel_core.proofs.Running.{Run-more}
 use Rattle.priority_channel_witnessed.specs.declared.entry.Entry.{Entry}
 use Rattle.priority_channel_witnessed.specs.History.{operation_of, IsHistory, IsLegal, IsNext}
 use Rattle.priority_channel_witnessed.specs.Passes.{Carried, IsTold}

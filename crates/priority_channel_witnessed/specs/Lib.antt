@@ -1,7 +1,6 @@
 pub mod History
 pub mod Items
 pub mod Tells
-pub mod Log
 pub mod Passes
 pub mod Waits
 pub mod Uses

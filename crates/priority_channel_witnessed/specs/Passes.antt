@@ -3,8 +3,8 @@ use Rattle.std.specs.Prelude.{◌≡◌, ◌==◌, ◌≤◌, ℕ, Bool, true, n
 use Rattle.priority_channel_witnessed.specs.declared.entry.Entry.{Entry}
 use Rattle.priority_channel_core.specs.Prelude.{Handed, Calls, Answers, Ordering}
 use Rattle.priority_channel_witnessed.specs.History.{entry, who_of, IsLegal}
-use Rattle.priority_channel_chronicle.specs.Passes as chronicle
-pub use Rattle.priority_channel_chronicle.specs.Passes.{AreNew, calls_made, AreApart}
+use Rattle.priority_channel_recorded.specs.chronicle.Passes as chronicle
+pub use Rattle.priority_channel_recorded.specs.chronicle.Passes.{AreNew, calls_made, AreApart}
 
 -- a pass's number, how many calls were made with it, and the history that it has seen
 abbrev pub Carried : Type 0 → Type 0 → Type 0 → Type 0

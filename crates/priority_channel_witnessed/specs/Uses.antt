@@ -1,6 +1,6 @@
 -- What a caller knows after its own call, whatever others do.
 use Rattle.std.specs.Prelude.{◌≡◌, ℕ, false, Bool, List, ◌++◌}
-use Rattle.priority_channel_bag.specs.Prelude.{TakesGreatest}
+use Rattle.priority_channel_core.specs.bag.Prelude.{TakesGreatest}
 use Rattle.priority_channel_core.specs.Prelude.{State, room, Ordering}
 use Rattle.priority_channel_witnessed.specs.declared.entry.Entry.{Entry}
 use Rattle.priority_channel_witnessed.specs.History.{IsHistory}

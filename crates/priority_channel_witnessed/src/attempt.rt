@@ -11,11 +11,11 @@ use crate::chronicle::Pass;
 use crate::entry::Pairs;
 use crate::witnessed::Witnessed;
 use futures::task::Source;
-use priority_channel_chronicle::Recording;
 use priority_channel_core::calls::CorePoll;
 use priority_channel_core::errors::{
     RecvError, RecvFault, SendError, SendFault, TryRecvError, TrySendError,
 };
+use priority_channel_recorded::chronicle::Recording;
 use priority_channel_waiting::waiter::{Waiter, wake_all};
 use std::alloc::Allocator;
 use std::sync::Wait;

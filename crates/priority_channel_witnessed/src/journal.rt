@@ -9,9 +9,9 @@ ghost use Rattle.priority_channel_witnessed.specs.Tells.{made_of, handed_told};
 use crate::chronicle::{Calls, Log, Pass, Seen};
 use crate::entry::{Telling, Told};
 use crate::numbers::{strike, strike_all};
-use priority_channel_chronicle::{Recording, wait_forever};
 use priority_channel_core::awaitable_atomics::Wakes;
 use priority_channel_core::channel::PriorityQueueChannel;
+use priority_channel_recorded::chronicle::{Recording, wait_forever};
 use std::alloc::Allocator;
 use std::marker::Model;
 use std::snapshot::Snapshot;
@@ -21,7 +21,7 @@ use std::sync::ledger::Share;
 /// The calls that were made, and which passes are out.
 #[derive(Drop)]
 pub(crate) struct Journal<T, P: Ord, W: Clone, J: Recording, A: Allocator> {
-    made: priority_channel_chronicle::Journal<Calls<T, P, W>, J>,
+    made: priority_channel_recorded::chronicle::Journal<Calls<T, P, W>, J>,
     // The numbers of the passes that are out, and the next number.
     out: Vec<u64, A>,
     next: u64,
@@ -47,7 +47,7 @@ impl<T, P: Ord, W: Clone, J: Recording, A: Allocator> Journal<T, P, W, J, A> {
     /// The journal of a channel without calls, with these passes.
     #[tactic(auto, using(crate::proofs::Leaving::shared_none))]
     pub(crate) fn new(
-        made: priority_channel_chronicle::Journal<Calls<T, P, W>, J>,
+        made: priority_channel_recorded::chronicle::Journal<Calls<T, P, W>, J>,
         out: Vec<u64, A>,
         next: u64,
         parts: usize,

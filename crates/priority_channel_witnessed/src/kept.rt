@@ -1,7 +1,7 @@
 //! What the lock guards: a core, and the journal of its calls.
 use crate::journal::Journal;
-use priority_channel_chronicle::Recording;
 use priority_channel_core::channel::PriorityQueueChannel;
+use priority_channel_recorded::chronicle::Recording;
 use std::alloc::Allocator;
 use std::marker::Model;
 

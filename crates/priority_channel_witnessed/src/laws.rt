@@ -7,7 +7,7 @@ ghost use Rattle.priority_channel_witnessed.specs.Passes.{Carried, IsTold};
 ghost use Rattle.priority_channel_witnessed.specs.Waits.{Ending, ComesTo};
 
 use crate::attempt::Attempt;
-use priority_channel_chronicle::Recording;
+use priority_channel_recorded::chronicle::Recording;
 use std::alloc::Allocator;
 
 /// The last entry of a legal history is one step of the machine, from a state to which the entries

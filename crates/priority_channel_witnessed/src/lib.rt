@@ -18,8 +18,8 @@ mod witnessed;
 
 pub use chronicle::{Calls, Fresh, Pass, Seen};
 pub use entry::{Entry, Pairs};
-pub use priority_channel_chronicle::Recording;
 pub use priority_channel_core::channel::PriorityQueueChannel;
+pub use priority_channel_recorded::chronicle::Recording;
 pub use priority_channel_waiting::waiter::{Waiter, wake_all};
 pub use waiting::{Recv, Send, Sendv};
 pub use witnessed::Witnessed;

@@ -3,7 +3,7 @@ ghost use Rattle.std.specs.Prelude.{◌≡◌, ◌+◌, ◌<◌, ◌∷◌, leng
 ghost use Rattle.priority_channel_witnessed.specs.Passes.{AreGiven};
 
 use crate::chronicle::Pass;
-use priority_channel_chronicle::{Recording, wait_forever};
+use priority_channel_recorded::chronicle::{Recording, wait_forever};
 use std::alloc::{AllocError, Allocator};
 use std::sync::Wait;
 

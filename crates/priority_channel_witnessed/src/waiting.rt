@@ -16,7 +16,7 @@ use crate::entry::Pairs;
 use crate::witnessed::Witnessed;
 use futures::Future;
 use futures::task::{Context, Poll};
-use priority_channel_chronicle::Recording;
+use priority_channel_recorded::chronicle::Recording;
 use priority_channel_waiting::waiter::Waiter;
 use std::alloc::{Allocator, Global};
 use std::marker::Model;

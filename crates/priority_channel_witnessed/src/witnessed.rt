@@ -3,7 +3,7 @@ ghost use Rattle.std.specs.Prelude.{◌≡◌, ◌+◌, ◌≤◌, [], length, v
 ghost use mathlib.Core.List.{IsPrefix};
 ghost use Rattle.priority_channel_core.specs.Prelude.{opening, nobody};
 ghost use Rattle.priority_channel_witnessed.specs.History.{IsHistory, IsLegal};
-ghost use Rattle.priority_channel_witnessed.specs.Log.{names};
+ghost use Rattle.priority_channel_recorded.specs.chronicle.Log.{names};
 ghost use Rattle.priority_channel_witnessed.specs.Passes.{calls_of, calls_made, calls_of_others, AreNew, AreApart, Accounts, Tells};
 
 use crate::chronicle::{Fresh, Log, Pass, Seen};
@@ -12,11 +12,11 @@ use crate::journal::Journal;
 use crate::kept::Kept;
 use crate::numbers::first_numbers;
 use futures::task::Source;
-use priority_channel_chronicle::Recording;
 use priority_channel_core::awaitable_atomics::Wakes;
 use priority_channel_core::calls::{Answer, Call};
 use priority_channel_core::channel::PriorityQueueChannel;
 use priority_channel_core::errors::{TryRecvError, TrySendError};
+use priority_channel_recorded::chronicle::Recording;
 use std::alloc::{AllocError, Allocator, Global};
 use std::snapshot::Snapshot;
 use std::sync::{Mutex, Wait};
@@ -55,7 +55,7 @@ mod waits;
 ///
 /// ```
 /// ghost use Rattle.std.specs.Prelude.{◌≡◌, false};
-/// ghost use Rattle.priority_channel_witnessed.specs.Log.{names};
+/// ghost use Rattle.priority_channel_recorded.specs.chronicle.Log.{names};
 ///
 /// fn served<J: Recording, R: Wait>(
 ///     rt: &R,

@@ -5,7 +5,7 @@
 ghost use Rattle.std.specs.Prelude.{◌≡◌, ◌<◌, ◌^◌, IfOk, OnErr};
 ghost use Rattle.std.specs.Ordering.{nat_cmp};
 ghost use Rattle.priority_channel_recorded.specs.History.{entry};
-ghost use Rattle.priority_channel_recorded.specs.Log.{names};
+ghost use Rattle.priority_channel_recorded.specs.chronicle.Log.{names};
 ghost use Rattle.priority_channel_recorded.specs.Passes.{IsTold};
 
 use super::watch::within;

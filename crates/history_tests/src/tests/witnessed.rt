@@ -1,7 +1,7 @@
 //! Witnessed channels: scenes, and what they are played on.
 ghost use Rattle.std.specs.Prelude.{◌≡◌, ◌<◌, ◌≤◌, ◌^◌};
 ghost use Rattle.priority_channel_core.specs.Prelude.{opening};
-ghost use Rattle.priority_channel_witnessed.specs.Log.{names};
+ghost use Rattle.priority_channel_recorded.specs.chronicle.Log.{names};
 
 use super::Host;
 use super::replay::explain_four_threads;

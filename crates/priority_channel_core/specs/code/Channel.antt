@@ -1,6 +1,6 @@
 -- What callers see of a channel, and how its parts agree.
 use Rattle.std.specs.Prelude.{◌≡◌, ℕ, ◌+◌, ◌*◌, ◌≤◌, Bool, true, false, if◌then◌else◌, [], length}
-use Rattle.priority_channel_bag.specs.Prelude.{digits, Contents}
+use Rattle.priority_channel_core.specs.bag.Prelude.{digits, Contents}
 use Rattle.priority_channel_core.specs.Types.{Side, Room, Message}
 use Rattle.priority_channel_core.specs.machine.State.{State, room, IsGoingOn}
 use Rattle.priority_channel_core.specs.machine.Good.{IsGood}

@@ -7,7 +7,7 @@ use Rattle.priority_channel_core.specs.machine.State.{State, Handed}
 use Rattle.priority_channel_core.specs.machine.Sends.{AddsFront}
 use Rattle.priority_channel_core.specs.machine.Polls.{Ends}
 use Rattle.priority_channel_core.specs.Types.{Room}
-use Rattle.priority_channel_bag.specs.Prelude.{Contents}
+use Rattle.priority_channel_core.specs.bag.Prelude.{Contents}
 use Rattle.priority_channel_core.specs.code.Lists.{HasList}
 
 abbrev pub sent_before : Stop → ℕ

@@ -1,7 +1,7 @@
 -- What a test told of the pair that was taken out, or whose priority was changed, or of all pairs
 -- where there was none.
 use Rattle.std.specs.Prelude.{◌≡◌, List, [], ◌∷◌, All, Some, None, Ok, Err}
-use Rattle.priority_channel_bag.specs.Prelude.{Changes, PassesFirst}
+use Rattle.priority_channel_core.specs.bag.Prelude.{Changes, PassesFirst}
 use Rattle.priority_channel_core.specs.Types.{Call, Answer, Ordering}
 use Rattle.priority_channel_core.specs.declared.calls.Call.TheVariants.{TakeWhere, ChangePriority}
 use Rattle.priority_channel_core.specs.declared.calls.Answer.TheVariants as answer

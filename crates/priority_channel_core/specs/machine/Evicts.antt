@@ -1,7 +1,7 @@
 -- A send that makes room: a removal and a send in one step.
 use Rattle.std.specs.Prelude.{◌≡◌, ◌+◌, ◌-◌, ◌^◌, ◌⊎◌, false, [], ◌∷◌, Option, Some, None, Result, Ok, Err}
 use Rattle.std.specs.declared.cmp.Ordering.TheVariants.{Less}
-use Rattle.priority_channel_bag.specs.Prelude.{TakesLeast, NoneBelow}
+use Rattle.priority_channel_core.specs.bag.Prelude.{TakesLeast, NoneBelow}
 use Rattle.priority_channel_core.specs.Types.{TrySendError, Full, Closed, Memory, Ordering}
 use Rattle.priority_channel_core.specs.machine.State.{State, Handed, room}
 use Rattle.priority_channel_core.specs.machine.Sends.{Refuses, Sends}

@@ -2,7 +2,7 @@
 use Rattle.std.specs.Prelude.{◌≡◌, ◌+◌, ◌-◌, ◌<◌, ◌^◌, ◌⊎◌, Bool, true, false, ◌&&◌, ◌||◌, ◌==◌, if◌then◌else◌, [], ◌∷◌, ◌++◌, length, Result, Ok, Err}
 use Rattle.priority_channel_core.specs.Types.{Ordering, SendReply, LeaseReply, Full, Closed, Memory}
 use Rattle.priority_channel_core.specs.declared.errors.TryRecvManyError.TheVariants as lease
-use Rattle.priority_channel_bag.specs.Prelude.{TakesGreatest}
+use Rattle.priority_channel_core.specs.bag.Prelude.{TakesGreatest}
 use Rattle.priority_channel_core.specs.machine.State.{State, Handed, nobody, room, IsOver, IsGoingOn, settled}
 use Rattle.priority_channel_core.specs.machine.Sends.{Refuses}
 

@@ -1,7 +1,7 @@
 //! Sending many pairs in one step.
 ghost use Rattle.std.specs.Prelude.{◌≡◌, ◌+◌, ◌*◌, ◌-◌, ◌<◌, ◌≤◌, ◌^◌, ◌↔◌, ◌⊎◌, List, length, Err, IfErr, IsTrue, true, false, Option, Some, is_some};
 ghost use Rattle.std.specs.Iterator.Adapters.{peekable_can, peekable_peeked};
-ghost use Rattle.priority_channel_bag.specs.Prelude.{digits};
+ghost use Rattle.priority_channel_core.specs.bag.Prelude.{digits};
 ghost use Rattle.priority_channel_core.specs.Prelude.{HasList, MovesFront, SendsFront, StopsFor, sent_before};
 
 use crate::awaitable_atomics::Wakes;

@@ -1,6 +1,6 @@
 //! Changing the priority of a pending pair that a test chooses.
 ghost use Rattle.std.specs.Prelude.{◌≡◌, ℕ, ◌*◌, true, false, length, All, IfOk, OnErr};
-ghost use Rattle.priority_channel_bag.specs.Prelude.{digits};
+ghost use Rattle.priority_channel_core.specs.bag.Prelude.{digits};
 
 use crate::calls::{Answer, Call};
 use crate::channel::PriorityQueueChannel;
@@ -8,7 +8,7 @@ use std::alloc::Allocator;
 
 impl<T, P: Ord, W: Clone, A: Allocator + Copy> PriorityQueueChannel<T, P, W, A> {
     ghost use Rattle.priority_channel_core.specs.Prelude.{nobody, Step, ComparesAtMost};
-    ghost use Rattle.priority_channel_bag.specs.Prelude.{Changes, PassesFirst, Tells};
+    ghost use Rattle.priority_channel_core.specs.bag.Prelude.{Changes, PassesFirst, Tells};
 
     /// Gives another priority to the first pending pair, in the order of acceptance, for which the
     /// test returns true, also in a closed channel. It returns the priority that the pair had. The

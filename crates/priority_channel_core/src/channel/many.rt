@@ -1,6 +1,6 @@
 //! Receiving many pairs under one hold of the lock that guards the channel.
 ghost use Rattle.std.specs.Prelude.{◌≡◌, ◌↔◌, ◌+◌, ◌*◌, ◌<◌, ◌≤◌, List, ◌++◌, [], length, min, IfOk, IfErr, OnErr, IsOk, Err, vec_capacity};
-ghost use Rattle.priority_channel_bag.specs.Prelude.{digits};
+ghost use Rattle.priority_channel_core.specs.bag.Prelude.{digits};
 ghost use Rattle.priority_channel_core.specs.Prelude.{ReceivesInTurn};
 
 use crate::awaitable_atomics::Wakes;

@@ -4,7 +4,7 @@
 //! A held place has all that a pair needs: it counts against the capacity, and a slot and a number
 //! are kept for it. So `put` is never refused.
 ghost use Rattle.std.specs.Prelude.{◌≡◌, ◌↔◌, ◌+◌, ◌*◌, ◌<◌, ◌^◌, true, false, [], length, IsOk, IsTrue, OnErr, Ok, Err};
-ghost use Rattle.priority_channel_bag.specs.Prelude.{digits};
+ghost use Rattle.priority_channel_core.specs.bag.Prelude.{digits};
 
 use crate::awaitable_atomics::Wakes;
 use crate::calls::{Answer, Call};

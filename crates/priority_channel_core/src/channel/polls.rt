@@ -3,7 +3,7 @@
 ghost use Rattle.std.specs.Prelude.{◌≡◌, ◌≢◌, ◌⊎◌, ◌+◌, ◌-◌, ◌*◌, ◌^◌, ℕ, List, [], length, false, true, Option, Some, IfSome, IsSome, Result, Err};
 ghost use Rattle.std.specs.Iterator.Adapters.{peekable_can};
 ghost use Rattle.std.specs.declared.iter.Ahead.{Ahead};
-ghost use Rattle.priority_channel_bag.specs.Prelude.{digits};
+ghost use Rattle.priority_channel_core.specs.bag.Prelude.{digits};
 ghost use Rattle.priority_channel_core.specs.Prelude.{is_given_listed, on_side, unlist, search_bound, send_answer, recv_answer, Ends, IsBlocked, OnFull, OnMemoryFault, kept_by, HasList, PollsFront};
 
 use crate::awaitable_atomics::Wakes;

@@ -2,7 +2,7 @@
 ghost use Rattle.std.specs.Prelude.{◌≡◌, true, false, All, length, drop};
 ghost use Rattle.priority_channel_core.specs.Prelude.{nobody, IsGood, HasList, MayCall, Makes, RunsFront, IsAllowed, AllowsRun, ChangesHandles, MeetsTest, AllMeetTests};
 ghost use Rattle.std.specs.Iterator.Adapters.{peekable_can};
-ghost use Rattle.priority_channel_bag.specs.Prelude.{Tells};
+ghost use Rattle.priority_channel_core.specs.bag.Prelude.{Tells};
 
 use crate::awaitable_atomics::Wakes;
 use crate::calls::{Answer, Call};
@@ -96,7 +96,7 @@ impl<T: Drop, P: Ord + Drop, W: Clone, A: Allocator + Copy> PriorityQueueChannel
         Ran { done, left: calls }
     }
 
-    #[tactic(auto, using(crate::proofs::Runs::makes_step, crate::proofs::Runs::makes_performed))]
+    #[tactic(auto, using(crate::proofs::Running::makes_step, crate::proofs::Running::makes_performed))]
     fn make<I: Iterator<Item = (T, P)>, F: Fn(&T, &P) -> bool + Drop>(
         &mut self,
         call: Call<T, P, W, Peekable<I>, F>,

@@ -1,6 +1,6 @@
 //! Counting, receiving and taking out the pairs that a test chooses.
 ghost use Rattle.std.specs.Prelude.{◌≡◌, ℕ, List, ◌+◌, ◌*◌, ◌++◌, ◌≤◌, true, false, length, All, IfNone, IfSome, IfOk, IfErr, Ok, Err, vec_capacity};
-ghost use Rattle.priority_channel_bag.specs.Prelude.{digits};
+ghost use Rattle.priority_channel_core.specs.bag.Prelude.{digits};
 ghost use Rattle.priority_channel_core.specs.Prelude.{TakesInTurn};
 
 use crate::awaitable_atomics::Wakes;
@@ -11,7 +11,7 @@ use std::alloc::Allocator;
 
 impl<T, P: Ord, W: Clone, A: Allocator + Copy> PriorityQueueChannel<T, P, W, A> {
     ghost use Rattle.priority_channel_core.specs.Prelude.{IsGood, Step, nobody, ComparesAtMost};
-    ghost use Rattle.priority_channel_bag.specs.Prelude.{TakesGreatest, Counts, Tells};
+    ghost use Rattle.priority_channel_core.specs.bag.Prelude.{TakesGreatest, Counts, Tells};
 
     /// Takes out a pending pair for which the test returns true, also from a closed channel. None
     /// if there is none. If there are several, it is not specified which one is taken. The test is

@@ -3,7 +3,7 @@
 ghost use Rattle.std.specs.Prelude.{◌≡◌, ◌+◌, ◌<◌, OnErr, OnOk, IfNone, [], ◌∷◌, ◌++◌, length, set, option_to_list, HoldsAt, remove};
 ghost use Rattle.std.specs.Ordering.{nat_cmp};
 
-use priority_channel_bag::comparisons::Comparisons;
+use crate::comparisons::Comparisons;
 use std::alloc::{AllocError, Allocator, Global};
 use std::cmp::Ordering;
 use std::marker::Model;

@@ -1,6 +1,6 @@
 //! The end of a channel, with its balance.
 ghost use Rattle.std.specs.Prelude.{◌≡◌, [], map, vec_len, IfOk, IfErr};
-ghost use Rattle.priority_channel_laws.specs.Accepted.{Conserves};
+ghost use Rattle.priority_channel_core.specs.laws.Accepted.{Conserves};
 ghost use Rattle.priority_channel_witnessed.specs.History.{operation_of};
 
 use crate::{Pass, Recording, Seen, Witnessed};

@@ -5,8 +5,8 @@ ghost use Rattle.priority_channel_witnessed.specs.Passes.{Tells};
 use crate::chronicle::Pass;
 use crate::entry::Told;
 use crate::witnessed::Witnessed;
-use priority_channel_chronicle::Recording;
 use priority_channel_core::calls::{Answer, Call};
+use priority_channel_recorded::chronicle::Recording;
 use std::alloc::Allocator;
 use std::sync::Wait;
 

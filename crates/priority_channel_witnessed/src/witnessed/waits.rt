@@ -21,8 +21,8 @@ ghost use Rattle.priority_channel_witnessed.specs.Waits.{ends, without_evidence,
 use crate::attempt::Attempt;
 use crate::chronicle::Pass;
 use crate::witnessed::Witnessed;
-use priority_channel_chronicle::Recording;
 use priority_channel_core::errors::{RecvFault, SendFault};
+use priority_channel_recorded::chronicle::Recording;
 use priority_channel_waiting::timeouts::{RecvTimeoutError, SendTimeoutError};
 use priority_channel_waiting::until::Until;
 use priority_channel_waiting::waiter::Waiter;

@@ -7,9 +7,9 @@ ghost use Rattle.priority_channel_witnessed.specs.Waits.{ends, recv_result, Come
 use crate::chronicle::Pass;
 use crate::witnessed::Witnessed;
 use crate::witnessed::waits::received_in_time;
-use priority_channel_chronicle::Recording;
 use priority_channel_core::calls::Call;
 use priority_channel_core::errors::RecvFault;
+use priority_channel_recorded::chronicle::Recording;
 use priority_channel_waiting::timeouts::RecvTimeoutError;
 use priority_channel_waiting::until::{Deadline, Endless};
 use priority_channel_waiting::waiter::Waiter;

@@ -9,9 +9,9 @@ ghost use Rattle.priority_channel_witnessed.specs.Waits.{ends, send_result, Come
 use crate::chronicle::Pass;
 use crate::witnessed::Witnessed;
 use crate::witnessed::waits::sent_in_time;
-use priority_channel_chronicle::Recording;
 use priority_channel_core::calls::{Answer, Call, CorePoll};
 use priority_channel_core::errors::{SendFault, TrySendError};
+use priority_channel_recorded::chronicle::Recording;
 use priority_channel_waiting::timeouts::SendTimeoutError;
 use priority_channel_waiting::until::{Deadline, Endless};
 use priority_channel_waiting::waiter::{Waiter, wake_all};

@@ -1,6 +1,6 @@
 use Rattle.std.proofs.Common.{refl, sym, ◌∙◌}
-use Rattle.priority_channel_bag.specs.Prelude.{Tells}
-use Rattle.priority_channel_bag.proofs.Extremes.{one_greatest}
+use Rattle.priority_channel_core.specs.bag.Prelude.{Tells}
+use Rattle.priority_channel_core.proofs.items.Extremes.{one_greatest}
 use Rattle.priority_channel_core.proofs.Lists.{has_item}
 use Rattle.priority_channel_core.proofs.channel.PriorityQueueChannel.greatest_passes.Goals as goal
 

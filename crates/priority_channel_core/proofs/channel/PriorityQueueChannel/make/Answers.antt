@@ -1,7 +1,7 @@
 use Rattle.std.proofs.Common.{refl, true, false}
-use Rattle.priority_channel_bag.specs.Prelude.{Tells}
+use Rattle.priority_channel_core.specs.bag.Prelude.{Tells}
 use Rattle.priority_channel_core.specs.declared.calls.Answer.TheVariants as answer
-use Rattle.priority_channel_core.proofs.Runs.{taking_meets, change_meets}
+use Rattle.priority_channel_core.proofs.Running.{taking_meets, change_meets}
 use Rattle.priority_channel_core.proofs.channel.PriorityQueueChannel.make.Goals as goal
 
 pub returns-in-TakeWhere-clause-step : goal.returns-in-TakeWhere-clause-step

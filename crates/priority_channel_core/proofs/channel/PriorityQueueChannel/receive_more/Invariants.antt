@@ -1,5 +1,5 @@
 use Rattle.std.proofs.Common.{◌≡◌, ◌*◌, length, vec_capacity}
-use Rattle.priority_channel_bag.specs.Prelude.{digits}
+use Rattle.priority_channel_core.specs.bag.Prelude.{digits}
 use Rattle.priority_channel_core.specs.Prelude.{IsGood, ComparesAtMost}
 use Rattle.priority_channel_core.proofs.Many.{Received}
 use Rattle.priority_channel_core.proofs.channel.PriorityQueueChannel.receive_more.Given as goal

@@ -2,10 +2,10 @@ use Rattle.std.proofs.Common.{refl, arith, true, false, length, length-append}
 use Rattle.std.specs.Iterator.Adapters.{peekable_can}
 use Rattle.std.proofs.lemmas.List.{reverse-append, reverse-reverse}
 use Rattle.std.proofs.lemmas.List.Elements.{All-head, All-tail}
-use Rattle.priority_channel_bag.specs.Prelude.{Tells}
+use Rattle.priority_channel_core.specs.bag.Prelude.{Tells}
 use Rattle.priority_channel_core.specs.Prelude.{HasList, MayCall}
 use Rattle.priority_channel_core.proofs.Handles.{AllowsRun-first, AllowsRun-more}
-use Rattle.priority_channel_core.proofs.Runs.{RunsFront-none, RunsFront-more, meets_more, at_ok, drop-past}
+use Rattle.priority_channel_core.proofs.Running.{RunsFront-none, RunsFront-more, meets_more, at_ok, drop-past}
 use Rattle.priority_channel_core.proofs.channel.PriorityQueueChannel.run.Goals as goal
 use Rattle.priority_channel_core.proofs.channel.PriorityQueueChannel.run.Goals.{then-loop-done-test+else-is_ok, else-loop-done-test}
 

@@ -1,7 +1,7 @@
 use Rattle.std.proofs.Common.{◌≡◌, true, false, vec_len, reverse, length, drop, All}
 use Rattle.std.specs.Iterator.Adapters.{peekable_can}
 use Rattle.priority_channel_core.specs.Prelude.{HasList, AllowsRun, MayCall, RunsFront, AllMeetTests}
-use Rattle.priority_channel_bag.specs.Prelude.{Tells}
+use Rattle.priority_channel_core.specs.bag.Prelude.{Tells}
 use Rattle.priority_channel_core.proofs.channel.PriorityQueueChannel.run.Given as goal
 
 -- the calls are kept in reverse, so that the next call is at the end

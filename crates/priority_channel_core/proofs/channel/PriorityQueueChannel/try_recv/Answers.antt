@@ -1,5 +1,5 @@
 use Rattle.std.proofs.Common.{rules}
-use Rattle.priority_channel_bag.specs.Prelude.{TakesOne}
+use Rattle.priority_channel_core.specs.bag.Prelude.{TakesOne}
 use Rattle.priority_channel_core.specs.Prelude.{Frees, state_of}
 use Rattle.priority_channel_core.proofs.Evicting.{good_frees, frees_one}
 use Rattle.priority_channel_core.proofs.channel.PriorityQueueChannel.try_recv.Goals as goal

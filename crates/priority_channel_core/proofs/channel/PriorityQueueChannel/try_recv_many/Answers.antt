@@ -1,5 +1,5 @@
 use Rattle.std.proofs.Common.{◌-◌, ◌*◌, ◌<◌, [], ◌∷◌, length, refl, sym, ap, rules, arith, append-nil}
-use Rattle.priority_channel_bag.specs.Prelude.{digits}
+use Rattle.priority_channel_core.specs.bag.Prelude.{digits}
 use Rattle.priority_channel_core.proofs.Many.{received_first, first_length, refusal_costs, receives_cost, min_next}
 use Rattle.priority_channel_core.proofs.channel.PriorityQueueChannel.try_recv_many.Goals as goal
 use Rattle.priority_channel_core.proofs.channel.PriorityQueueChannel.try_recv_many.Goals.{else-limit-eq0-via-then-limit-eq0+else-not-is_empty, else-limit-eq0-via-else-limit-eq0}

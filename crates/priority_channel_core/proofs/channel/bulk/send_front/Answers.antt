@@ -1,6 +1,6 @@
 use Rattle.std.proofs.Common.{[], ◌∷◌, length, length-append, ap, arith, rules}
-use Rattle.priority_channel_bag.specs.Prelude.{Contents}
-use Rattle.priority_channel_bag.proofs.Digits.{push_costs}
+use Rattle.priority_channel_core.specs.bag.Prelude.{Contents}
+use Rattle.priority_channel_core.proofs.items.Digits.{push_costs}
 use Rattle.priority_channel_core.proofs.Fronts.{moved_more}
 use Rattle.priority_channel_core.proofs.channel.bulk.send_front.Goals as goal
 

@@ -1,6 +1,6 @@
 use Rattle.std.proofs.Common.{◌≡◌, ◌+◌, ◌*◌, ◌<◌, ◌≤◌, ◌^◌, length}
 use Rattle.std.specs.Iterator.Adapters.{peekable_can}
-use Rattle.priority_channel_bag.specs.Prelude.{digits}
+use Rattle.priority_channel_core.specs.bag.Prelude.{digits}
 use Rattle.priority_channel_core.specs.Prelude.{MovesFront}
 use Rattle.priority_channel_core.proofs.channel.bulk.send_front.Given as goal
 

@@ -1,6 +1,6 @@
 use Rattle.std.proofs.Common.{◌+◌, ◌-◌, ◌/◌, get_or, arith}
 use Rattle.std.specs.declared.cmp.Ordering.TheVariants.{Less, Greater}
-use Rattle.priority_channel_bag.proofs.Digits.{digits-half}
+use Rattle.priority_channel_core.proofs.items.Digits.{digits-half}
 use Rattle.priority_channel_core.proofs.Waiting.{ranked, below_rising, above_rising, absent_between}
 use Rattle.priority_channel_core.proofs.waiting_list.WaitingList.position_of.Goals as goal
 

@@ -1,6 +1,6 @@
 use Rattle.std.proofs.Common.{◌-◌, ◌+◌, ◌<◌, ◌≤◌, length}
 use Rattle.std.specs.List.{AllWithin}
-use Rattle.priority_channel_bag.specs.Prelude.{digits}
+use Rattle.priority_channel_core.specs.bag.Prelude.{digits}
 use Rattle.priority_channel_core.proofs.waiting_list.WaitingList.position_of.Given as goal
 
 abbrev pub invariant-loop-low : goal.invariant-loop-low

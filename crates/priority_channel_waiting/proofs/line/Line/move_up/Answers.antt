@@ -1,5 +1,5 @@
 use Rattle.std.proofs.Common.{◌∙◌, ◌<◌, sym, rules}
-use Rattle.priority_channel_core.proofs.Lines.{all_behind}
+use Rattle.priority_channel_waiting.proofs.Lines.{all_behind}
 use Rattle.priority_channel_waiting.proofs.line.Line.move_up.Goals as goal
 
 pub invariant_of-self : goal.invariant_of-self

@@ -1,5 +1,5 @@
 use Rattle.std.proofs.Common.{ap, arith}
-use Rattle.priority_channel_bag.specs.Prelude.{digits}
+use Rattle.priority_channel_core.specs.bag.Prelude.{digits}
 use Rattle.priority_channel_waiting.proofs.Tries.{sent_at_once, tried_searches_less, pending_stays}
 use Rattle.priority_channel_waiting.proofs.states.SendState+T+P.try_on.Goals as goal
 

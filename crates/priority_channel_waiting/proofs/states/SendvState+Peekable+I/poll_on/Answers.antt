@@ -1,5 +1,6 @@
 use Rattle.std.specs.Iterator.Adapters.{peekable_can}
-use Rattle.priority_channel_core.specs.Prelude.{HasList, Performs, Sendv}
+use Rattle.priority_channel_core.specs.Prelude.{HasList, Performs}
+use Rattle.priority_channel_waiting.specs.Future.Task.{Sendv}
 use Rattle.priority_channel_core.specs.declared.calls.Answer.TheVariants as answer
 use Rattle.priority_channel_waiting.specs.Holding.{HoldsTail}
 use Rattle.priority_channel_waiting.proofs.Holdings.{polls_kept, sendv_left, unsent_kept, left_kept, polled_tail}

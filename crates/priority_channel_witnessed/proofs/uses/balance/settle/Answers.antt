@@ -1,4 +1,4 @@
-use Rattle.priority_channel_laws.proofs.runs.Runs.{run_conserves}
+use Rattle.priority_channel_core.proofs.runs.Runs.{run_conserves}
 use Rattle.priority_channel_witnessed.proofs.uses.balance.settle.Goals as goal
 
 pub returns : goal.returns

@@ -1,5 +1,5 @@
 use Rattle.std.proofs.lemmas.Result.{IfOk-weaker}
-use Rattle.priority_channel_laws.proofs.runs.Runs.{run_conserves}
+use Rattle.priority_channel_core.proofs.runs.Runs.{run_conserves}
 use Rattle.priority_channel_witnessed.proofs.uses.balance.try_settle.Goals as goal
 
 pub returns : goal.returns

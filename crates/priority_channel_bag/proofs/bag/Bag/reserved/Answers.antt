@@ -1,5 +1,0 @@
-use Rattle.std.proofs.Common.{rules}
-use Rattle.priority_channel_bag.proofs.bag.Bag.reserved.Goals as goal
-
-pub returns-clause-slots : goal.returns-clause-slots
-returns-clause-slots g c = search rules

@@ -1,5 +1,0 @@
-use Rattle.std.proofs.Common.{rules}
-use Rattle.priority_channel_bag.proofs.item.ItemOrd.cmp.Goals as goal
-
-pub returns-in-Equal : goal.returns-in-Equal
-returns-in-Equal g c = search rules

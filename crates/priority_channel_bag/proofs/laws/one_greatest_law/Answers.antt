@@ -1,5 +1,0 @@
-use Rattle.priority_channel_bag.proofs.Extremes.{one_greatest}
-use Rattle.priority_channel_bag.proofs.laws.one_greatest_law.Goals as goal
-
-pub returns : goal.returns
-returns g c = one_greatest g.met.P.Ord.total

@@ -1,5 +1,0 @@
-use Rattle.priority_channel_bag.proofs.Extremes.{one_least}
-use Rattle.priority_channel_bag.proofs.laws.one_least_law.Goals as goal
-
-pub returns : goal.returns
-returns g c = one_least g.met.P.Ord.total

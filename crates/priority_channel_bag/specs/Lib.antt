@@ -1,7 +1,0 @@
-pub mod Digits
-pub mod Greatest
-pub mod Least
-pub mod IntervalHeap
-pub mod Heap
-pub mod Bag
-pub mod Prelude

@@ -1,0 +1,113 @@
+//! Finding the pairs that a test of the caller chooses.
+ghost use Rattle.std.specs.Prelude.{◌≡◌, ℕ, true, false, List, ◌++◌, ◌+◌, ◌<◌, ◌≤◌, length, map, slice_index_or, All, IfNone, IfSome, vec_capacity, IsPermutation};
+ghost use Rattle.priority_channel_core.specs.bag.Prelude.{pair_of, Counts, Tells, Item};
+
+use crate::item::Item;
+use std::alloc::Allocator;
+
+/// The place of an item for whose pair the test returns true.
+pub(crate) fn find<T, P, F: Fn(&T, &P) -> bool>(items: &[Item<T, P>], test: &F) -> Option<usize>
+    requires { F.IsAlwaysCallable test.now }
+    ensures within { IfSome result (λ at. at < length items.now) }
+    ensures found { IfSome result (λ at. (d : Item T P)
+        → Tells F.Fn test.now (pair_of (slice_index_or items.now at d)) true) }
+    ensures none { IfNone result ((k : ℕ) (d : Item T P) → k < length items.now
+        → Tells F.Fn test.now (pair_of (slice_index_or items.now k d)) false) }
+{
+    for at in 0..items.len() {
+        let item = &items[at];
+        if test(&item.msg, &item.priority) {
+            return Some(at);
+        }
+    }
+    None
+}
+
+/// The place of the item with the least number among those for whose pairs the test returns true.
+pub(crate) fn find_first<T, P, F: Fn(&T, &P) -> bool>(
+    items: &[Item<T, P>],
+    test: &F,
+) -> Option<usize>
+    requires { F.IsAlwaysCallable test.now }
+    ensures within { IfSome result (λ at. at < length items.now) }
+    ensures found { IfSome result (λ at. (d : Item T P)
+        → Tells F.Fn test.now (pair_of (slice_index_or items.now at d)) true) }
+    ensures first { IfSome result (λ at. (k : ℕ) (d : Item T P) → k < length items.now
+        → (slice_index_or items.now k d).number < (slice_index_or items.now at d).number
+        → Tells F.Fn test.now (pair_of (slice_index_or items.now k d)) false) }
+    ensures none { IfNone result ((k : ℕ) (d : Item T P) → k < length items.now
+        → Tells F.Fn test.now (pair_of (slice_index_or items.now k d)) false) }
+{
+    let mut first = None;
+    for at in 0..items.len() {
+        let item = &items[at];
+        if is_before(items, at, first) && test(&item.msg, &item.priority) {
+            first = Some(at);
+        }
+    }
+    first
+}
+
+// Whether the item at `at` has a lesser number than the one at `first`, if there is one.
+fn is_before<T, P>(items: &[Item<T, P>], at: usize, first: Option<usize>) -> bool
+    requires within { at < length items.now }
+    requires first { IfSome first (λ f. f < length items.now) }
+    ensures none { IfNone first (result ≡ true) }
+    ensures later { result ≡ false → IfSome first (λ f. (d : Item T P)
+        → (slice_index_or items.now f d).number ≤ (slice_index_or items.now at d).number) }
+    ensures earlier { result ≡ true → IfSome first (λ f. (d : Item T P)
+        → (slice_index_or items.now at d).number < (slice_index_or items.now f d).number) }
+{
+    match first {
+        Some(first) => items[at].number < items[first].number,
+        None => true,
+    }
+}
+
+/// The number of items for whose pairs the test returns true.
+pub(crate) fn count<T, P, F: Fn(&T, &P) -> bool>(items: &[Item<T, P>], test: &F) -> usize
+    requires { F.IsAlwaysCallable test.now }
+    ensures { Counts (λ item. Tells F.Fn test.now (pair_of item) true)
+        (λ item. Tells F.Fn test.now (pair_of item) false) items.now result }
+{
+    let mut count = 0;
+    for at in 0..items.len() {
+        let item = &items[at];
+        if test(&item.msg, &item.priority) {
+            count += 1;
+        }
+    }
+    count
+}
+
+/// Moves the pairs for which the test returns false to the end of `out`. The order of the other
+/// items changes.
+pub(crate) fn divide<T, P, F: Fn(&T, &P) -> bool, A: Allocator, B: Allocator>(
+    items: &mut Vec<Item<T, P>, A>,
+    test: &F,
+    out: &mut Vec<(T, P), B>,
+)
+    requires callable { F.IsAlwaysCallable test.now }
+    requires fits { length out.old.items + length items.old.items ≤ vec_capacity out.old }
+    ensures taken { (others : List (Item T P))
+        × (out.new.items ≡ out.old.items ++ map pair_of others)
+        × IsPermutation items.old.items (others ++ items.new.items)
+        × All (λ item. Tells F.Fn test.now (pair_of item) false) others }
+    ensures kept { All (λ item. Tells F.Fn test.now (pair_of item) true) items.new.items }
+    ensures slots { vec_capacity items.new ≡ vec_capacity items.old }
+    ensures out_slots { vec_capacity out.new ≡ vec_capacity out.old }
+{
+    let mut at = items.len();
+    while 0 < at {
+        at -= 1;
+        let item = &items[at];
+        if !test(&item.msg, &item.priority) {
+            let Item {
+                msg,
+                priority,
+                number: _,
+            } = items.swap_remove(at);
+            out.push_reserved((msg, priority));
+        }
+    }
+}

@@ -1,4 +1,0 @@
-pub mod alike
-pub mod queue
-pub mod runs
-pub mod worlds

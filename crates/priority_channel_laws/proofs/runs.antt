@@ -1,5 +1,0 @@
--- What calls accept, receive and leave pending.
-pub mod Done
-pub mod Effects
-pub mod Places
-pub mod Runs

@@ -1,9 +1,0 @@
--- Worlds of futures, and what each event preserves.
-pub mod Callings
-pub mod Events
-pub mod Hands
-pub mod Lookups
-pub mod PollEnds
-pub mod Positions
-pub mod Standings
-pub mod Worlds

@@ -1,9 +1,0 @@
-pub mod Accepted
-pub mod Places
-pub mod Done
-pub mod Alike
-pub mod World
-pub mod WaitingLaw
-pub mod Threads
-pub mod ThreadEvents
-pub mod QueueLaw

@@ -1,0 +1,3 @@
+-- Histories of any kind of entry.
+pub mod Log
+pub mod Passes

@@ -1,2 +1,0 @@
--- The names of a channel.
-pub use Rattle.priority_channel_chronicle.specs.Log.{names}
