@@ -16,15 +16,6 @@ module _ {X M : Type 0} (holds : M → List X → Type 0) (can : M → Type 0) w
       → HandsBackTail holds can future (Err (send_fault.Memory rest))
   hands_back_all future rest is h = (h rest is, rw is (tail_of_itself holds rest))
 
-  -- after a poll that was ready
-  pub hands_back_unsent : (future : Underway M) (polled : Poll (SendEnd M)) → IfSome (handed_back polled) can
-      → IfSome future.state.kept (λ msgs. IfSome (handed_back polled) (HoldsTail holds msgs))
-      → IfReady polled (HandsBackTail holds can future)
-  hands_back_unsent future poll.Pending h k = tt
-  hands_back_unsent future (poll.Ready (Ok sent)) h k = tt
-  hands_back_unsent future (poll.Ready (Err (send_fault.Closed e))) h k = (h, k)
-  hands_back_unsent future (poll.Ready (Err (send_fault.Memory held))) h k = (h, k)
-
   -- after a poll that was pending, for all later polls
   still : (first mid : Option M) (last : M) → is_some mid ≡ is_some first → IfSome first (λ msgs. IfSome mid (HoldsTail holds msgs))
       → IfSome mid (λ msgs. HoldsTail holds msgs last) → IfSome first (λ msgs. HoldsTail holds msgs last)
