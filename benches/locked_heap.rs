@@ -1,42 +1,16 @@
 //! What `prio` is measured against: the calls `reserved`, `send`, `sendv`, `recv` and `close` of its scripts, in plain
 //! Rust over a mutex round the standard library's heap. It stops with status 1 at a line that it does not know.
 
-use std::cmp::Ordering;
+mod item;
+
+use item::Item;
+use std::cmp::Reverse;
 use std::collections::BinaryHeap;
 use std::io::{self, BufRead, BufReader, BufWriter, Write};
 use std::process::ExitCode;
 use std::sync::Mutex;
 
 const BUFFER: usize = 1 << 16;
-
-struct Item {
-    word: String,
-    priority: i64,
-    number: u64,
-}
-
-/// The greater priority first, and of equal ones the one that was accepted first.
-impl Ord for Item {
-    fn cmp(&self, other: &Item) -> Ordering {
-        self.priority
-            .cmp(&other.priority)
-            .then(other.number.cmp(&self.number))
-    }
-}
-
-impl PartialOrd for Item {
-    fn partial_cmp(&self, other: &Item) -> Option<Ordering> {
-        Some(self.cmp(other))
-    }
-}
-
-impl PartialEq for Item {
-    fn eq(&self, other: &Item) -> bool {
-        self.cmp(other) == Ordering::Equal
-    }
-}
-
-impl Eq for Item {}
 
 enum Refusal {
     Full,
@@ -45,7 +19,7 @@ enum Refusal {
 }
 
 struct State {
-    items: BinaryHeap<Item>,
+    items: BinaryHeap<Item<String>>,
     accepted: u64,
     is_closed: bool,
 }
@@ -58,13 +32,9 @@ impl State {
         if self.items.len() == capacity {
             return Err(Refusal::Full);
         }
-        let number = self.accepted;
+        let place = (priority, Reverse(self.accepted));
         self.accepted += 1;
-        self.items.push(Item {
-            word,
-            priority,
-            number,
-        });
+        self.items.push(Item { place, msg: word });
         Ok(())
     }
 }
@@ -110,7 +80,7 @@ impl Channel {
     fn try_recv(&self) -> Result<(String, i64), Refusal> {
         let mut state = self.state.lock().unwrap();
         match state.items.pop() {
-            Some(item) => Ok((item.word, item.priority)),
+            Some(item) => Ok((item.msg, item.place.0)),
             None if state.is_closed => Err(Refusal::Closed),
             None => Err(Refusal::Empty),
         }
