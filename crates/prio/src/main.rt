@@ -1,11 +1,9 @@
 //! Reads a script of calls from standard input, makes them on one channel, and prints each answer.
 #![tactic(auto)]
 
-mod answers;
-mod faults;
-mod grammar;
+mod call;
+mod channel;
 mod run;
-mod script;
 #[cfg(test)]
 mod tests;
 
@@ -13,11 +11,6 @@ use run::prio_run;
 use std::process::ExitCode;
 
 fn main(rt: HostRuntime) -> ExitCode {
-    ExitCode::from(prio_run(
-        &rt,
-        rt.alloc(),
-        rt.stdin(),
-        &mut rt.stdout(),
-        &mut rt.stderr(),
-    ))
+    let (input, mut answers, mut faults) = (rt.stdin(), rt.stdout(), rt.stderr());
+    ExitCode::from(prio_run(&rt, rt.alloc(), input, &mut answers, &mut faults))
 }

@@ -1,149 +1,108 @@
-//! How a script's calls are run on its channel.
-ghost use Rattle.std.specs.Prelude.{◌≡◌, [], ◌∷◌, Contains};
+//! How a script is read and answered.
 
-use crate::answers::{
-    answer_capacity, answer_close, answer_len, answer_recv, answer_send, answer_sendv,
-};
-use crate::faults::{Fault, Stop};
-use crate::grammar::{Call, Opening, parse_pairs};
-use crate::script::Script;
-use async_priority_channel::{Ends, bounded, bounded_reserved, unbounded};
+use crate::call::{Fault, parse_call};
+use crate::channel::Channel;
+use memchr::memchr;
 use std::alloc::{AllocError, Allocator};
-use std::io::{BufWriter, Read, Write};
+use std::io::{BufRead, BufReader, BufWriter, ErrorKind, Read, Write};
 use std::sync::Wait;
 
 // For the input, and for the answers.
 const BUFFER_SIZE: usize = 1 << 16;
 
-// The one sender and the one receiver of a script's channel.
-type Channel<R, A> = Ends<String<A>, i64, R, A>;
-
 /// Runs a script. Writes the answers, and on an early end also why it ended. Gives the exit status.
-pub fn prio_run<R, A, S, W, E>(rt: &R, alloc: A, input: S, answers: &mut W, faults: &mut E) -> u8
-where
-    R: Wait + Clone,
-    A: Allocator + Copy,
-    S: Read + Drop,
-    W: Write,
-    E: Write,
-    ensures status { Contains (0 ∷ 2 ∷ 3 ∷ 4 ∷ []) result }
-    ensures quiet { result ≡ 0 → faults.new ≡ faults.old }
-{
-    let Err(stop) = run_script(rt, alloc, input, answers) else {
+pub fn prio_run<R: Wait + Clone, A: Allocator + Copy, S: Read + Drop, W: Write, E: Write>(
+    rt: &R,
+    alloc: A,
+    input: S,
+    answers: &mut W,
+    faults: &mut E,
+) -> u8 {
+    let mut number = 1;
+    let Err(fault) = run_script(rt, alloc, input, answers, &mut number) else {
         return 0;
     };
     // A text that cannot be written changes no status.
-    let _ = writeln!(faults, "{stop}");
-    stop.fault as u8
+    let _ = match fault {
+        Fault::NotACall => writeln!(faults, "line {number}: not a call"),
+        Fault::NoMemory => writeln!(faults, "line {number}: no memory"),
+        Fault::Failed => writeln!(faults, "input or output failed"),
+    };
+    fault as u8
 }
 
-fn run_script<R, A, S, W>(rt: &R, alloc: A, input: S, answers: &mut W) -> Result<(), Stop>
-where
-    R: Wait + Clone,
-    A: Allocator + Copy,
-    S: Read + Drop,
-    W: Write,
-{
-    match Runner::new(rt, alloc, input, answers) {
-        Ok(runner) => runner.run(),
-        // Its buffers are made to read line 1.
-        Err(AllocError) => Err(Stop {
-            fault: Fault::NoMemory,
-            line: 1,
-        }),
-    }
-}
-
-// A script, and where its answers go.
-struct Runner<'a, R: Wait + Clone, S: Read, W: Write + Drop, A: Allocator + Copy> {
-    rt: &'a R,
+// Counts the lines, from 1.
+fn run_script<R: Wait + Clone, A: Allocator + Copy, S: Read + Drop, W: Write>(
+    rt: &R,
     alloc: A,
-    script: Script<S, A>,
-    answers: BufWriter<W, A>,
+    input: S,
+    answers: &mut W,
+    number: &mut u64,
+) -> Result<(), Fault> {
+    // Nothing but memory can be wanting.
+    let mut input = BufReader::with_capacity(alloc, BUFFER_SIZE, input).or(Err(AllocError))?;
+    let mut answers = BufWriter::with_capacity(alloc, BUFFER_SIZE, answers).or(Err(AllocError))?;
+    let end = match answer_lines(rt, alloc, &mut input, &mut answers, number) {
+        // What could not be written is not tried again.
+        Err(Fault::Failed) => Err(Fault::Failed),
+        end => answers.flush().map_err(Fault::from).and(end),
+    };
+    // Nor here: a buffered writer that is dropped whole flushes.
+    let (_answers, _unwritten) = answers.into_parts();
+    end
 }
 
-impl<'a, R: Wait + Clone, S: Read + Drop, W: Write + Drop, A: Allocator + Copy> Runner<
-    'a,
-    R,
-    S,
-    W,
-    A,
-> {
-    fn new(rt: &'a R, alloc: A, input: S, answers: W) -> Result<Self, AllocError> {
-        let script = Script::new(alloc, input, BUFFER_SIZE)?;
-        // Nothing but memory can be wanting.
-        let answers = BufWriter::with_capacity(alloc, BUFFER_SIZE, answers).or(Err(AllocError))?;
-        Ok(Runner {
-            rt,
-            alloc,
-            script,
-            answers,
-        })
-    }
-
-    // Makes the calls of all lines, or of those before a fault, and writes out their answers.
-    fn run(mut self) -> Result<(), Stop> {
-        let end = match self.answer_lines() {
-            // What could not be written is not tried again.
-            Err(Fault::Failed) => Err(Fault::Failed),
-            end => self.answers.flush().map_err(Fault::from).and(end),
+fn answer_lines<R: Wait + Clone, A: Allocator + Copy, S: Read, W: Write>(
+    rt: &R,
+    alloc: A,
+    input: &mut BufReader<S, A>,
+    answers: &mut W,
+    number: &mut u64,
+) -> Result<(), Fault> {
+    let mut line = Vec::new(alloc);
+    let opening = read_line(rt, input, answers, &mut line)?.ok_or(Fault::NotACall)?;
+    let channel = Channel::open(rt, alloc, opening)?;
+    answers.write_all(b"ok\n")?;
+    for _ in rt.forever() {
+        *number = number.saturating_add(1);
+        let Some(text) = read_line(rt, input, answers, &mut line)? else {
+            break;
         };
-        let Runner {
-            rt: _,
-            alloc: _,
-            script,
-            answers,
-        } = self;
-        // Nor here: a buffered writer that is dropped whole flushes.
-        let (_answers, _unwritten) = answers.into_parts();
-        end.map_err(|fault| Stop {
-            fault,
-            line: script.line_number(),
-        })
+        channel.answer(parse_call(alloc, text)?, answers)?;
     }
+    Ok(())
+}
 
-    fn answer_lines(&mut self) -> Result<(), Fault> {
-        if !self.script.read_line(self.rt, &mut self.answers)? {
-            return Err(Fault::NotACall);
+// Reads the next line, without its line feed, if there is one. Before it waits for input it writes
+// out the answers so far.
+fn read_line<'a, R: Wait, A: Allocator, S: Read, W: Write>(
+    rt: &R,
+    input: &mut BufReader<S, A>,
+    answers: &mut W,
+    line: &'a mut Vec<u8, A>,
+) -> Result<Option<&'a str>, Fault> {
+    line.clear();
+    for _ in rt.forever() {
+        // Only where the buffer is empty can the next look at the input wait.
+        if input.buffer().is_empty() {
+            answers.flush()?;
         }
-        let channel = self.open()?;
-        for _ in self.rt.forever() {
-            if !self.script.read_line(self.rt, &mut self.answers)? {
-                return Ok(());
-            }
-            self.call(&channel)?;
-        }
-        unreachable!()
-    }
-
-    // Makes the channel that the first line asks for.
-    fn open(&mut self) -> Result<Channel<R, A>, Fault> {
-        let channel = match self.script.opening()? {
-            Opening::Bounded(capacity) => bounded(self.rt, self.alloc, capacity)?,
-            Opening::Reserved(capacity) => bounded_reserved(self.rt, self.alloc, capacity)?,
-            Opening::Unbounded => unbounded(self.rt, self.alloc)?,
+        let bytes = match input.fill_buf() {
+            Ok(bytes) => bytes,
+            Err(e) if e.kind() == ErrorKind::Interrupted => continue,
+            Err(_) => return Err(Fault::Failed),
         };
-        self.answers.write_all(b"ok\n")?;
-        Ok(channel)
-    }
-
-    // Makes the call that another line asks for.
-    fn call(&mut self, channel: &Channel<R, A>) -> Result<(), Fault> {
-        let (tx, rx) = channel;
-        let answers = &mut self.answers;
-        match self.script.call()? {
-            Call::Send { priority, word } => {
-                let word = String::from_str(self.alloc, word)?;
-                answer_send(answers, tx, word, priority)
-            }
-            Call::Sendv { pairs } => {
-                let pairs = parse_pairs(self.alloc, pairs)?.ok_or(Fault::NotACall)?;
-                answer_sendv(answers, tx, pairs)
-            }
-            Call::Recv => answer_recv(answers, rx),
-            Call::Close => answer_close(answers, tx),
-            Call::Len => answer_len(answers, tx),
-            Call::Capacity => answer_capacity(answers, tx),
+        if bytes.is_empty() && line.is_empty() {
+            return Ok(None);
+        }
+        let length = memchr(b'\n', bytes).unwrap_or(bytes.len());
+        let read = bytes.len().min(length + 1);
+        line.extend_from_slice(&bytes[..length])?;
+        input.consume(read);
+        // At a line feed, or where the input ends without one.
+        if length < read || read == 0 {
+            break;
         }
     }
+    str::from_utf8(line).map(Some).or(Err(Fault::NotACall))
 }

@@ -131,6 +131,22 @@ fn answers_each_line(rt: HostRuntime) {
     }
 }
 
+#[test]
+fn takes_words_of_printable_characters(rt: HostRuntime) {
+    for byte in 0..=u8::MAX {
+        let mut script = b"bounded 1\nsend 1 "
+            .to_vec(rt.alloc())
+            .expect(&rt, "memory");
+        script.push(byte).expect(&rt, "memory");
+        let (status, answers, faults) = if (b'!'..=b'~').contains(&byte) {
+            (0, "ok\nok\n", "")
+        } else {
+            (2, "ok\n", "line 2: not a call\n")
+        };
+        assert_run(&rt, &script, status, answers, faults);
+    }
+}
+
 // Longer than the buffers are.
 fn long_word<R: Host>(rt: &R) -> String {
     let mut word = String::new(rt.alloc());

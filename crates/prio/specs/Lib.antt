@@ -1,4 +1,0 @@
-pub mod Call
-pub mod Fields
-pub mod Opening
-pub mod Stop
