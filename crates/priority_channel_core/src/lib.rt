@@ -7,15 +7,11 @@
 
 pub mod awaitable_atomics;
 pub mod bag;
-mod by_test;
 pub mod calls;
 pub mod channel;
 pub mod comparisons;
 pub mod errors;
-mod heaps;
-mod interval_heap;
 pub mod item;
 pub mod laws;
 pub mod side;
-mod sift;
 pub mod waiting_list;
