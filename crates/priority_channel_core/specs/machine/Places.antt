@@ -36,8 +36,8 @@ module _ {T P W : Type 0} (old : State T P W) where
   abbrev pub is_last : Bool
   is_last = (old.is_closed || (old.ends_when_done && (length old.pending == 0))) && (old.held == 1)
 
-  -- a held place becomes free, and if all is done, the channel may end: all waiting senders are woken,
-  -- and if no pair can come any more all waiting receivers
+  -- a held place becomes free, and if all is done, the channel may end: all waiting senders are
+  -- woken, and if no pair can come any more all waiting receivers
   abbrev pub FreesPlace : Bool → Handed W → State T P W → Type 0
   FreesPlace true handed new =
       (0 < old.held)

@@ -34,7 +34,8 @@ module _ {T P W : Type 0} (cmp : P → P → Ordering) (is_clone : W → W → T
   Moves old Close (answer.Close was_open) = Closes old was_open
   Moves old IsClosed (answer.IsClosed told) = Looks old old.is_closed told
   Moves old IsEmpty (answer.IsEmpty told) = Looks old (length old.pending == 0) told
-  Moves old IsFull (answer.IsFull told) = Looks old (length old.pending + old.held == old.capacity) told
+  Moves old IsFull (answer.IsFull told) =
+      Looks old (length old.pending + old.held == old.capacity) told
   Moves old Len (answer.Len told) = Looks old (length old.pending) told
   Moves old Capacity (answer.Capacity told) = Looks old (capacity_told old.capacity) told
   Moves old SenderCount (answer.SenderCount told) = Looks old old.sender_count told

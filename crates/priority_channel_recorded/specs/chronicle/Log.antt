@@ -60,7 +60,8 @@ module _ {E : Type 0} (legal : ℕ → Bool → List E → Type 0) where
   -- at least `count` entries were seen; if they are no more, the entry may come next
   abbrev pub MayFollow : ℕ → Bool → List E → ℕ → E → Type 0
   MayFollow capacity is_reserved seen count entry =
-      (count ≤ length seen) × (length seen ≡ count → legal capacity is_reserved (seen ++ entry ∷ []))
+      (count ≤ length seen)
+      × (length seen ≡ count → legal capacity is_reserved (seen ++ entry ∷ []))
 
   -- the log was seen, and has `found` entries
   abbrev pub Looks : Step (Line E) → View (Line E) ℕ → ℕ → View (Line E) ℕ → Type 0
