@@ -1,22 +1,18 @@
 -- The state of a future after a poll.
 use Rattle.std.proofs.Common.{◌≡◌, ℕ, List, length, drop, refl, sym, arith, Option, Some, IfSome, IfErr, Ok, Err}
 use Rattle.std.proofs.Math.Seq.{drop-append_seam}
-use Rattle.futures.specs.declared.task.Poll.{Poll}
-use Rattle.priority_channel_core.specs.declared.calls.Call.{Call}
-use Rattle.priority_channel_core.specs.declared.calls.Answer.{Answer}
-use Rattle.priority_channel_core.specs.declared.calls.CorePoll.{CorePoll}
 use Rattle.priority_channel_core.specs.declared.calls.CorePoll.TheVariants.{Ready, Pending}
 use Rattle.priority_channel_core.specs.declared.errors.TrySendError.{TrySendError}
 use Rattle.priority_channel_core.specs.declared.side.Side.TheVariants.{Room}
 use Rattle.priority_channel_core.specs.Prelude.{State, Handed, rest_of, Sends, send_answer, Polls, Performs, SamePoll, SameReply, kept_by, Ordering, SendReply, SendPoll}
-use Rattle.priority_channel_waiting.specs.Future.{Task, poll_of, future_after}
+use Rattle.priority_channel_waiting.specs.Future.{future_after}
 use Rattle.priority_channel_waiting.specs.Future.Task.{Sendv}
 use Rattle.priority_channel_core.specs.declared.calls.Call.TheVariants as call
 use Rattle.priority_channel_core.specs.declared.calls.Answer.TheVariants as answer
 use Rattle.priority_channel_core.specs.declared.errors.SendFault.TheVariants as send_fault
 use Rattle.priority_channel_core.specs.declared.errors.TrySendError.TheVariants as send_error
 use Rattle.priority_channel_core.proofs.Polls.{kept_callable}
-use Rattle.priority_channel_waiting.specs.Holding.{Holding, told_by, left_by, handed_back, HoldsTail, send_of, IsKeptOf, PollsKept}
+use Rattle.priority_channel_waiting.specs.Holding.{left_by, left_after, unsent_of, HoldsTail, send_of, IsKeptOf}
 
 pub send_left : {T P W : Type 0} (pair : T × P) (waker : W) (reply : SendPoll (T × P))
     → IsKeptOf send_of (left_by reply) (future_after (send_of pair) waker (answer.PollSend reply))
@@ -28,28 +24,13 @@ pub sendv_left : {T P W M : Type 0} (msgs : M) (waker : W) (reply : SendPoll M)
 sendv_left msgs waker (Ready outcome) = record { task = refl; ticket = refl }
 sendv_left msgs waker (Pending kept ticket) = record { task = refl; ticket = refl }
 
--- what is given back with an error was kept by the core's poll
-pub unsent_kept : {M : Type 0} (Q : M → Type 0) (reply : SendPoll M)
-    → IfSome (kept_by reply) Q → IfSome (handed_back (told_by reply)) Q
-unsent_kept Q reply h = grind arith
-
-module _ {T P W M F K R : Type 0} (Performs : State T P W → Call T P W M F → Answer T P M → Handed W → State T P W → Type 0)
-    (task_of : K → Task T P M) (as_answer : CorePoll R K → Answer T P M) where
-  pub polls_kept : (holding left : Holding K) (kept : K) (given : Option ℕ) (waker : W) (old new : State T P W) (handed : Handed W)
-      (reply : CorePoll R K) (told : Poll R) → holding ≡ record { kept = Some kept; ticket = given }
-      → told ≡ told_by reply → left ≡ left_by reply → Performs old (poll_of (task_of kept) given waker) (as_answer reply) handed new
-      → IsKeptOf task_of (left_by reply) (future_after (task_of kept) waker (as_answer reply))
-      → IfSome holding.kept (λ k. PollsKept Performs task_of as_answer k holding.ticket waker old told handed new left)
-  polls_kept holding left kept given waker old new handed reply told is tells leaves step k =
-      rw is (record { reply = reply; tells = tells; step = step; leaves = rw leaves k })
+-- what is left after a poll was kept by the core's poll
+pub left_kept : {M : Type 0} (Q : M → Type 0) (reply : SendPoll M)
+    → IfSome (kept_by reply) Q → IfSome (left_after unsent_of reply) Q
+left_kept Q reply h = grind arith
 
 pub if_some : {M : Type 0} (Q : M → Type 0) (held : Option M) → ((m : M) → held ≡ Some m → Q m) → IfSome held Q
 if_some Q held h = grind arith
-
--- what is left of a pending poll was kept by the core's poll
-pub left_kept : {M : Type 0} (Q : M → Type 0) (reply : SendPoll M)
-    → IfSome (kept_by reply) Q → IfSome (left_by reply).kept Q
-left_kept Q reply h = grind arith
 
 tails : {T P W : Type 0} (old new : State T P W) (handed : Handed W) (reply : SendReply (List (T × P))) (list : List (T × P))
     → Sends old list reply handed new → IfErr reply (λ back. (n : ℕ) × (rest_of back ≡ drop n list))

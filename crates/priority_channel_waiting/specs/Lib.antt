@@ -3,6 +3,7 @@ pub mod Lines
 pub mod Waits
 pub mod Tails
 pub mod Holding
+pub mod Polled
 pub mod Ends
 pub mod Closers
 pub mod laws

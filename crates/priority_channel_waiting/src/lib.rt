@@ -9,6 +9,7 @@ pub mod attempts;
 pub mod closing;
 pub mod laws;
 pub mod line;
+pub mod polled;
 mod reading;
 pub mod spins;
 pub mod states;

@@ -1,0 +1,223 @@
+//! What futures do at each poll: a receive, a send, a bulk send.
+ghost use Rattle.std.specs.Prelude.{◌≡◌, ⊤, ℕ, Option, None, Some, Result, Err, IfSome, IfOk, IfErr, MatchOption};
+ghost use Rattle.std.specs.Iterator.Adapters.{peekable_can};
+ghost use Rattle.priority_channel_core.specs.declared.calls.CorePoll.{CorePoll};
+ghost use Rattle.priority_channel_core.specs.Prelude.{CountedState, ComparesAtMost, Handed, HasList, recv_answer, search_bound};
+ghost use Rattle.priority_channel_waiting.specs.Future.{GivesUpTicket};
+ghost use Rattle.priority_channel_waiting.specs.Holding.{at_once, left_after, left_now, unsent_of, HoldsTail};
+ghost use Rattle.priority_channel_waiting.specs.Polled.{RecvPolls, RecvTries, SendPolls, SendTries, SendvPolls, SendvTries};
+
+use priority_channel_core::awaitable_atomics::Wakes;
+use priority_channel_core::calls::CorePoll;
+use priority_channel_core::channel::PriorityQueueChannel;
+use priority_channel_core::errors::{
+    RecvError, RecvFault, SendError, SendFault, TryRecvError, TrySendError,
+};
+use std::alloc::Allocator;
+use std::iter::Peekable;
+
+/// What a future keeps between its polls, and makes again at each.
+pub trait Polled<T, P: Ord, W: Clone, A: Allocator + Copy>: Sized {
+    type Answer;
+
+    // Holds for what may be polled.
+    ghost can_poll: { Self → Type 0 } = { λ _. ⊤ };
+
+    // Holds for what was kept, and the rest of it that is still kept or comes back.
+    ghost leaves: { Self → Self → Type 0 };
+
+    // What comes back with an answer.
+    ghost back: { Self.Answer → Option Self };
+
+    // What a poll with this ticket and waker does on the core.
+    ghost polls: { Self → Option ℕ → W → CountedState T P W → CorePoll Self.Answer Self → Handed W
+        → CountedState T P W → Type 0 };
+
+    // What a try with this ticket does on the core, whose result is an answer or the rest.
+    ghost tries: { Self → Option ℕ → Result Self.Answer Self → CountedState T P W → Handed W
+        → CountedState T P W → Type 0 };
+
+    /// Does what a poll with any waker would, if it need not wait. Otherwise it returns what is
+    /// left to do, which stays listed under its ticket.
+    fn try_on(
+        self,
+        core: &mut PriorityQueueChannel<T, P, W, A>,
+        ticket: Option<u64>,
+    ) -> (Result<Self::Answer, Self>, Wakes<W, A>)
+        requires { can_poll self }
+        ensures answered { IfOk result.0 (λ answer. (waker : W)
+            → polls self ticket waker core.old (CorePoll.Ready answer) result.1 core.new) }
+        ensures tried { tries self ticket result.0 core.old result.1 core.new }
+        ensures left { IfSome (left_now back result.0) (λ rest. can_poll rest × leaves self rest) };
+
+    /// Makes the call, or has the waker listed.
+    fn poll_on(
+        self,
+        core: &mut PriorityQueueChannel<T, P, W, A>,
+        ticket: Option<u64>,
+        waker: &W,
+    ) -> (CorePoll<Self::Answer, Self>, Wakes<W, A>)
+        requires { can_poll self }
+        ensures step { polls self ticket waker.now core.old result.0 result.1 core.new }
+        ensures left { IfSome (left_after back result.0)
+            (λ rest. can_poll rest × leaves self rest) };
+}
+
+/// A receive of one pair.
+impl<T, P: Ord, W: Clone, A: Allocator + Copy> Polled<T, P, W, A> for () {
+    type Answer = Result<(T, P), RecvFault>;
+
+    ghost leaves = { λ _ _. ⊤ };
+
+    ghost back = { λ _. None };
+
+    ghost polls = { RecvPolls P.cmp W.is_clone };
+
+    ghost tries = { RecvTries };
+
+    fn try_on(
+        self,
+        core: &mut PriorityQueueChannel<T, P, W, A>,
+        ticket: Option<u64>,
+    ) -> (Result<Result<(T, P), RecvFault>, ()>, Wakes<W, A>) {
+        let (received, wakes) = core.try_recv();
+        let Some(answer) = answer_of(received) else {
+            return (Err(()), wakes);
+        };
+        give_up_given(ticket, core);
+        (Ok(answer), wakes)
+    }
+
+    fn poll_on(
+        self,
+        core: &mut PriorityQueueChannel<T, P, W, A>,
+        ticket: Option<u64>,
+        waker: &W,
+    ) -> (CorePoll<Result<(T, P), RecvFault>, ()>, Wakes<W, A>) {
+        core.poll_recv(ticket, waker)
+    }
+}
+
+// The answer of a receive, unless the channel is empty and may still get a message.
+fn answer_of<X>(received: Result<X, TryRecvError>) -> Option<Result<X, RecvFault>>
+    ensures { MatchOption result (received ≡ Err TryRecvError.Empty)
+        (λ answer. recv_answer received None ≡ Some (CorePoll.Ready answer)) }
+{
+    match received {
+        Ok(pair) => Some(Ok(pair)),
+        Err(TryRecvError::Closed) => Some(Err(RecvFault::Closed(RecvError))),
+        Err(TryRecvError::Empty) => None,
+    }
+}
+
+/// A send of one pair.
+impl<T, P: Ord, W: Clone, A: Allocator + Copy> Polled<T, P, W, A> for (T, P) {
+    type Answer = Result<(), SendFault<(T, P)>>;
+
+    ghost leaves = { λ pair rest. rest ≡ pair };
+
+    ghost back = { unsent_of };
+
+    ghost polls = { SendPolls P.cmp W.is_clone };
+
+    ghost tries = { SendTries };
+
+    fn try_on(
+        self,
+        core: &mut PriorityQueueChannel<T, P, W, A>,
+        ticket: Option<u64>,
+    ) -> (Result<Result<(), SendFault<(T, P)>>, (T, P)>, Wakes<W, A>) {
+        let (msg, priority) = self;
+        let (tried, wakes) = core.try_send(msg, priority);
+        (end_try(tried, ticket, core), wakes)
+    }
+
+    fn poll_on(
+        self,
+        core: &mut PriorityQueueChannel<T, P, W, A>,
+        ticket: Option<u64>,
+        waker: &W,
+    ) -> (CorePoll<Result<(), SendFault<(T, P)>>, (T, P)>, Wakes<W, A>) {
+        let (msg, priority) = self;
+        core.poll_send(msg, priority, ticket, waker)
+    }
+}
+
+/// A send of many pairs. A prefix may have been sent.
+impl<T: Drop, P: Ord + Drop, W: Clone, A: Allocator + Copy, I: Iterator<Item = (T, P)>> Polled<
+    T,
+    P,
+    W,
+    A,
+> for Peekable<I> {
+    type Answer = Result<(), SendFault<Peekable<I>>>;
+
+    ghost can_poll = { peekable_can I.can_next };
+
+    ghost leaves = { HoldsTail (HasList I.next_gives) };
+
+    ghost back = { unsent_of };
+
+    ghost polls = { SendvPolls (HasList I.next_gives) P.cmp W.is_clone };
+
+    ghost tries = { SendvTries (HasList I.next_gives) P.cmp W.is_clone };
+
+    fn try_on(
+        self,
+        core: &mut PriorityQueueChannel<T, P, W, A>,
+        ticket: Option<u64>,
+    ) -> (
+        Result<Result<(), SendFault<Peekable<I>>>, Peekable<I>>,
+        Wakes<W, A>,
+    ) {
+        let (tried, wakes) = core.try_sendv(self);
+        (end_try(tried, ticket, core), wakes)
+    }
+
+    fn poll_on(
+        self,
+        core: &mut PriorityQueueChannel<T, P, W, A>,
+        ticket: Option<u64>,
+        waker: &W,
+    ) -> (
+        CorePoll<Result<(), SendFault<Peekable<I>>>, Peekable<I>>,
+        Wakes<W, A>,
+    ) {
+        core.poll_sendv(self, ticket, waker)
+    }
+}
+
+// Ends a try of a send. If that is answered, it gives up its ticket.
+fn end_try<K, T, P: Ord, W: Clone, A: Allocator + Copy>(
+    tried: Result<(), TrySendError<K>>,
+    ticket: Option<u64>,
+    core: &mut PriorityQueueChannel<T, P, W, A>,
+) -> Result<Result<(), SendFault<K>>, K>
+    ensures told { result ≡ at_once tried }
+    ensures answered { IfOk result (λ _. GivesUpTicket P.cmp W.is_clone core.old.state ticket
+        core.new.state) }
+    ensures waits { IfErr result (λ _. core.new ≡ core.old) }
+    ensures cost { ComparesAtMost 0 (search_bound core.old.state.waiters) core.old core.new }
+{
+    let answer = match tried {
+        Ok(()) => Ok(()),
+        Err(TrySendError::Closed(unsent)) => Err(SendFault::Closed(SendError(unsent))),
+        Err(TrySendError::Memory(unsent)) => Err(SendFault::Memory(unsent)),
+        Err(TrySendError::Full(unsent)) => return Err(unsent),
+    };
+    give_up_given(ticket, core);
+    Ok(answer)
+}
+
+// Takes this ticket, if there is one, off the waiting list.
+pub(crate) fn give_up_given<T, P: Ord, W: Clone, A: Allocator + Copy>(
+    ticket: Option<u64>,
+    core: &mut PriorityQueueChannel<T, P, W, A>,
+)
+    ensures left { GivesUpTicket P.cmp W.is_clone core.old.state ticket core.new.state }
+    ensures cost { ComparesAtMost 0 (search_bound core.old.state.waiters) core.old core.new }
+{
+    if let Some(ticket) = ticket {
+        core.give_up(ticket);
+    }
+}
