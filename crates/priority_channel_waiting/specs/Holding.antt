@@ -63,10 +63,6 @@ module _ {K : Type 0} where
     left_now (Ok answer) = back answer
     left_now (Err rest) = Some rest
 
-  abbrev pub handed_back : Poll (SendEnd K) → Option K
-  handed_back (poll.Ready (Err fault)) = Some (unsent fault)
-  handed_back polled = None
-
 -- A try of a bulk send sends this prefix, if any. Answered, its ticket is in neither list.
 pub record TriesFront {T P W R K : Type 0} (old : State T P W) (given : Option ℕ)
     (front : List (T × P)) (tried : Result R K) (handed : Handed W) (new : State T P W) : Type 0
