@@ -1,10 +1,11 @@
 //! Pools of workers over leases: what a worker gives up comes to another one, and a channel that is
 //! told to close when all is done closes neither early nor never.
-use super::either::long;
+use super::either::{long, waits};
 use super::watch::{beside, within};
 use super::{Threaded, let_others_wait, wait_until};
 use crate::tests::dice::Dice;
-use crate::tests::driver::calls::{Call, Input, Pairs, Side, Way};
+use crate::tests::driver::all::ALL;
+use crate::tests::driver::calls::{Call, Input, Pairs, Side, Way, is_for_close};
 use crate::tests::driver::receive::receive;
 use crate::tests::driver::reply::{Outcome, Reply};
 use crate::tests::{Host, expect_equal_at, expect_true};
@@ -123,8 +124,8 @@ fn die<R: Wait + Clone + Clock>(
     Some(())
 }
 
-// Another waits in this way for the message of one that dies, and gets it.
-fn take_over<R: Threaded>(rt: &R, way: Way, called: Option<Call>) {
+// Another waits by this call for the message of one that dies, and gets it.
+fn take_over<R: Threaded>(rt: &R, call: Call, called: Option<Call>) {
     let (tx, rx) = bounded(rt, rt.alloc(), 2).expect(rt, "a channel");
     for pair in [(6u64, 6u64), (7, 5)] {
         expect_true(rt, tx.try_send(pair.0, pair.1).is_ok(), "there is room");
@@ -135,7 +136,7 @@ fn take_over<R: Threaded>(rt: &R, way: Way, called: Option<Call>) {
         limit: long(),
         chosen: 0,
     };
-    let round = ("a message of one that died", way, called);
+    let round = ("a message of one that died", call, called);
     let is_in_hand = AtomicBool::new(false);
     let (died, reply) = beside(
         rt,
@@ -143,10 +144,10 @@ fn take_over<R: Threaded>(rt: &R, way: Way, called: Option<Call>) {
         || die(rt, &rx, &is_in_hand),
         || {
             wait_until(rt, || is_in_hand.load(Ordering::SeqCst));
-            if let Some(call) = called {
-                let _ = receive(rt, rt.alloc(), &rx, call, input);
+            if let Some(called) = called {
+                let _ = receive(rt, rt.alloc(), &rx, called, input);
             }
-            receive(rt, rt.alloc(), &rx, Call::Lease(way), input)
+            receive(rt, rt.alloc(), &rx, call, input)
         },
     );
     expect_equal_at(rt, round, died, None);
@@ -158,9 +159,12 @@ fn take_over<R: Threaded>(rt: &R, way: Way, called: Option<Call>) {
 
 #[test]
 fn another_worker_goes_on_with_the_message_of_one_that_dies(rt: HostRuntime) {
-    for way in [Way::Blocking, Way::Timeout, Way::Future] {
+    for call in ALL {
+        if !waits(call) || call.side() != Side::Receiver || is_for_close(call) {
+            continue;
+        }
         for called in CALLED {
-            take_over(&rt, way, called);
+            take_over(&rt, call, called);
         }
     }
 }
