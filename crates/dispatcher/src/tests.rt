@@ -183,6 +183,33 @@ fn a_job_that_is_not_taken_is_an_error(rt: HostRuntime) {
     expect_equal(&rt, admitted.is_err(), true);
 }
 
+// A worker fails while a line is read, for which there is a place.
+#[derive(Drop)]
+struct Failing<R: Wait + Clone> {
+    rest: &'static [u8],
+    jobs: Receiver<Job, i64, R>,
+}
+
+impl<R: Wait + Clone> Read for Failing<R> {
+    fn read(&mut self, buf: &mut [u8]) -> io::Result<usize> {
+        drop(self.jobs.close_on_drop());
+        self.rest.read(buf)
+    }
+}
+
+#[test]
+fn a_worker_that_fails_while_a_line_is_read_is_an_error(rt: HostRuntime) {
+    let (queue, jobs) = bounded(&rt, rt.alloc(), 2).expect(&rt, "a channel");
+    let lines = Failing {
+        rest: b"a 1 x\nb 1 x\n",
+        jobs: jobs.clone().expect(&rt, "a receiver"),
+    };
+    let lines = BufReader::new(rt.alloc(), lines).expect(&rt, "memory");
+    let reports = Reports::new(io::sink());
+    let admitted = within(&rt, "places", || admit_lines(&rt, lines, &queue, &reports));
+    expect_equal(&rt, (admitted.is_err(), jobs.len()), (true, 1));
+}
+
 // Whoever reads the reports has gone.
 #[derive(Drop)]
 struct NoReader;
