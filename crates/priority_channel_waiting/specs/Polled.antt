@@ -19,7 +19,8 @@ module _ {T P W M F K R : Type 0}
   pub record PollsTask (kept : K) (given : Option ℕ) (waker : W) (old : State T P W)
       (reply : CorePoll R K) (handed : Handed W) (new : State T P W) : Type 0 where
     pub step : Performs old (poll_of (task_of kept) given waker) (as_answer reply) handed new
-    pub leaves : IsKeptOf task_of (left_by reply) (future_after (task_of kept) waker (as_answer reply))
+    pub leaves : IsKeptOf task_of (left_by reply)
+        (future_after (task_of kept) waker (as_answer reply))
 
 module _ {T P W : Type 0} (cmp : P → P → Ordering) (is_clone : W → W → Type 0) where
   abbrev pub SendPolls : T × P → Option ℕ → W → CountedState T P W → SendPoll (T × P) → Handed W

@@ -137,8 +137,8 @@ impl<K: Drop, N> State<K, N> {
     where
         K: Polled<T, P, W, A>,
         requires { ForSome self.old.kept K.can_poll }
-        ensures step { IfReady result.0 (λ _. (waker : W) → PollsKept K.polls self.old waker core.old
-            result core.new self.new) }
+        ensures step { IfReady result.0 (λ _. (waker : W) → PollsKept K.polls self.old waker
+            core.old result core.new self.new) }
         ensures tried { TriesKept K.tries self.old core.old result core.new self.new }
         ensures done { self.old.kept ≡ None → (result.0 ≡ Poll.Pending) × (result.1 ≡ nobody)
             × (self.new ≡ self.old) × (core.new ≡ core.old) }
