@@ -181,10 +181,10 @@ impl<K: Drop, N> State<K, N> {
         ensures kept { IfSome self.old.kept (λ kept. IfSome self.new.kept (λ rest.
             K.can_poll rest × K.leaves kept rest)) }
     {
-        let Some((kept, ticket)) = self.take() else {
+        let Some((kept, given)) = self.take() else {
             return (Poll::Pending, core.nobody());
         };
-        let (answer, wakes) = kept.poll_on(core, ticket, waker);
+        let (answer, wakes) = kept.poll_on(core, given, waker);
         (self.keep(answer), wakes)
     }
 }
