@@ -125,9 +125,7 @@ impl<K: Drop, N> State<K, N> {
         give_up_given(ticket, core);
         Some(kept)
     }
-}
 
-impl<K: Drop, N> State<K, N> {
     /// Does what a poll with any waker would, if it need not wait. Otherwise it returns `Pending`,
     /// and waits on under the ticket that it had.
     pub fn try_on<T, P: Ord, W: Clone, A: Allocator + Copy>(
