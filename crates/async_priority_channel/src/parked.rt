@@ -52,7 +52,7 @@ use std::alloc::Allocator;
 use std::sync::{Wait, WaitMethods};
 
 // How many times a call is tried again before its thread sleeps. The pauses of the processor
-// between these tries are 959 in all, some ten microseconds, which is about what a sleep and a wake
+// between these tries are 959 in all, some microseconds, which is about what a sleep and a wake
 // take. The thread does not yield in between: if other threads keep the processors busy, it would
 // not run again for milliseconds.
 const LOOKS: u32 = 20;

@@ -1,6 +1,6 @@
 //! The histories of a channel: calls of its machine.
 use crate::entry::{Entry, Telling};
-use priority_channel_recorded::chronicle::Chronicle;
+use priority_channel_recorded::chronicle::{self, Chronicle};
 use std::alloc::Allocator;
 use std::marker::PhantomData;
 
@@ -21,21 +21,19 @@ impl<T, P: Ord, W: Clone> Chronicle for Calls<T, P, W> {
     ghost begins = { legal_none P.cmp W.is_clone };
 }
 
-impl<T, P: Ord, W: Clone, A: Allocator> priority_channel_recorded::chronicle::Telling<
-    Calls<T, P, W>,
-> for Telling<T, P, W, A> {
+impl<T, P: Ord, W: Clone, A: Allocator> chronicle::Telling<Calls<T, P, W>> for Telling<T, P, W, A> {
     ghost use Rattle.priority_channel_witnessed.specs.Tells.{told_entry};
 
     ghost entry = { told_entry };
 }
 
 /// A log without entries and an empty ledger, for one channel to be made of.
-pub type Fresh<T, P, W> = priority_channel_recorded::chronicle::Fresh<Calls<T, P, W>>;
+pub type Fresh<T, P, W> = chronicle::Fresh<Calls<T, P, W>>;
 
-pub type Log<T, P, W, J> = priority_channel_recorded::chronicle::Log<Calls<T, P, W>, J>;
+pub type Log<T, P, W, J> = chronicle::Log<Calls<T, P, W>, J>;
 
 /// A prefix of the log that was seen.
-pub type Seen<T, P, W, J> = priority_channel_recorded::chronicle::Seen<Calls<T, P, W>, J>;
+pub type Seen<T, P, W, J> = chronicle::Seen<Calls<T, P, W>, J>;
 
 /// The right to call a channel.
-pub type Pass<T, P, W, J> = priority_channel_recorded::chronicle::Pass<Calls<T, P, W>, J>;
+pub type Pass<T, P, W, J> = chronicle::Pass<Calls<T, P, W>, J>;
