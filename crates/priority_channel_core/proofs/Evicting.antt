@@ -1,5 +1,5 @@
 -- What a displacement is in the channel, and what it is to take out a pair that a test chooses.
-use Rattle.std.proofs.Common.{◌≡◌, ℕ, ◌+◌, ◌-◌, ◌<◌, ◌^◌, Bool, false, List, [], ◌∷◌, length, sym, subst, length-append, refl, arith, Some, Ok, is_lt}
+use Rattle.std.proofs.Common.{◌≡◌, ℕ, ◌+◌, ◌-◌, ◌<◌, ◌^◌, Bool, false, List, [], ◌∷◌, length, sym, ap, subst, length-append, refl, arith, Some, Ok, is_lt}
 use Rattle.std.proofs.lemmas.List.Elements.{recursion_from_All}
 use Rattle.priority_channel_core.proofs.items.Kept.{every_part}
 use Rattle.priority_channel_core.specs.bag.Prelude.{Contents, TakesOne, NoneBelow, Displaces}
@@ -54,3 +54,18 @@ module _ {T P W : Type 0} (bag bag' : Contents T P) (word word' : Word W) (hande
   frees_one sound pair taken accepted handed_is fallen =
       let same : word.count - 1 ≡ length bag'.pending = let counted = sound.counted in grind (arith, length-append) in
       (handed_is, rw (fallen, accepted, same) refl)
+
+  pub sound_freed : IsSound bag word Old → (pair : T × P) → TakesOne bag.pending pair bag'.pending → bag'.accepted ≡ bag.accepted → bag'.slots ≡ bag.slots
+      → handed ≡ record { room = word.waiters.room; message = [] }
+      → word' ≡ record word { is_closed = bit_at word (word.count - 1) word.held; count = word.count - 1; waiters = record word.waiters { room = [] } }
+      → HasOwnTickets word'.waiters → IsSound bag' word' New
+  sound_freed sound pair taken accepted slots handed_is fallen tickets =
+      let fewer : length bag.pending ≡ length bag'.pending + 1 = grind (arith, length-append) in
+      let count = ap (λ (w : Word W). w.count) fallen in
+      let held = ap (λ (w : Word W). w.held) fallen in
+      record {
+        counted = omega (arith, count, sound.counted, fewer);
+        slots_held = omega (arith, held, slots, sound.slots_held, fewer);
+        slots_kept = rw slots sound.slots_kept;
+        good = good_frees Old New handed (frees_one sound pair taken accepted handed_is fallen) pair taken sound.good tickets;
+      }

@@ -1,4 +1,6 @@
 //! Consequences of the definitions alone.
+//!
+//! Cost: none, since the body of a law is empty.
 ghost use Rattle.std.specs.Prelude.{◌≡◌, ◌⊎◌, ◌+◌, ◌-◌, ◌<◌, ◌≤◌, ◌^◌, ℕ, true, false, List, [], ◌∷◌, ◌++◌, length, map, replicate, None, Ok, Err, IsPermutation};
 ghost use Rattle.std.specs.List.{AllZip};
 ghost use Rattle.std.specs.Iterator.{AlwaysYields};

@@ -5,7 +5,7 @@ use Rattle.std.specs.List.{swap, IsDistinct, AllByRecursion}
 use Rattle.std.proofs.SliceLists.{swap_is}
 use Rattle.std.proofs.lemmas.Bool.{cases_lt, eqb-false}
 use Rattle.std.proofs.lemmas.Bool.Decides.{nat_tests}
-use Rattle.std.proofs.lemmas.List.Sorted.{IsPermutation-keeps, IsPermutation-swap}
+use Rattle.std.proofs.lemmas.List.Sorted.{IsPermutation-refl, IsPermutation-trans, IsPermutation-cons, IsPermutation-middle, IsPermutation-keeps, IsPermutation-swap}
 use Rattle.std.proofs.lemmas.List.Elements.{All-from_recursion}
 use Rattle.std.proofs.lemmas.Map.Keys.{IsDistinct-IsPermutation}
 use Rattle.priority_channel_core.specs.bag.Prelude.{put_in, by_key}
@@ -43,6 +43,19 @@ module _ {X : Type 0} (key : X → ℕ) where
   unfolding by_key
   every_by_key P [] h = tt
   every_by_key P (x ∷ xs) h = every_put_in P x (by_key key xs) h.0 (every_by_key P xs h.1)
+
+  put_in_moves : (x : X) (s : List X) → IsPermutation (put_in key x s) (x ∷ s)
+  unfolding put_in
+  put_in_moves x [] = IsPermutation-refl (x ∷ [])
+  put_in_moves x (z ∷ s) =
+      let behind = IsPermutation-trans _ _ _ (IsPermutation-cons z _ _ (put_in_moves x s)) (IsPermutation-middle (z ∷ []) x s) in
+      let before = IsPermutation-refl (x ∷ z ∷ s) in
+      grind (arith, nat_tests, behind, before)
+
+  pub by_key_moves : (xs : List X) → IsPermutation (by_key key xs) xs
+  unfolding by_key
+  by_key_moves [] = IsPermutation-refl []
+  by_key_moves (x ∷ xs) = IsPermutation-trans _ _ _ (put_in_moves x (by_key key xs)) (IsPermutation-cons x _ _ (by_key_moves xs))
 
   put_in-push : (y x : X) (s : List X) → key y < key x → put_in key y (s ++ x ∷ []) ≡ put_in key y s ++ x ∷ []
   unfolding put_in

@@ -1,5 +1,5 @@
 -- The order of items.
-use Rattle.std.proofs.Common.{◌≡◌, ℕ, ◌<◌, Bool, List, length, get_or, sym, ap, ◌∙◌, is_lt}
+use Rattle.std.proofs.Common.{◌≡◌, ℕ, ◌<◌, Bool, List, length, get_or, sym, ap, ◌∙◌, true, arith, is_lt, is_gt}
 use Rattle.std.proofs.lemmas.Cmp.{on_total, then_total, back_total, nat_cmp_total}
 use Rattle.std.proofs.lemmas.List.Elements.{pair_read}
 use Rattle.std.specs.BinaryHeap.Sift.{ComparesAt}
@@ -8,6 +8,13 @@ use Rattle.priority_channel_core.specs.bag.Prelude.{Item, item_cmp, Ordering}
 
 pub item_total : {T P : Type 0} {cmp : P → P → Ordering} → IsTotalOrder cmp → IsTotalOrder (item_cmp {T = T} cmp)
 item_total {T} {P} o = then_total (on_total (λ (x : Item T P). x.priority) o) (back_total (on_total (λ (x : Item T P). x.number) nat_cmp_total))
+
+module _ {X : Type 0} {R : X → X → Ordering} (o : IsTotalOrder R) where
+  pub never_above_itself : (x : X) → is_gt (R x x) ≡ true → ⊥
+  never_above_itself x h = grind (arith, o.antisymm x x)
+
+  pub above_chain : (x y z : X) → is_gt (R x y) ≡ true → is_gt (R y z) ≡ true → is_gt (R x z) ≡ true
+  above_chain x y z h i = grind (arith, o.antisymm x y, o.antisymm y z, o.antisymm x z, o.trans z y x)
 
 -- what a call of `compare` on the elements at i and j returned
 pub compared :

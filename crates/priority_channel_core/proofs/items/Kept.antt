@@ -1,16 +1,17 @@
 -- The items that a bag keeps.
-use Rattle.std.proofs.Common.{◌≡◌, ℕ, ◌+◌, ◌<◌, ◌≤◌, Bool, true, false, List, [], ◌∷◌, ◌++◌, length, get_or, map, take, drop, refl, sym, ap, subst, ◌∙◌, arith, IsPermutation, is_lt, is_gt}
+use Rattle.std.proofs.Common.{◌≡◌, ℕ, ◌+◌, ◌<◌, ◌≤◌, Bool, true, false, List, [], ◌∷◌, ◌++◌, length, get_or, map, take, drop, refl, sym, ap, subst, ◌∙◌, arith, IsPermutation, is_lt, is_gt, ◌⊎◌, inl, inr}
+use Rattle.std.proofs.lemmas.Bool.{cases_Bool}
 use Rattle.std.proofs.lemmas.Bool.Decides.{nat_tests}
 use Rattle.std.proofs.lemmas.List.{length-map, map-append, nil_from_length}
 use Rattle.std.proofs.lemmas.List.Elements.{All-nil, All-push, All-weaker, All-tail, All-map, All-from_recursion, recursion_from_All}
-use Rattle.std.proofs.lemmas.List.Sorted.{All-permutation, IsPermutation-refl, IsPermutation-swap_remove, length_permutation}
+use Rattle.std.proofs.lemmas.List.Sorted.{All-permutation, IsPermutation-map, IsPermutation-refl, IsPermutation-swap_remove, length_permutation}
 use Rattle.std.proofs.Permutation.{every_append, every_shuffled}
 use Rattle.std.proofs.Math.Seq.{take-append_seam}
 use Rattle.std.proofs.HeapSift as heap
 use Rattle.std.specs.Cmp.{IsTotalOrder}
 use Rattle.std.specs.List.{All, AllByRecursion, IsDistinct, swap_remove}
 use Rattle.std.specs.declared.cmp.Ordering.TheVariants.{Less, Greater}
-use Rattle.priority_channel_core.specs.bag.Prelude.{Item, TakesGreatest, TakesLeast, NoneBelow, TakesOne, TakesAll, in_order_of_numbers, pair_of, by_key, same_number, item_cmp, IsOrdered, IsKept, Ordering}
+use Rattle.priority_channel_core.specs.bag.Prelude.{Item, PassesGreatest, TakesGreatest, TakesLeast, NoneBelow, TakesOne, TakesAll, in_order_of_numbers, pair_of, by_key, same_number, item_cmp, IsOrdered, IsKept, Ordering}
 use Rattle.priority_channel_core.proofs.items.ByKey as keys
 use Rattle.priority_channel_core.proofs.items.ByKey.{every_weaker}
 use Rattle.priority_channel_core.proofs.items.ItemOrder.{item_total}
@@ -100,6 +101,12 @@ module _ {T P : Type 0} where
     later_above : (x y : Item T P) → is_lt (R y x) ≡ false → x.number < y.number → cmp y.priority x.priority ≡ Greater
     later_above x y h p = grind (arith, nat_tests)
 
+    before_below : (x y : Item T P) → is_gt (R y x) ≡ false → same_number x y ≡ false → y.number ≤ x.number → cmp y.priority x.priority ≡ Less
+    before_below x y h apart p = grind (arith, nat_tests)
+
+    behind_not_above : (x y : Item T P) → is_gt (R y x) ≡ false → is_gt (cmp y.priority x.priority) ≡ false
+    behind_not_above x y h = grind arith
+
     -- one item is taken out, and the others are left
     module _ (xs zs : List (Item T P)) (x : Item T P) (apart : IsDistinct same_number xs) (moved : IsPermutation xs (x ∷ zs)) where
       apart_after : IsDistinct same_number (x ∷ zs)
@@ -142,6 +149,35 @@ module _ {T P : Type 0} where
                 (every_both Left (λ y. y.number ≤ x.number) place.front both.0 place.upto);
             not_above = of_each (λ other. is_gt (cmp other.1 x.priority) ≡ false) Left (λ y h. never_above x y h.0) place.back both.1;
           }
+
+      -- the same among the pairs that pass a test
+      module _ (passes fails : T × P → Type 0) where
+        abbrev Tested : Item T P → Type 0
+        Tested y = is_gt (R y x) ≡ true → fails (pair_of y)
+
+        tested_before : (y : Item T P) → (Tested y × (same_number x y ≡ false)) × (y.number ≤ x.number) → fails (pair_of y) ⊎ (cmp y.priority x.priority ≡ Less)
+        tested_before y h = elim (cases_Bool (is_gt (R y x))) [
+          | inl above ↦ inl (h.0.0 above)
+          | inr not ↦ inr (before_below x y not h.0.1 h.1)
+        ]
+
+        tested_after : (y : Item T P) → Tested y × (same_number x y ≡ false) → fails (pair_of y) ⊎ (is_gt (cmp y.priority x.priority) ≡ false)
+        tested_after y h = elim (cases_Bool (is_gt (R y x))) [
+          | inl above ↦ inl (h.0 above)
+          | inr not ↦ inr (behind_not_above x y not)
+        ]
+
+        pub passes_greatest : passes (pair_of x) → AllByRecursion Tested xs → PassesGreatest cmp passes fails takes_one
+        unfolding IsDistinct takes_one
+        passes_greatest passed tested =
+            let rest = (every_shuffled Tested xs (x ∷ zs) moved tested).1 in
+            let both = parts (λ y. Tested y × (same_number x y ≡ false)) (every_both Tested (λ y. same_number x y ≡ false) zs rest apart_after.0) in
+            record {
+              passed = passed;
+              below = of_each (λ other. fails other ⊎ (cmp other.1 x.priority ≡ Less)) (λ y. (Tested y × (same_number x y ≡ false)) × (y.number ≤ x.number)) tested_before place.front
+                  (every_both (λ y. Tested y × (same_number x y ≡ false)) (λ y. y.number ≤ x.number) place.front both.0 place.upto);
+              not_above = of_each (λ other. fails other ⊎ (is_gt (cmp other.1 x.priority) ≡ false)) (λ y. Tested y × (same_number x y ≡ false)) tested_after place.back both.1;
+            }
 
       pub takes_least : AllByRecursion (λ y. is_lt (R y x) ≡ false) xs → TakesLeast cmp (in_order_of_numbers xs) (pair_of x) (in_order_of_numbers zs)
       takes_least bound =
@@ -197,6 +233,10 @@ module _ {T P : Type 0} where
 -- what holds of each item holds of each pair
 pub of_pairs : {T P : Type 0} (Q : T × P → Type 0) (xs : List (Item T P)) → All (λ y. Q (pair_of y)) xs → All Q (in_order_of_numbers xs)
 of_pairs Q xs h = of_each Q (λ y. Q (pair_of y)) (λ y q. q) (by_key number xs) (keys.every_by_key number (λ y. Q (pair_of y)) xs (recursion_from_All (λ y. Q (pair_of y)) xs h))
+
+-- the pairs of the items as they stand are those that are pending, in another order
+pub folded_in_order : {T P : Type 0} (xs : List (Item T P)) → IsPermutation (in_order_of_numbers xs) (map pair_of xs)
+folded_in_order xs = IsPermutation-map pair_of (by_key (λ y. y.number) xs) xs (keys.by_key_moves (λ y. y.number) xs)
 
 pub less_from_test : (a : Ordering) → is_lt a ≡ true → a ≡ Less
 less_from_test a e = grind arith

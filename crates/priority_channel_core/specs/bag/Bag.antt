@@ -1,11 +1,15 @@
 -- What callers see of a bag.
-use Rattle.std.specs.Prelude.{ℕ, ◌*◌, Bool, if◌then◌else◌, List, length}
+use Rattle.std.specs.Prelude.{ℕ, ◌*◌, Bool, if◌then◌else◌, Option, List, length}
 use Rattle.priority_channel_core.specs.bag.Digits.{digits}
 
 pub record Contents (T P : Type 0) : Type 0 where
   -- in the order of their acceptance
   pub pending : List (T × P)
   pub accepted : ℕ
+  -- how many were accepted before the one that goes out first
+  pub first : Option ℕ
+  -- how often a priority was changed, modulo 2^64
+  pub changes : ℕ
   -- how many fit without asking for memory
   pub slots : ℕ
   pub comparisons : ℕ

@@ -1,5 +1,5 @@
 -- Numbered items: their order, and the pairs that they stand for.
-use Rattle.std.specs.Prelude.{Bool, List, map, ◌==◌}
+use Rattle.std.specs.Prelude.{ℕ, Bool, Option, Some, None, List, [], ◌∷◌, map, ◌==◌}
 use Rattle.std.specs.Ordering.{nat_cmp, on, flip_args, then_cmp}
 use Rattle.std.specs.declared.cmp.Ordering.{Ordering}
 use Rattle.priority_channel_core.specs.declared.item.Item.{Item}
@@ -11,6 +11,11 @@ module _ {T P : Type 0} where
 
   abbrev pub in_order_of_numbers : List (Item T P) → List (T × P)
   in_order_of_numbers xs = map pair_of (by_key (λ x. x.number) xs)
+
+  -- of the item on top of a heap
+  abbrev pub first_number : List (Item T P) → Option ℕ
+  first_number [] = None
+  first_number (x ∷ xs) = Some x.number
 
   abbrev pub same_number : Item T P → Item T P → Bool
   same_number x y = x.number == y.number

@@ -1,5 +1,5 @@
 -- What callers see of a channel, and how its parts agree.
-use Rattle.std.specs.Prelude.{◌≡◌, ℕ, ◌+◌, ◌*◌, ◌≤◌, Bool, true, false, if◌then◌else◌, [], length}
+use Rattle.std.specs.Prelude.{◌≡◌, ℕ, ◌+◌, ◌*◌, ◌≤◌, Bool, true, false, if◌then◌else◌, Option, [], length}
 use Rattle.priority_channel_core.specs.bag.Prelude.{digits, Contents}
 use Rattle.priority_channel_core.specs.Types.{Side, Room, Message}
 use Rattle.priority_channel_core.specs.machine.State.{State, room, IsGoingOn}
@@ -11,6 +11,10 @@ pub record CountedState (T P W : Type 0) : Type 0 where
   pub priority_comparisons : ℕ
   pub ticket_comparisons : ℕ
   pub knows_least : Bool
+  -- how many pairs were accepted before the one that a receive would give
+  pub first : Option ℕ
+  -- how often a priority was changed, modulo 2^64
+  pub changes : ℕ
 
 module _ {T P W : Type 0} where
   abbrev pub state_of : Contents T P → Word W → ℕ → Bool → ℕ → ℕ → State T P W

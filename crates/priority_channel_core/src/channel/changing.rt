@@ -1,5 +1,5 @@
 //! Changing the priority of a pending pair that a test chooses.
-ghost use Rattle.std.specs.Prelude.{◌≡◌, ℕ, ◌*◌, true, false, length, All, IfOk, OnErr};
+ghost use Rattle.std.specs.Prelude.{◌≡◌, ℕ, ◌+◌, ◌*◌, ◌%◌, ◌^◌, true, false, length, All, IfOk, OnOk, OnErr};
 ghost use Rattle.priority_channel_core.specs.bag.Prelude.{digits};
 
 use crate::calls::{Answer, Call};
@@ -27,6 +27,7 @@ impl<T, P: Ord, W: Clone, A: Allocator + Copy> PriorityQueueChannel<T, P, W, A> 
         ensures none { OnErr result
             (All (λ pair. Tells F.Fn test.now pair false) self.old.state.pending) }
         ensures unchanged { OnErr result (self.new.state ≡ self.old.state) }
+        ensures counted { OnOk result (self.new.changes ≡ (self.old.changes + 1) % 2 ^ 64) }
         ensures cost { ComparesAtMost (2 * digits (length self.old.state.pending)) 0 self.old
             self.new }
     {

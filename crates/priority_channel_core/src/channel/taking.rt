@@ -1,5 +1,6 @@
 //! Counting, receiving and taking out the pairs that a test chooses.
-ghost use Rattle.std.specs.Prelude.{◌≡◌, ℕ, List, ◌+◌, ◌*◌, ◌++◌, ◌≤◌, true, false, length, All, IfNone, IfSome, IfOk, IfErr, Ok, Err, vec_capacity};
+ghost use Rattle.std.specs.Prelude.{◌≡◌, ℕ, List, ◌+◌, ◌*◌, ◌++◌, ◌<◌, ◌≤◌, IsPermutation, Some, true, false, length, All, IfNone, IfSome, IfOk, IfErr, Ok, Err, vec_capacity};
+ghost use Rattle.std.specs.List.{FoldsTo};
 ghost use Rattle.priority_channel_core.specs.bag.Prelude.{digits};
 ghost use Rattle.priority_channel_core.specs.Prelude.{TakesInTurn};
 
@@ -11,7 +12,7 @@ use std::alloc::Allocator;
 
 impl<T, P: Ord, W: Clone, A: Allocator + Copy> PriorityQueueChannel<T, P, W, A> {
     ghost use Rattle.priority_channel_core.specs.Prelude.{IsGood, Step, nobody, ComparesAtMost};
-    ghost use Rattle.priority_channel_core.specs.bag.Prelude.{TakesGreatest, Counts, Tells};
+    ghost use Rattle.priority_channel_core.specs.bag.Prelude.{PassesGreatest, TakesGreatest, TakesOne, Counts, Folds, Tells};
 
     /// Takes out a pending pair for which the test returns true, also from a closed channel. None
     /// if there is none. If there are several, it is not specified which one is taken. The test is
@@ -92,6 +93,53 @@ impl<T, P: Ord, W: Clone, A: Allocator + Copy> PriorityQueueChannel<T, P, W, A> 
             Some((msg, priority)) => test(msg, priority),
             None => true,
         }
+    }
+
+    /// Receives the greatest pending pair for which the test returns true, and among equals the one
+    /// accepted first. If something is pending, but nothing for which it does, the answer is
+    /// `Ok(None)`, and nothing changes. The errors are those of `try_recv`. The test is called once
+    /// on each pair, in no specified order. It takes no memory.
+    pub fn try_recv_where<F: Fn(&T, &P) -> bool>(
+        &mut self,
+        test: &F,
+    ) -> (Result<Option<(T, P)>, TryRecvError>, Wakes<W, A>)
+        requires { F.IsAlwaysCallable test.now }
+        ensures received { IfOk result.0 (λ taken. IfSome taken (λ pair.
+            (one : TakesOne self.old.state.pending pair self.new.state.pending)
+            × Step P.cmp W.is_clone self.old.state (Call.TakeWhere (length one.before))
+            (Answer.TakeWhere (Some pair)) result.1 self.new.state
+            × PassesGreatest P.cmp (λ pair. Tells F.Fn test.now pair true)
+            (λ pair. Tells F.Fn test.now pair false) one)) }
+        ensures kept { IfOk result.0 (λ taken. IfNone taken ((self.new.state ≡ self.old.state)
+            × (result.1 ≡ nobody) × (0 < length self.old.state.pending)
+            × All (λ pair. Tells F.Fn test.now pair false) self.old.state.pending)) }
+        ensures refused { IfErr result.0 (λ error. Step P.cmp W.is_clone self.old.state
+            Call.TryRecv (Answer.TryRecv (Err error)) result.1 self.new.state) }
+        ensures cost { ComparesAtMost (length self.old.state.pending
+            + 2 * digits (length self.old.state.pending)) 0 self.old self.new }
+    {
+        if self.is_empty() {
+            let (received, wakes) = self.try_recv();
+            return (received.map(Some), wakes);
+        }
+        match self.bag.take_greatest_where(test) {
+            Some(pair) => {
+                let (_, wakes) = self.word.decr();
+                (Ok(Some(pair)), wakes)
+            }
+            None => (Ok(None), Wakes::nobody(self.alloc)),
+        }
+    }
+
+    /// Calls `step` on each pending pair in turn, in no specified order, with what the call before
+    /// it returned, and the first time with `init`. Returns what the last call returned, or `init`
+    /// if nothing is pending. No priorities are compared.
+    pub fn fold_pending<X, F: Fn(X, &T, &P) -> X>(&self, init: X, step: &F) -> X
+        requires { F.IsAlwaysCallable step.now }
+        ensures { (pairs : List (T × P)) × IsPermutation self.now.state.pending pairs
+            × FoldsTo (Folds F.Fn step.now) init pairs result }
+    {
+        self.bag.fold(init, step)
     }
 
     /// Keeps the pending pairs for which the test returns true, and takes out all others, also from
