@@ -6,4 +6,6 @@ pub mod Holding
 pub mod Polled
 pub mod Ends
 pub mod Closers
+pub mod Selecting
+pub mod Seeking
 pub mod laws

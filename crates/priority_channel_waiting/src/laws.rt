@@ -1,4 +1,6 @@
 //! What follows for all futures together, for all threads, and for all that wait for a close.
+//!
+//! Cost: none, since the body of a law is empty.
 ghost use Rattle.std.specs.Prelude.{◌≡◌, ◌≢◌, ℕ, ◌<◌, ◌≤◌, true, List, slice_get, Some};
 ghost use Rattle.priority_channel_core.specs.Prelude.{Handed};
 ghost use Rattle.priority_channel_waiting.specs.Future.{ticket_of};

@@ -11,6 +11,8 @@ pub mod laws;
 pub mod line;
 pub mod polled;
 mod reading;
+pub mod seeking;
+pub mod selecting;
 pub mod spins;
 pub mod states;
 pub mod timeouts;

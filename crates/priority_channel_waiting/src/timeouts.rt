@@ -2,6 +2,8 @@
 //!
 //! The error of a send holds what was to be sent. `{}` and `{:?}` do not print it, so its type need
 //! not be printable.
+//!
+//! Cost: no call of an error takes memory or a lock.
 ghost use Rattle.std.specs.Prelude.{◌≡◌, ◌↔◌, IsTrue, Some};
 ghost use Rattle.priority_channel_waiting.specs.Waits.{given_back, unsent_in_time};
 

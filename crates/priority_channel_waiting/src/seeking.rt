@@ -1,0 +1,159 @@
+//! Receives that choose their message by a condition.
+ghost use Rattle.std.specs.Prelude.{◌≡◌, ◌≢◌, ℕ, true, false, All, IfOk, IfErr, Ok, Err, Some};
+ghost use Rattle.priority_channel_core.specs.bag.Prelude.{Tells};
+ghost use Rattle.priority_channel_core.specs.Prelude.{nobody, Step};
+ghost use Rattle.priority_channel_waiting.specs.Seeking.{ComesDue, IfFound, IfNotYet, IfOver, NoneDue};
+
+use crate::reading::Reading;
+use crate::selecting::Sight;
+use crate::waiter::{Core, Waiter};
+use priority_channel_core::awaitable_atomics::Wakes;
+use priority_channel_core::calls::{Answer, Call};
+use priority_channel_core::errors::TryRecvError;
+use std::alloc::Allocator;
+use std::time::{Clock, Duration, Instant};
+
+/// When the first pending message is to be received.
+///
+/// ```
+/// let (tx, rx) = unbounded(&rt, rt.alloc())?;
+/// tx.try_send("tea", Reverse(Instant::now(&rt)?))?;
+/// let (ready, _) = rx.recv_when_blocking(|_, due| Due::At(due.0))?;
+/// assert_eq!(rt; ready, "tea");
+/// ```
+#[derive(Clone, Copy, Drop)]
+pub enum Due {
+    Now,
+    /// At this instant, or at once if it has passed.
+    At(Instant),
+    /// Not as long as it is the first and has this priority.
+    Never,
+}
+
+/// What came of a look at the pending messages.
+pub enum Sought<T, P> {
+    Found((T, P)),
+    /// No message can come any more.
+    Over,
+    /// None meets the condition. One may meet it within this time, if there is one, although
+    /// nothing else changes.
+    NotYet(Option<Duration>),
+}
+
+/// A receive with a condition.
+pub trait Seek<T, P: Ord, A: Allocator + Copy> {
+    // Holds for a condition that may be asked.
+    ghost can_seek: { Self → Type 0 };
+
+    // Holds for a message that may have met the condition.
+    ghost meets: { Self → T × P → Type 0 };
+
+    /// At which messages it looks.
+    fn sight() -> Sight;
+
+    /// Receives a message that meets the condition, if there is one.
+    fn seek(&self, core: &mut Core<T, P, A>) -> (Sought<T, P>, Wakes<Waiter<A>, A>)
+        requires { can_seek self.now }
+        ensures { IfFound result.0 (meets self.now) };
+}
+
+/// A receive of the first message, once it is due.
+#[derive(Drop)]
+pub struct When<'a, F, C> {
+    pub when: &'a F,
+    pub clock: &'a C,
+}
+
+impl<F, C: Clock> When<'_, F, C> {
+    // The error is the time that is left, or None if it never comes. An instant counts as come if
+    // the clock cannot be read, as a deadline does.
+    fn wait(&self, due: Due) -> Result<(), Option<Duration>>
+        ensures comes { IfOk result (λ _. due ≢ Due.Never) }
+        ensures waits { IfErr result (λ _. due ≢ Due.Now) }
+    {
+        match due {
+            Due::Now => Ok(()),
+            Due::Never => Err(None),
+            Due::At(instant) => match Reading::of(self.clock) {
+                Ok(now) if now.at() < instant => Err(Some(instant.duration_since(now.at()))),
+                _ => Ok(()),
+            },
+        }
+    }
+}
+
+impl<T, P: Ord, A: Allocator + Copy, F: Fn(&T, &P) -> Due, C: Clock> Seek<T, P, A>
+    for When<'_, F, C> {
+    ghost can_seek = { λ s. F.IsAlwaysCallable s.when.now };
+
+    ghost meets = { λ s pair. ComesDue F.Fn s.when.now pair };
+
+    fn sight() -> Sight
+        ensures { result ≡ Sight.First }
+    {
+        Sight::First
+    }
+
+    fn seek(&self, core: &mut Core<T, P, A>) -> (Sought<T, P>, Wakes<Waiter<A>, A>)
+        requires { F.IsAlwaysCallable self.now.when.now }
+        ensures received { IfFound result.0 (λ pair. Step P.cmp ⟦<Waiter<A> as Clone>⟧.is_clone
+            core.old.state Call.TryRecv (Answer.TryRecv (Ok pair)) result.1 core.new.state) }
+        ensures met { IfFound result.0 (ComesDue F.Fn self.now.when.now) }
+        ensures over { IfOver result.0 (Step P.cmp ⟦<Waiter<A> as Clone>⟧.is_clone core.old.state
+            Call.TryRecv (Answer.TryRecv (Err TryRecvError.Closed)) result.1 core.new.state) }
+        ensures kept { IfNotYet result.0 ((core.new.state ≡ core.old.state) × (result.1 ≡ nobody)
+            × NoneDue F.Fn self.now.when.now P.cmp core.old.state.pending) }
+    {
+        if let Some((msg, priority)) = core.peek() {
+            let due = (self.when)(msg, priority);
+            if let Err(within) = self.wait(due) {
+                return (Sought::NotYet(within), core.nobody());
+            }
+        }
+        let (received, wakes) = core.try_recv();
+        let sought = match received {
+            Ok(pair) => Sought::Found(pair),
+            Err(TryRecvError::Closed) => Sought::Over,
+            Err(TryRecvError::Empty) => Sought::NotYet(None),
+        };
+        (sought, wakes)
+    }
+}
+
+/// A receive of the most urgent message that passes a test.
+#[derive(Drop)]
+pub struct Where<'a, F> {
+    pub test: &'a F,
+}
+
+impl<T, P: Ord, A: Allocator + Copy, F: Fn(&T, &P) -> bool> Seek<T, P, A> for Where<'_, F> {
+    ghost can_seek = { λ s. F.IsAlwaysCallable s.test.now };
+
+    ghost meets = { λ s pair. Tells F.Fn s.test.now pair true };
+
+    fn sight() -> Sight
+        ensures { result ≡ Sight.All }
+    {
+        Sight::All
+    }
+
+    fn seek(&self, core: &mut Core<T, P, A>) -> (Sought<T, P>, Wakes<Waiter<A>, A>)
+        requires { F.IsAlwaysCallable self.now.test.now }
+        ensures taken { IfFound result.0 (λ pair. (place : ℕ)
+            × Step P.cmp ⟦<Waiter<A> as Clone>⟧.is_clone core.old.state (Call.TakeWhere place)
+            (Answer.TakeWhere (Some pair)) result.1 core.new.state) }
+        ensures met { IfFound result.0 (λ pair. Tells F.Fn self.now.test.now pair true) }
+        ensures over { IfOver result.0 (Step P.cmp ⟦<Waiter<A> as Clone>⟧.is_clone core.old.state
+            Call.TryRecv (Answer.TryRecv (Err TryRecvError.Closed)) result.1 core.new.state) }
+        ensures kept { IfNotYet result.0 ((core.new.state ≡ core.old.state) × (result.1 ≡ nobody)
+            × All (λ pair. Tells F.Fn self.now.test.now pair false) core.old.state.pending) }
+    {
+        let (received, wakes) = core.try_recv_where(self.test);
+        let sought = match received {
+            Ok(Some(pair)) => Sought::Found(pair),
+            Err(TryRecvError::Closed) => Sought::Over,
+            Ok(None) | Err(TryRecvError::Empty) => Sought::NotYet(None),
+        };
+        (sought, wakes)
+    }
+}
