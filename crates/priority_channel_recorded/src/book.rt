@@ -94,8 +94,10 @@ impl<T, P: Ord, A: Allocator> Model for Book<T, P, A> {
 }
 
 impl<T: Copy, P: Copy + Ord, A: Allocator + Copy> Book<T, P, A> {
-    /// An open and empty channel with memory for `cap` pairs for good, and an empty history with
-    /// memory for `entries` entries. The error is that memory was refused.
+    /// An open and empty channel for `cap` pairs, and an empty history. The error is that memory
+    /// was refused.
+    ///
+    /// Cost: memory for `cap` pairs, for good, and for `entries` entries.
     #[tactic(auto, using(crate::proofs::Histories::history_none))]
     pub fn new(alloc: A, cap: u64, entries: usize) -> Result<Self, AllocError>
         requires positive { 0 < cap }
@@ -114,6 +116,8 @@ impl<T: Copy, P: Copy + Ord, A: Allocator + Copy> Book<T, P, A> {
     /// Makes a call, and enters it with its reply under the caller's number. If memory for the
     /// entry is refused, the call is not made. That does not happen before `entries` entries are
     /// made.
+    ///
+    /// Cost: as the channel's call, and memory for the entry once `entries` are made.
     #[tactic(auto, using(crate::proofs::Histories::history_more))]
     pub fn record(&mut self, who: u64, call: Call<T, P>) -> Result<Reply<T, P>, NoPlace>
         ensures step { IfOk result (λ reply.
@@ -135,6 +139,8 @@ impl<T: Copy, P: Copy + Ord, A: Allocator + Copy> Book<T, P, A> {
     }
 
     /// The entries, in the order of the calls.
+    ///
+    /// Cost: none.
     pub fn history(&self) -> &[Entry<T, P>]
         ensures { result.now ≡ self.now.history }
     {

@@ -47,6 +47,8 @@ impl<T, P: Ord> Model for Fresh<T, P> {
 
 impl<T, P: Ord> Fresh<T, P> {
     /// For a recorder of a channel of this capacity, with that many passes.
+    ///
+    /// Cost: no memory.
     pub fn new(cap: u64, passes: usize) -> Self
         ensures capacity { result.capacity ≡ cap }
         ensures passes { result.passes ≡ passes }

@@ -1,4 +1,6 @@
 //! What follows from the definitions alone.
+//!
+//! Cost: none, since the body of a law is empty.
 ghost use Rattle.std.specs.Prelude.{◌≡◌, ℕ, List};
 ghost use Rattle.priority_channel_recorded.specs.declared.book.Entry.{Entry};
 ghost use Rattle.priority_channel_recorded.specs.History.{Machine, IsHistory};

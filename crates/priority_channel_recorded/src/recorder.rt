@@ -105,8 +105,10 @@ pub struct Recorded<T, P: Ord, J: Recording, A: Allocator = Global> {
 }
 
 impl<T: Copy, P: Copy + Ord, J: Recording, A: Allocator + Copy> Recorded<T, P, J, A> {
-    /// A recorder over an open and empty channel with memory for `cap` pairs and for `entries`
-    /// entries, and its passes. The error is that memory was refused.
+    /// A recorder over an open and empty channel for `cap` pairs, and its passes. The error is that
+    /// memory was refused.
+    ///
+    /// Cost: memory for `cap` pairs, for good, for `entries` entries and for the passes.
     pub fn new(
         alloc: A,
         fresh: Fresh<T, P>,
@@ -145,6 +147,8 @@ impl<T: Copy, P: Copy + Ord, J: Recording, A: Allocator + Copy> Recorded<T, P, J
     /// Makes a call, and enters it with its reply under the pass's number. If memory for the entry
     /// is refused, the call is not made. That does not happen before `entries` entries are made,
     /// which is a clause of `Book::record` (`refused`), and none here, where a lock is between.
+    ///
+    /// Cost: as `Book::record`, in one hold of the recorder's lock.
     pub fn call<R: Wait>(
         &self,
         rt: &R,
@@ -160,8 +164,15 @@ impl<T: Copy, P: Copy + Ord, J: Recording, A: Allocator + Copy> Recorded<T, P, J
         self.guarded.lock(rt).call(rt, &self.log, pass, call)
     }
 
-    /// Afterwards both passes have seen what either had seen, and the history as it is. It takes no
-    /// lock, and does not wait.
+    /// Afterwards both passes have seen what either had seen, and the history as it is.
+    ///
+    /// Cost: no lock.
+    ///
+    /// ```
+    /// let counts = (first.count(), second.count());
+    /// recorder.meet(&mut first, &mut second);
+    /// assert_eq!(rt; (first.count(), second.count()), counts);
+    /// ```
     pub fn meet(&self, one: &mut Pass<T, P, J>, other: &mut Pass<T, P, J>)
         ensures one_number { one.new.number ≡ one.old.number }
         ensures one_count { one.new.count ≡ one.old.count }
@@ -177,6 +188,8 @@ impl<T: Copy, P: Copy + Ord, J: Recording, A: Allocator + Copy> Recorded<T, P, J
 
     /// Ends the recording once all passes have come back, and returns the history of all calls. No
     /// pass may be lost: without all of them the whole history is not known.
+    ///
+    /// Cost: no memory: the entries are moved.
     #[tactic(auto, using(crate::proofs::Histories::legal_at))]
     pub fn end<R: Wait>(self, rt: &R, passes: Vec<Pass<T, P, J>, A>) -> History<T, P, A>
         requires all { vec_len passes ≡ J.parts }
@@ -215,6 +228,8 @@ impl<T, P, A: Allocator> Model for History<T, P, A> {
 
 impl<T, P, A: Allocator> History<T, P, A> {
     /// The entries, in the order of the calls.
+    ///
+    /// Cost: none.
     pub fn entries(&self) -> &[Entry<T, P>]
         ensures { result.now ≡ self.now }
     {

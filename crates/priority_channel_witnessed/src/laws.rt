@@ -1,4 +1,6 @@
 //! What follows from the definitions alone.
+//!
+//! Cost: none, since the body of a law is empty.
 ghost use Rattle.std.specs.Prelude.{◌≡◌, ◌<◌, ℕ, Bool, Option, List, [], ◌∷◌, ◌++◌};
 ghost use Rattle.priority_channel_core.specs.Prelude.{Handed, Calls, Answers};
 ghost use Rattle.priority_channel_witnessed.specs.declared.entry.Entry.{Entry};

@@ -32,6 +32,8 @@ impl<H: Chronicle, J: Recording> Model for Pass<H, J> {
 
 impl<H: Chronicle, J: Recording> Pass<H, J> {
     /// The number under which its calls are entered.
+    ///
+    /// Cost: no lock.
     pub fn number(&self) -> u64
         ensures { result ≡ self.now.number }
     {
@@ -39,6 +41,14 @@ impl<H: Chronicle, J: Recording> Pass<H, J> {
     }
 
     /// The number of calls that were made with it.
+    ///
+    /// Cost: no lock.
+    ///
+    /// ```
+    /// let before = pass.count();
+    /// recorder.call(&rt, &mut pass, Call::Len)?;
+    /// assert_eq!(rt; pass.count(), before + 1);
+    /// ```
     pub fn count(&self) -> u64
         ensures { result ≡ self.now.count }
     {
@@ -46,6 +56,14 @@ impl<H: Chronicle, J: Recording> Pass<H, J> {
     }
 
     /// Adds what the other has seen.
+    ///
+    /// Cost: no lock.
+    ///
+    /// ```
+    /// let count = first.count();
+    /// first.learn(&second);
+    /// assert_eq!(rt; first.count(), count);
+    /// ```
     #[tactic(auto, using(crate::proofs::Accounts::calls_seen))]
     pub fn learn(&mut self, other: &Self)
         ensures number { self.new.number ≡ self.old.number }
