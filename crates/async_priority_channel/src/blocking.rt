@@ -17,11 +17,13 @@ use std::sync::Wait;
 use std::time::{Clock, Duration, Instant};
 
 impl<T, P: Ord, R: Wait + Clone, A: Allocator + Copy> Receiver<T, P, R, A> {
-    /// Receives a message. If none is pending, it waits for one on this thread, which sleeps
-    /// meanwhile. The error is `Closed` if no message can come any more, or `Memory` if the call
-    /// has to wait and memory for waiting is refused.
+    /// Receives a message, or waits for one on this thread, which sleeps meanwhile. The error is
+    /// `Closed` if no message can come any more, or `Memory` if the call has to wait and memory for
+    /// waiting is refused.
     ///
     /// It blocks an executor, so a task uses `recv`. A loop is `for pair in &rx` (see `Iter`).
+    ///
+    /// Cost: as `try_recv` for each try. Memory for waiting, if it has to wait.
     ///
     /// ```
     /// let (tx, rx) = bounded(&rt, rt.alloc(), 1)?;
@@ -42,6 +44,8 @@ impl<T, P: Ord, R: Wait + Clone, A: Allocator + Copy> Receiver<T, P, R, A> {
     /// `Timeout` is returned only if the clock was read at or past the deadline, or cannot be read.
     /// It is returned, and not `Memory`, if memory for the message is refused at the last try.
     ///
+    /// Cost: as `recv_blocking`, and readings of the clock.
+    ///
     /// ```
     /// let (tx, rx) = bounded(&rt, rt.alloc(), 1)?;
     /// let limit = Duration::from_millis(5);
@@ -60,6 +64,8 @@ impl<T, P: Ord, R: Wait + Clone, A: Allocator + Copy> Receiver<T, P, R, A> {
     }
 
     /// As `recv_timeout`, but waits no longer than until `deadline`.
+    ///
+    /// Cost: as `recv_timeout`.
     ///
     /// ```
     /// let (tx, rx) = bounded(&rt, rt.alloc(), 1)?;
@@ -80,12 +86,14 @@ impl<T, P: Ord, R: Wait + Clone, A: Allocator + Copy> Receiver<T, P, R, A> {
 }
 
 impl<T, P: Ord, R: Wait + Clone, A: Allocator + Copy> Sender<T, P, R, A> {
-    /// Sends a message. If there is no room, it waits for room on this thread, which sleeps
-    /// meanwhile. The error is `Closed`, or `Memory` if memory is refused for the message or for
-    /// waiting. It gives the message back.
+    /// Sends a message, and waits for room on this thread, which sleeps meanwhile. The error is
+    /// `Closed`, or `Memory` if memory is refused for the message or for waiting. It gives the
+    /// message back.
     ///
     /// Other sends may pass it while it waits, as with `send`. It blocks an executor, so a task
     /// uses `send`.
+    ///
+    /// Cost: as `try_send` for each try. Memory for waiting, if it has to wait.
     ///
     /// ```
     /// let (tx, rx) = bounded(&rt, rt.alloc(), 1)?;
@@ -103,6 +111,8 @@ impl<T, P: Ord, R: Wait + Clone, A: Allocator + Copy> Sender<T, P, R, A> {
 
     /// As `send_blocking`, but waits no longer than `timeout`, as `recv_timeout` does. Either the
     /// message was sent, or the error gives it back.
+    ///
+    /// Cost: as `send_blocking`, and readings of the clock.
     ///
     /// ```
     /// let (tx, rx) = bounded(&rt, rt.alloc(), 1)?;
@@ -129,6 +139,17 @@ impl<T, P: Ord, R: Wait + Clone, A: Allocator + Copy> Sender<T, P, R, A> {
     }
 
     /// As `send_timeout`, but waits no longer than until `deadline`.
+    ///
+    /// Cost: as `send_timeout`.
+    ///
+    /// ```
+    /// let (tx, _rx) = bounded(&rt, rt.alloc(), 1)?;
+    /// let limit = Duration::from_millis(5);
+    /// let deadline = Instant::now(&rt)?.checked_add(limit).ok_or("too late")?;
+    /// tx.send_deadline("Foo", 0, deadline)?;
+    /// let late = tx.send_deadline("Bar", 2, deadline);
+    /// assert_eq!(rt; late, Err(SendTimeoutError::Timeout(("Bar", 2))));
+    /// ```
     pub fn send_deadline(
         &self,
         msg: T,
@@ -148,6 +169,8 @@ impl<T: Drop, P: Ord + Drop, R: Wait + Clone, A: Allocator + Copy> Sender<T, P, 
     /// Sends all messages, and waits for room on this thread, which sleeps meanwhile. The errors
     /// are those of `send_blocking`, and give back the rest. What was sent stays sent. The iterator
     /// is called and dropped as by `try_sendv`.
+    ///
+    /// Cost: as `try_sendv` for each try. Memory for waiting, if it has to wait.
     ///
     /// ```
     /// let (tx, rx) = bounded(&rt, rt.alloc(), 1)?;
@@ -172,6 +195,8 @@ impl<T: Drop, P: Ord + Drop, R: Wait + Clone, A: Allocator + Copy> Sender<T, P, 
 
     /// As `sendv_blocking`, but waits no longer than `timeout`, with the limits of `send_timeout`.
     /// The rest that comes back can be sent again.
+    ///
+    /// Cost: as `sendv_blocking`, and readings of the clock.
     ///
     /// ```
     /// let (tx, rx) = bounded(&rt, rt.alloc(), 1)?;
@@ -200,6 +225,20 @@ impl<T: Drop, P: Ord + Drop, R: Wait + Clone, A: Allocator + Copy> Sender<T, P, 
     }
 
     /// As `sendv_timeout`, but waits no longer than until `deadline`.
+    ///
+    /// Cost: as `sendv_timeout`.
+    ///
+    /// ```
+    /// let (tx, rx) = bounded(&rt, rt.alloc(), 1)?;
+    /// let limit = Duration::from_millis(5);
+    /// let deadline = Instant::now(&rt)?.checked_add(limit).ok_or("too late")?;
+    /// let jobs = [("compile", 1), ("link", 2)].into_iter().peekable();
+    /// if let Err(error) = tx.sendv_deadline(jobs, deadline) {
+    ///     assert!(rt; error.is_timeout());
+    ///     assert_eq!(rt; error.into_inner().next(), Some(("link", 2)));
+    /// }
+    /// assert_eq!(rt; rx.try_recv(), Ok(("compile", 1)));
+    /// ```
     pub fn sendv_deadline<I: Iterator<Item = (T, P)>>(
         &self,
         msgs: Peekable<I>,

@@ -22,8 +22,10 @@ pub type Ends<T, P, R, A = Global> = (Sender<T, P, R, A>, Receiver<T, P, R, A>);
 /// A channel for at most `cap` pending messages. While it is full, `send` waits and `try_send` is
 /// refused.
 ///
-/// Memory for messages is allocated as they are sent; `bounded_reserved` allocates all of it at
-/// once. The error is that memory was refused for what the handles share.
+/// The error is that memory was refused for what the handles share.
+///
+/// Cost: memory for what the handles share. That for messages is taken as they are sent;
+/// `bounded_reserved` takes all of it at once.
 ///
 /// ```
 /// let (tx, rx) = bounded(&rt, rt.alloc(), 10)?;
@@ -46,8 +48,10 @@ pub fn bounded<T: Drop, P: Ord + Drop, R: Wait + Clone, A: Allocator + Copy>(
 
 /// A channel for at most `cap` pending messages, whose memory is reserved here. No later `try_send`
 /// or `try_sendv` fails for lack of memory, until accepted messages and held places come to
-/// 2^64 - 1. A sender or a receiver that has to wait still takes memory for its waiter and for its
-/// entry in the waiting list. The error is that memory was refused.
+/// 2^64 - 1. The error is that memory was refused.
+///
+/// Cost: memory for what the handles share, and for `cap` messages. A sender or a receiver that has
+/// to wait still takes memory for its waiter and for its entry in the waiting list.
 ///
 /// ```
 /// let (tx, rx) = bounded_reserved(&rt, rt.alloc(), 1)?;
@@ -71,6 +75,8 @@ pub fn bounded_reserved<T: Drop, P: Ord + Drop, R: Wait + Clone, A: Allocator + 
 
 /// A channel whose only limit is memory: `send` never waits. The error is that memory was refused
 /// for what the handles share.
+///
+/// Cost: memory for what the handles share. That for messages is taken as they are sent.
 ///
 /// ```
 /// let (tx, rx) = unbounded(&rt, rt.alloc())?;

@@ -28,6 +28,8 @@ impl<S: Role, T, P: Ord, R: Wait + Clone, A: Allocator + Copy> End<S, T, P, R, A
     /// A guard whose drop closes the channel, however its scope is left. Pending messages can still
     /// be received.
     ///
+    /// Cost: no lock. The drop of the guard costs as `close`.
+    ///
     /// ```
     /// let (tx, rx) = unbounded(&rt, rt.alloc())?;
     /// let other = tx.clone()?;

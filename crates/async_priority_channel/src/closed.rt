@@ -22,6 +22,8 @@ impl<S: Role, T, P: Ord, R: Wait + Clone, A: Allocator + Copy> End<S, T, P, R, A
     /// The error is that memory for waiting was refused. If the future is dropped, its task is not
     /// woken by the close.
     ///
+    /// Cost: none until it is polled (see `Closed`).
+    ///
     /// ```
     /// let (tx, rx) = unbounded::<&str, u64, _, _>(&rt, rt.alloc())?;
     /// let receiving = thread::spawn(&rt, move || drop(rx))?;
@@ -36,12 +38,14 @@ impl<S: Role, T, P: Ord, R: Wait + Clone, A: Allocator + Copy> End<S, T, P, R, A
     }
 
     /// Waits for the close of the channel on this thread, which sleeps meanwhile. It returns at
-    /// once if the channel is closed. Otherwise it takes memory for its waiter, and for its
-    /// entry in the waiting list. The error is that this was refused. The channel is then as it
-    /// was.
+    /// once if the channel is closed. The error is that memory for waiting was refused. The channel
+    /// is then as it was.
     ///
     /// Messages do not wake the thread. If nobody closes the channel, it waits without end. It
     /// blocks an executor, so a task uses `closed`.
+    ///
+    /// Cost: no comparison. Memory for its waiter and for its entry in the waiting list, if the
+    /// channel is open.
     ///
     /// ```
     /// let (tx, rx) = unbounded(&rt, rt.alloc())?;
@@ -65,6 +69,8 @@ impl<S: Role, T, P: Ord, R: Wait + Clone, A: Allocator + Copy> End<S, T, P, R, A
     /// False is returned only if the channel was open after the clock was read at or past the
     /// deadline, or if the clock cannot be read.
     ///
+    /// Cost: as `closed_blocking`, and readings of the clock.
+    ///
     /// ```
     /// let (tx, rx) = unbounded::<&str, u64, _, _>(&rt, rt.alloc())?;
     /// let limit = Duration::from_millis(5);
@@ -81,6 +87,17 @@ impl<S: Role, T, P: Ord, R: Wait + Clone, A: Allocator + Copy> End<S, T, P, R, A
     }
 
     /// As `closed_timeout`, but waits no longer than until `deadline`.
+    ///
+    /// Cost: as `closed_timeout`.
+    ///
+    /// ```
+    /// let (tx, rx) = unbounded::<&str, u64, _, _>(&rt, rt.alloc())?;
+    /// let limit = Duration::from_millis(5);
+    /// let deadline = Instant::now(&rt)?.checked_add(limit).ok_or("too late")?;
+    /// assert_eq!(rt; tx.closed_deadline(deadline), Ok(false));
+    /// drop(rx);
+    /// assert_eq!(rt; tx.closed_deadline(deadline), Ok(true));
+    /// ```
     pub fn closed_deadline(&self, deadline: Instant) -> Result<bool, AllocError>
     where
         R: Clock,
@@ -97,8 +114,8 @@ impl<T, P: Ord, R: Wait + Clone, A: Allocator + Copy> Handle<T, P, R, A> {
 
     fn listen(&self, ticket: Option<u64>, waiter: &Waiter<A>) -> Watch {
         let mut held = self.hold();
-        let watch = held.listen(ticket, waiter);
-        held.unlock();
+        let watch = held.listen_for_close(ticket, waiter);
+        self.unlock(held);
         watch
     }
 
@@ -106,8 +123,8 @@ impl<T, P: Ord, R: Wait + Clone, A: Allocator + Copy> Handle<T, P, R, A> {
     pub fn unlisten(&self, ticket: Option<u64>) {
         if let Some(ticket) = ticket {
             let mut held = self.hold();
-            held.unlisten(ticket);
-            held.unlock();
+            held.unlisten_for_close(ticket);
+            self.unlock(held);
         }
     }
 
@@ -155,9 +172,9 @@ impl<T, P: Ord, R: Wait + Clone, A: Allocator + Copy> Handle<T, P, R, A> {
     // Takes the thread off the list, and looks a last time.
     fn look_last(&self, ticket: u64) -> Option<SeenClosed> {
         let mut held = self.hold();
-        held.unlisten(ticket);
-        let seen = SeenClosed::of(held.core());
-        held.unlock();
+        held.unlisten_for_close(ticket);
+        let seen = SeenClosed::of(held.shown());
+        self.unlock(held);
         seen
     }
 

@@ -17,26 +17,25 @@ pub trait Role: Copy {
     const SIDE: Side;
 }
 
-/// A handle of a channel: a `Sender` or a `Receiver`. Both have `close`, `close_on_drop`,
-/// `close_when_done`, `closed` with its variants, `downgrade`, `same_channel`, `clone`,
-/// `take_where`, `retain`, `change_priority`, and the queries `is_closed`, `is_empty`, `is_full`,
-/// `len`, `held`, `capacity`, `sender_count`, `receiver_count` and `count_where`.
+/// A handle of a channel, a `Sender` or a `Receiver`, with the calls that both have.
+/// `docs/REFERENCE.md` lists them.
 ///
 /// A handle can be moved to other threads, lent to them, and cloned. The channel closes when its
 /// last sender or its last receiver is dropped.
 ///
-/// A call that returns at once takes the channel's lock for one step, and then wakes the waiters
-/// that can go on: all tasks that wait for a message (or for room), and the first of the threads
-/// that do. A task that then finds nothing waits again. A call that waits makes such a step for
-/// each try. On a thread it tries again for some microseconds before the thread sleeps, if such
-/// tries were recently of use. `capacity`, `same_channel`, `downgrade`, and the calls that make a
-/// future, a stream, an iterator or a guard take no lock.
+/// A call that returns at once takes the channel's lock for one step, unless its cost says that it
+/// takes none, and then wakes the waiters that can go on: all tasks that wait for a message (or for
+/// room), and the first of the threads that do. A task that then finds nothing waits again. A call
+/// that waits makes such a step for each try. On a thread it tries again for some microseconds
+/// before the thread sleeps, if such tries were recently of use. In the cost of a call, n is the
+/// number of pending messages, and comparisons are of priorities: those of the core's call.
 ///
 /// The channel calls some of the user's code under its lock: the order of priorities, the
 /// allocator, the iterator of a bulk send and its drop, the functions that `peek_with`,
-/// `take_where`, `retain`, `change_priority`, `count_where` and `try_recv_if` are given, and the
-/// clone of a priority that `peek_priority` makes. If this code makes a call on the channel, or
-/// drops a handle of it, it waits for ever. It should be short, since all other calls wait for it.
+/// `fold_pending`, `change_priority` and all calls that choose by a test or wait for a condition
+/// are given, and the clone of a priority that `peek_priority` makes. If this code makes a call on
+/// the channel, or drops a handle of it, it waits for ever. It should be short, since all other
+/// calls wait for it.
 ///
 /// The answer of a query was true under the lock. Another thread may have changed it by then.
 ///
@@ -72,6 +71,8 @@ impl<S: Role, T, P: Ord, R: Wait + Clone, A: Allocator + Copy> End<S, T, P, R, A
     /// Closes the channel for good, and returns whether it was open. Pending messages can still be
     /// received. All waiting tasks and threads are woken.
     ///
+    /// Cost: no comparison. No memory.
+    ///
     /// ```
     /// let (tx, rx) = unbounded(&rt, rt.alloc())?;
     /// tx.try_send("Foo", 0)?;
@@ -96,6 +97,8 @@ impl<S: Role, T, P: Ord, R: Wait + Clone, A: Allocator + Copy> End<S, T, P, R, A
     /// that has more to send holds a permit meanwhile. A pool that only puts messages back ends as
     /// well by the drop of its last sender.
     ///
+    /// Cost: no comparison. No memory.
+    ///
     /// ```
     /// let (tx, rx) = unbounded(&rt, rt.alloc())?;
     /// tx.try_send("Foo", 0)?;
@@ -114,32 +117,52 @@ impl<S: Role, T, P: Ord, R: Wait + Clone, A: Allocator + Copy> End<S, T, P, R, A
 
     /// Whether the channel is closed: by a call of `close`, by the drop of the last sender or
     /// receiver, or since all is done after a call of `close_when_done`.
+    ///
+    /// Cost: one hold of the lock.
     pub fn is_closed(&self) -> bool {
         self.handle.look().core().is_closed()
     }
 
     /// Whether no message is pending.
+    ///
+    /// Cost: one hold of the lock.
     pub fn is_empty(&self) -> bool {
         self.handle.look().core().is_empty()
     }
 
     /// Whether there is no room: as many messages are pending and places are held as the capacity.
+    ///
+    /// Cost: one hold of the lock.
     pub fn is_full(&self) -> bool {
         self.handle.look().core().is_full()
     }
 
     /// The number of pending messages.
+    ///
+    /// Cost: one hold of the lock.
     pub fn len(&self) -> u64 {
         self.handle.look().core().len()
     }
 
     /// The number of places that are held: by permits, and by leases for messages in hand.
+    ///
+    /// Cost: one hold of the lock.
+    ///
+    /// ```
+    /// let (tx, rx) = bounded(&rt, rt.alloc(), 2)?;
+    /// let permit = tx.try_reserve()?;
+    /// assert_eq!(rt; (rx.held(), rx.len()), (1, 0));
+    /// permit.send("Foo", 0);
+    /// assert_eq!(rt; (rx.held(), rx.len()), (0, 1));
+    /// ```
     pub fn held(&self) -> u64 {
         self.handle.look().core().held()
     }
 
     /// The greatest number of messages that may be pending and of places that may be held at a
-    /// time. None if the capacity is `u64::MAX`. It takes no lock.
+    /// time. None if the capacity is `u64::MAX`.
+    ///
+    /// Cost: no lock.
     pub fn capacity(&self) -> Option<u64>
         ensures { result ≡ capacity_told self.now.capacity }
     {
@@ -163,14 +186,15 @@ impl<S: Role, T, P: Ord, R: Wait + Clone, A: Allocator + Copy> End<S, T, P, R, A
     pub fn shrink_to_fit(&self) {
         let mut held = self.handle.hold();
         held.core().shrink_to_fit();
-        held.unlock();
+        self.handle.unlock(held);
     }
 
     /// Whether the other is a handle of the same channel, and as this one a sender or a receiver.
     ///
-    /// A channel draws 128 random bits when it is compared for the first time, and is identified by
-    /// them. So the permission must also be a `RandomSource`. While that is refused the bits, the
-    /// call tries again, and does not return.
+    /// A channel is identified by 128 random bits, so the permission must also be a `RandomSource`.
+    /// While that is refused the bits, the call tries again, and does not return.
+    ///
+    /// Cost: no lock. When a channel is compared for the first time, it draws its random bits.
     ///
     /// ```
     /// let (tx, _rx) = unbounded::<&str, u64, _, _>(&rt, rt.alloc())?;
@@ -186,11 +210,15 @@ impl<S: Role, T, P: Ord, R: Wait + Clone, A: Allocator + Copy> End<S, T, P, R, A
     }
 
     /// The number of the channel's senders.
+    ///
+    /// Cost: one hold of the lock.
     pub fn sender_count(&self) -> usize {
         self.handle.look().core().sender_count()
     }
 
     /// The number of the channel's receivers.
+    ///
+    /// Cost: one hold of the lock.
     pub fn receiver_count(&self) -> usize {
         self.handle.look().core().receiver_count()
     }
@@ -198,6 +226,8 @@ impl<S: Role, T, P: Ord, R: Wait + Clone, A: Allocator + Copy> End<S, T, P, R, A
 
 /// Another sender or receiver of the channel. Each message goes to one receiver. A clone is refused
 /// if there are more than `usize::MAX / 2`, or if memory is refused. The count is then unchanged.
+///
+/// Cost: one hold of the lock.
 ///
 /// ```
 /// let (tx, rx) = unbounded(&rt, rt.alloc())?;
@@ -219,7 +249,7 @@ impl<S: Role, T: Drop, P: Ord + Drop, R: Wait + Clone, A: Allocator + Copy> Clon
         // This comes last, so that a refusal above leaves the count unchanged.
         let mut held = self.handle.hold();
         let has_joined = join(S::SIDE, held.core());
-        held.unlock();
+        self.handle.unlock(held);
         if !has_joined {
             return Err(AllocError);
         }

@@ -7,15 +7,15 @@ ghost use Rattle.futures.specs.Task.{Hears, IsArmed, Keeps};
 ghost use Rattle.priority_channel_core.specs.Prelude.{opening, capacity_told};
 ghost use Rattle.async_priority_channel.specs.Handles.{source_of};
 
+use crate::guarded::{Guarded, Held, Look};
 use crate::identity::Identity;
 use crate::lock::Lock;
 use futures::task::{Context, Source};
 use priority_channel_core::awaitable_atomics::Wakes;
 use priority_channel_core::side::Side;
-use priority_channel_waiting::closing::{Closing, SeenClosed, Watch};
 use priority_channel_waiting::line::Line;
 use priority_channel_waiting::spins::Spins;
-use priority_channel_waiting::waiter::{Core, Waiter, wake_all, wake_each};
+use priority_channel_waiting::waiter::{Core, Waiter, wake_all};
 use std::alloc::{AllocError, Allocator};
 use std::marker::Model;
 use std::random::RandomSource;
@@ -48,13 +48,6 @@ impl<A: Allocator> Waits<A> {
             spins: Spins::new(),
         }
     }
-}
-
-/// What the channel's lock guards: the core, and the waiters for the close.
-#[derive(Drop)]
-struct Guarded<T, P: Ord, A: Allocator + Copy> {
-    core: Core<T, P, A>,
-    closing: Closing<A>,
 }
 
 #[derive(Drop)]
@@ -101,52 +94,6 @@ impl<T, P: Ord, R, A: Allocator + Copy> Model for Handle<T, P, R, A> {
     ghost view = { λ h. arc_value h.shared };
 }
 
-/// The core under its lock. Code cannot forget it, since it is not `Drop`: a hold ends by `unlock`,
-/// or by `Handle::release`, which also wakes the waiters that a call took off the lists. These
-/// (`Wakes`) are not `Drop` either, and each call that may close the channel returns them. Nothing
-/// but `release` takes the waiters out of `Wakes`, once the lock is free. No type says so, since
-/// `Wakes::into_lists` is public.
-pub struct Held<'h, T, P: Ord, A: Allocator + Copy> {
-    guarded: MutexGuard<'h, Guarded<T, P, A>>,
-}
-
-impl<T, P: Ord, A: Allocator + Copy> Held<'_, T, P, A> {
-    #[inline(always)]
-    pub fn core(&mut self) -> &mut Core<T, P, A> {
-        &mut self.guarded.core
-    }
-
-    /// Lists a waiter for the close, as `Closing` does.
-    pub fn listen(&mut self, ticket: Option<u64>, waiter: &Waiter<A>) -> Watch {
-        let guarded = &mut *self.guarded;
-        guarded.closing.listen(&guarded.core, ticket, waiter)
-    }
-
-    /// Takes a waiter for the close off the list.
-    pub fn unlisten(&mut self, ticket: u64) {
-        self.guarded.closing.unlisten(ticket);
-    }
-
-    /// Releases the lock after calls that took no waiter off the lists.
-    pub fn unlock(self) {
-        let Held { guarded } = self;
-        drop(guarded);
-    }
-}
-
-/// The core under its lock, for queries.
-#[derive(Drop)]
-pub struct Look<'h, T, P: Ord, A: Allocator + Copy> {
-    guarded: MutexGuard<'h, Guarded<T, P, A>>,
-}
-
-impl<T, P: Ord, A: Allocator + Copy> Look<'_, T, P, A> {
-    #[inline(always)]
-    pub fn core(&self) -> &Core<T, P, A> {
-        &self.guarded.core
-    }
-}
-
 impl<T: Drop, P: Ord + Drop, R: Wait + Clone, A: Allocator + Copy> Handle<T, P, R, A> {
     /// The handles of the first sender and the first receiver of a new channel over this core.
     pub fn pair(
@@ -169,10 +116,7 @@ impl<T: Drop, P: Ord + Drop, R: Wait + Clone, A: Allocator + Copy> Handle<T, P, 
                     room: Waits::new(alloc),
                     message: Waits::new(alloc),
                     closing: Source::new(),
-                    guarded: Lock::new(Guarded {
-                        core,
-                        closing: Closing::new(alloc),
-                    }),
+                    guarded: Lock::new(Guarded::new(alloc, core)),
                     lets_go: AtomicBool::new(false),
                     identity: Identity::new(),
                 },
@@ -196,42 +140,32 @@ impl<T, P: Ord, R: Wait + Clone, A: Allocator + Copy> Handle<T, P, R, A> {
     /// Locks the core for a call that may change it.
     #[inline(always)]
     pub fn hold(&self) -> Held<'_, T, P, A> {
-        Held {
-            guarded: self.shared.guarded.lock(&self.rt),
-        }
+        Held::of(self.shared.guarded.lock(&self.rt))
     }
 
     /// Releases the lock, and then wakes the waiters that the call under this lock took off the
-    /// waiting lists. If the channel is closed by now, it wakes the waiters for the close too.
+    /// core's lists, and those beside the core for whom something has changed.
     #[inline(always)]
     pub fn release(&self, held: Held<'_, T, P, A>, wakes: Wakes<Waiter<A>, A>) {
-        if let Some(seen) = held.guarded.closing.due(&held.guarded.core) {
-            self.release_closed(held, wakes, seen);
-            return;
-        }
-        held.unlock();
+        let others = held.unlock(self.alloc());
         wake_all(&self.rt, wakes);
+        if let Some(others) = others {
+            others.wake(&self.rt);
+        }
     }
 
-    #[inline(never)]
-    fn release_closed(
-        &self,
-        mut held: Held<'_, T, P, A>,
-        wakes: Wakes<Waiter<A>, A>,
-        seen: SeenClosed,
-    ) {
-        let closers = held.guarded.closing.take(seen, self.alloc());
-        held.unlock();
-        wake_all(&self.rt, wakes);
-        wake_each(&self.rt, closers);
+    /// The same after calls that took no waiter off the core's lists.
+    #[inline(always)]
+    pub fn unlock(&self, held: Held<'_, T, P, A>) {
+        if let Some(others) = held.unlock(self.alloc()) {
+            others.wake(&self.rt);
+        }
     }
 
     /// Locks the core for queries.
     #[inline(always)]
     pub fn look(&self) -> Look<'_, T, P, A> {
-        Look {
-            guarded: self.shared.guarded.lock(&self.rt),
-        }
+        Look::of(self.shared.guarded.lock(&self.rt))
     }
 
     fn waits(&self, side: Side) -> &Waits<A>

@@ -85,7 +85,8 @@ fn pause<R: Wait>(rt: &R) {
 /// them. `Receiver::iter` and `for pair in &rx` make it.
 ///
 /// It never fails: if memory for waiting is refused, it sleeps for a millisecond and tries again.
-/// All its waits share one waiter.
+///
+/// Cost: as `recv_blocking` for each message. All waits share one waiter.
 #[must_use = "it receives nothing until it is asked for the next message"]
 pub struct Iter<'a, T, P: Ord, R: Wait + Clone, A: Allocator + Copy = Global> {
     receiver: &'a Receiver<T, P, R, A>,
@@ -115,6 +116,8 @@ impl<'a, T, P: Ord, R: Wait + Clone, A: Allocator + Copy> Iterator for Iter<'a, 
 impl<'a, T, P: Ord, R: Wait + Clone, A: Allocator + Copy> FusedIterator for Iter<'a, T, P, R, A> {}
 
 /// As `Iter`, with its own receiver, which is dropped with it. `for pair in rx` makes it.
+///
+/// Cost: as an `Iter`.
 #[derive(Drop)]
 #[must_use = "it receives nothing until it is asked for the next message"]
 pub struct IntoIter<T, P: Ord, R: Wait + Clone, A: Allocator + Copy = Global> {
@@ -138,6 +141,8 @@ impl<T: Drop, P: Ord + Drop, R: Wait + Clone, A: Allocator + Copy> FusedIterator
 
 /// The messages that are pending, until there is none. `Receiver::try_iter` makes it. Once it has
 /// found none, it stays ended.
+///
+/// Cost: as `try_recv` for each message.
 #[must_use = "it receives nothing until it is asked for the next message"]
 pub struct TryIter<'a, T, P: Ord, R: Wait + Clone, A: Allocator + Copy = Global> {
     receiver: &'a Receiver<T, P, R, A>,
@@ -175,6 +180,9 @@ impl<'a, T, P: Ord, R: Wait + Clone, A: Allocator + Copy> Iterator for TryIter<'
 impl<'a, T, P: Ord, R: Wait + Clone, A: Allocator + Copy> FusedIterator
     for TryIter<'a, T, P, R, A> {}
 
+/// The loop `for pair in &rx`, as `iter`.
+///
+/// Cost: none until it is asked for a message (see `Iter`).
 impl<'a, T, P: Ord, R: Wait + Clone, A: Allocator + Copy> IntoIterator
     for &'a Receiver<T, P, R, A> {
     type Item = (T, P);
@@ -186,6 +194,9 @@ impl<'a, T, P: Ord, R: Wait + Clone, A: Allocator + Copy> IntoIterator
     }
 }
 
+/// The loop `for pair in rx`, which drops the receiver at its end.
+///
+/// Cost: none until it is asked for a message (see `IntoIter`).
 impl<T: Drop, P: Ord + Drop, R: Wait + Clone, A: Allocator + Copy> IntoIterator
     for Receiver<T, P, R, A> {
     type Item = (T, P);
@@ -203,6 +214,8 @@ impl<T: Drop, P: Ord + Drop, R: Wait + Clone, A: Allocator + Copy> IntoIterator
 impl<T, P: Ord, R: Wait + Clone, A: Allocator + Copy> Receiver<T, P, R, A> {
     /// The messages one after another, until the channel is closed and empty. This thread waits for
     /// each of them. A worker loops over it, and the proof sees that the loop ends.
+    ///
+    /// Cost: none until it is asked for a message (see `Iter`).
     ///
     /// ```
     /// let (tx, rx) = unbounded(&rt, rt.alloc())?;
@@ -222,6 +235,8 @@ impl<T, P: Ord, R: Wait + Clone, A: Allocator + Copy> Receiver<T, P, R, A> {
     }
 
     /// The messages that are pending, until there is none. It never waits, and stays ended.
+    ///
+    /// Cost: none until it is asked for a message (see `TryIter`).
     ///
     /// ```
     /// let (tx, rx) = unbounded(&rt, rt.alloc())?;

@@ -33,7 +33,7 @@ use std::time::{Clock, Duration, Instant};
 /// let (tx, rx) = bounded(&rt, rt.alloc(), 1)?;
 /// tx.try_send("compile", 2)?;
 /// let lease = rx.try_lease()?;
-/// assert_eq!(rt; *lease.message(), "compile");
+/// assert_eq!(rt; (*lease.message(), *lease.priority()), ("compile", 2));
 /// assert!(rt; rx.is_empty() && tx.is_full());
 /// drop(lease);
 /// assert_eq!(rt; rx.try_lease()?.finish(), ("compile", 2));
@@ -72,6 +72,8 @@ impl<'a, T: Drop, P: Ord + Drop, R: Wait + Clone, A: Allocator + Copy> Lease<'a,
     }
 
     /// The message.
+    ///
+    /// Cost: no lock.
     pub fn message(&self) -> &T
         ensures { result.now ≡ self.now.pair.0 }
     {
@@ -80,6 +82,18 @@ impl<'a, T: Drop, P: Ord + Drop, R: Wait + Clone, A: Allocator + Copy> Lease<'a,
 
     /// The message, which may be changed: if it is put back, it is pending as it is by then. A job
     /// may so count how often it was tried.
+    ///
+    /// Cost: no lock.
+    ///
+    /// ```
+    /// let (tx, rx) = unbounded(&rt, rt.alloc())?;
+    /// tx.try_send(3, 0)?;
+    /// let mut lease = rx.try_lease()?;
+    /// let job = lease.message_mut();
+    /// *job = 4;
+    /// drop(lease);
+    /// assert_eq!(rt; rx.try_recv(), Ok((4, 0)));
+    /// ```
     pub fn message_mut(&mut self) -> &mut T
         ensures { result.now ≡ self.old.pair.0 }
     {
@@ -87,6 +101,8 @@ impl<'a, T: Drop, P: Ord + Drop, R: Wait + Clone, A: Allocator + Copy> Lease<'a,
     }
 
     /// The priority of the message.
+    ///
+    /// Cost: no lock.
     pub fn priority(&self) -> &P
         ensures { result.now ≡ self.now.pair.1 }
     {
@@ -94,6 +110,8 @@ impl<'a, T: Drop, P: Ord + Drop, R: Wait + Clone, A: Allocator + Copy> Lease<'a,
     }
 
     /// Frees the place, since the message is done with, and returns the message with its priority.
+    ///
+    /// Cost: no comparison. No memory.
     pub fn finish(self) -> (T, P)
         ensures { result ≡ self.entry.pair }
     {
@@ -103,6 +121,8 @@ impl<'a, T: Drop, P: Ord + Drop, R: Wait + Clone, A: Allocator + Copy> Lease<'a,
     }
 
     /// Puts the message back with another priority: it is pending again, behind its equals.
+    ///
+    /// Cost: as `Permit::send`.
     ///
     /// ```
     /// let (tx, rx) = unbounded(&rt, rt.alloc())?;
@@ -120,6 +140,8 @@ impl<'a, T: Drop, P: Ord + Drop, R: Wait + Clone, A: Allocator + Copy> Lease<'a,
     /// The message, its priority, and the permit of its place. That frees the place when it is
     /// dropped, or sends this or another message into it: a worker of a full channel can so send a
     /// job that it has found.
+    ///
+    /// Cost: no lock.
     ///
     /// ```
     /// let (tx, rx) = bounded(&rt, rt.alloc(), 1)?;
@@ -168,19 +190,28 @@ impl<T: Drop, P: Ord + Drop, R: Wait + Clone, A: Allocator + Copy> Receiver<T, P
     /// Receives a message at once, and keeps its place held. The errors are those of `try_recv`,
     /// and `Memory` once accepted messages and held places come to 2^64 - 1.
     ///
-    /// Cost: as many comparisons of priorities as `try_recv`.
+    /// Cost: as `try_recv`.
+    ///
+    /// ```
+    /// let (tx, rx) = bounded(&rt, rt.alloc(), 1)?;
+    /// assert!(rt; rx.try_lease().is_err_and(|error| error.is_empty()));
+    /// tx.try_send("Foo", 0)?;
+    /// assert_eq!(rt; rx.try_lease()?.finish(), ("Foo", 0));
+    /// ```
     pub fn try_lease(&self) -> Result<Lease<'_, T, P, R, A>, TryRecvManyError>
         ensures { IfOk result (λ lease. lease.channel ≡ self.now) }
     {
         let mut held = self.handle.hold();
         let leased = held.core().try_lease();
-        held.unlock();
+        self.handle.unlock(held);
         Ok(Lease::of(&self.handle, leased?))
     }
 
-    /// Receives a message, and keeps its place held. If none is pending, it waits for one on this
-    /// thread, as `recv_blocking` does, and with its errors. `Closed` is returned only once nothing
-    /// is pending and no place is held: what others have in hand may come back.
+    /// Receives a message, or waits for one on this thread, and keeps its place held. Its errors
+    /// are those of `recv_blocking`. `Closed` is returned only once nothing is pending and no place
+    /// is held: what others have in hand may come back.
+    ///
+    /// Cost: as `try_lease` for each try. Memory for waiting, if it has to wait.
     ///
     /// ```
     /// let (tx, rx) = bounded(&rt, rt.alloc(), 1)?;
@@ -197,6 +228,8 @@ impl<T: Drop, P: Ord + Drop, R: Wait + Clone, A: Allocator + Copy> Receiver<T, P
     }
 
     /// As `lease_blocking`, but waits no longer than `timeout`, as `recv_timeout` does.
+    ///
+    /// Cost: as `lease_blocking`, and readings of the clock.
     ///
     /// ```
     /// let (tx, rx) = bounded(&rt, rt.alloc(), 1)?;
@@ -219,6 +252,17 @@ impl<T: Drop, P: Ord + Drop, R: Wait + Clone, A: Allocator + Copy> Receiver<T, P
     }
 
     /// As `lease_timeout`, but waits no longer than until `deadline`.
+    ///
+    /// Cost: as `lease_timeout`.
+    ///
+    /// ```
+    /// let (tx, rx) = bounded(&rt, rt.alloc(), 1)?;
+    /// let limit = Duration::from_millis(5);
+    /// let deadline = Instant::now(&rt)?.checked_add(limit).ok_or("too late")?;
+    /// assert!(rt; rx.lease_deadline(deadline).is_err_and(|error| error.is_timeout()));
+    /// tx.try_send("Foo", 0)?;
+    /// assert_eq!(rt; rx.lease_deadline(deadline)?.finish(), ("Foo", 0));
+    /// ```
     pub fn lease_deadline(
         &self,
         deadline: Instant,
@@ -236,6 +280,8 @@ impl<T: Drop, P: Ord + Drop, R: Wait + Clone, A: Allocator + Copy> Receiver<T, P
     /// it is dropped before it has answered, it takes nothing. `Memory` includes the memory that
     /// keeps its waker, which the first poll that waits takes.
     ///
+    /// Cost: none until it is polled (see `LeaseNext`).
+    ///
     /// ```
     /// let (tx, rx) = bounded(&rt, rt.alloc(), 1)?;
     /// let sending = thread::spawn(&rt, move || tx.send_blocking("Foo", 0))?;
@@ -251,6 +297,8 @@ impl<T: Drop, P: Ord + Drop, R: Wait + Clone, A: Allocator + Copy> Receiver<T, P
     /// The messages one after another, each with its place held, until the channel is closed,
     /// nothing is pending and no place is held. This thread waits for each of them. A worker loops
     /// over it: where it leaves by a `?`, the message that it had in hand is put back.
+    ///
+    /// Cost: none until it is asked for a message (see `Leases`).
     ///
     /// ```
     /// let (tx, rx) = unbounded(&rt, rt.alloc())?;
@@ -275,6 +323,8 @@ impl<T: Drop, P: Ord + Drop, R: Wait + Clone, A: Allocator + Copy> Receiver<T, P
 /// The messages of a channel, each with its place held. `Receiver::leases` makes it.
 ///
 /// It waits as an `Iter` does, and never fails.
+///
+/// Cost: as `lease_blocking` for each message. All waits share one waiter.
 #[must_use = "it receives nothing until it is asked for the next message"]
 pub struct Leases<'a, T: Drop, P: Ord + Drop, R: Wait + Clone, A: Allocator + Copy = Global> {
     receiver: &'a Receiver<T, P, R, A>,

@@ -3,10 +3,10 @@
 //! that was accepted first.
 //!
 //! `bounded`, `bounded_reserved` and `unbounded` make a channel. `Sender` and `Receiver` are its
-//! handles, whose pages list their calls; `WeakSender` and `WeakReceiver` are handles that do not
-//! keep it open. `recorded` has channels that keep a history of all calls, and whose contracts name
-//! it. The library `priority_channel_witnessed` has channels whose history exists in contracts
-//! alone.
+//! handles; `WeakSender` and `WeakReceiver` are handles that do not keep it open. `recorded` has
+//! channels that keep a history of all calls, and whose contracts name it. The library
+//! `priority_channel_witnessed` has channels whose history exists in contracts alone.
+//! `docs/REFERENCE.md` lists all calls.
 //!
 //! # Kinds of channels
 //!
@@ -136,6 +136,23 @@
 //! }
 //! ```
 //!
+//! # Conditions
+//!
+//! `try_recv_where` receives the most urgent message that passes a test, and `recv_where_blocking`
+//! and its variants wait for one. `recv_when_blocking` and its variants receive the first message,
+//! once it is due: with `Reverse(instant)` as its priority, a channel delays its messages.
+//! `fold_pending` looks at all that is pending. None of these is a future.
+//!
+//! ```
+//! let (tx, rx) = unbounded(&rt, rt.alloc())?;
+//! let free = 4;
+//! for (job, memory, urgency) in [("compile", 8, 2), ("test", 1, 1)] {
+//!     tx.try_send((job, memory), urgency)?;
+//! }
+//! let (job, _) = rx.recv_where_blocking(|(_, memory), _| *memory <= free)?;
+//! assert_eq!(rt; job, ("test", 1));
+//! ```
+//!
 //! # Iterating
 //!
 //! A loop over `&rx` waits for each message, and ends when the channel is closed and empty. One
@@ -226,6 +243,7 @@ mod channel;
 mod close_on_drop;
 mod closed;
 mod end;
+mod guarded;
 mod handle;
 mod identity;
 mod iter;
@@ -237,6 +255,7 @@ mod parked;
 mod peek;
 mod permit;
 mod receiver;
+mod selecting;
 mod sender;
 mod stream;
 mod taking;
@@ -254,6 +273,7 @@ pub use priority_channel_core::errors::{
     RecvError, RecvFault, SendError, SendFault, TryRecvError, TryRecvManyError, TrySendError,
 };
 pub use priority_channel_recorded as recorded;
+pub use priority_channel_waiting::seeking::Due;
 pub use priority_channel_waiting::timeouts::{RecvTimeoutError, SendTimeoutError};
 pub use receiver::{Receiver, Receiving};
 pub use sender::{Sender, Sending};

@@ -30,6 +30,9 @@ impl<T, P: Ord, R: Wait + Clone, A: Allocator + Copy> Receiver<T, P, R, A> {
     /// come as there is room for. So fewer may come than are pending and than `limit`: what other
     /// threads send after the length was read may have no memory here.
     ///
+    /// Cost: as `try_recv` for each message that comes, in one hold of the lock. If `batch` lacks
+    /// room, memory for the messages, and another hold.
+    ///
     /// ```
     /// let (tx, rx) = unbounded(&rt, rt.alloc())?;
     /// let jobs = [("compile", 2), ("link", 1), ("test", 3)];
@@ -77,6 +80,8 @@ impl<T, P: Ord, R: Wait + Clone, A: Allocator + Copy> Receiver<T, P, R, A> {
     /// If it has to wait, it receives the first message when it comes, and right after it the
     /// messages that are pending by then.
     ///
+    /// Cost: as `try_recv_many`, and as `recv_blocking` if nothing is pending.
+    ///
     /// ```
     /// let (tx, rx) = bounded(&rt, rt.alloc(), 10)?;
     /// let sending = thread::spawn(&rt, move || tx.send_blocking("Foo", 0))?;
@@ -102,6 +107,8 @@ impl<T, P: Ord, R: Wait + Clone, A: Allocator + Copy> Receiver<T, P, R, A> {
     /// As `recv_many_blocking`, but waits for a first message no longer than `timeout`, as
     /// `recv_timeout` does. It does not wait for further messages. `Timeout` is returned if none
     /// came.
+    ///
+    /// Cost: as `recv_many_blocking`, and readings of the clock.
     ///
     /// ```
     /// let (tx, rx) = bounded(&rt, rt.alloc(), 10)?;
@@ -131,6 +138,19 @@ impl<T, P: Ord, R: Wait + Clone, A: Allocator + Copy> Receiver<T, P, R, A> {
     }
 
     /// As `recv_many_timeout`, but waits no longer than until `deadline`.
+    ///
+    /// Cost: as `recv_many_timeout`.
+    ///
+    /// ```
+    /// let (tx, rx) = bounded(&rt, rt.alloc(), 10)?;
+    /// let limit = Duration::from_millis(5);
+    /// let deadline = Instant::now(&rt)?.checked_add(limit).ok_or("too late")?;
+    /// let mut batch = Vec::new(rt.alloc());
+    /// tx.try_send("Foo", 0)?;
+    /// assert_eq!(rt; rx.recv_many_deadline(&mut batch, 8, deadline), Ok(1));
+    /// let late = rx.recv_many_deadline(&mut batch, 8, deadline);
+    /// assert_eq!(rt; late, Err(RecvTimeoutError::Timeout));
+    /// ```
     pub fn recv_many_deadline<B: Allocator>(
         &self,
         batch: &mut Vec<(T, P), B>,
@@ -222,6 +242,8 @@ impl<T, P: Ord, R: Wait + Clone, A: Allocator + Copy> Receiver<T, P, R, A> {
     /// dropped before it has answered, it takes nothing. A poll may be two steps: it finds nothing,
     /// and looks again as it is listed.
     ///
+    /// Cost: none until it is polled (see `RecvMany`).
+    ///
     /// ```
     /// let (tx, rx) = unbounded(&rt, rt.alloc())?;
     /// tx.try_send("Foo", 0)?;
@@ -264,6 +286,8 @@ fn reserve<X, B: Allocator>(batch: &mut Vec<X, B>, limit: usize, pending: u64)
 /// Receives many messages once there is one. `Receiver::recv_many` makes it.
 ///
 /// If it is polled again after its answer, it does as a `Recv` (see `Waiting`).
+///
+/// Cost: as `try_recv_many`, and as a poll of a `Recv` if nothing is pending.
 #[must_use = "a future does nothing until it is polled: `block_on`, or a call that ends in `_blocking`"]
 pub struct RecvMany<'a, T, P: Ord, B: Allocator, R: Wait + Clone, A: Allocator + Copy = Global> {
     receiver: &'a Receiver<T, P, R, A>,

@@ -175,7 +175,7 @@ impl<T, P: Ord, R: Wait + Clone, A: Allocator + Copy> Handle<T, P, R, A> {
         if let Some(ticket) = ticket {
             let mut held = self.hold();
             ticket.give_up(held.core());
-            held.unlock();
+            self.unlock(held);
         }
     }
 
@@ -188,7 +188,7 @@ impl<T, P: Ord, R: Wait + Clone, A: Allocator + Copy> Handle<T, P, R, A> {
         };
         let mut held = self.hold();
         let unlisted = line.list_for(duty, side, held.core());
-        held.unlock();
+        self.unlock(held);
         if let Some(unlisted) = unlisted {
             line.wake_first(unlisted);
         }
@@ -264,7 +264,7 @@ impl<T, P: Ord, R: Wait + Clone, A: Allocator + Copy> Handle<T, P, R, A> {
         let mut line = self.line(side);
         let mut held = self.hold();
         let listing = line.list_first(side, held.core());
-        held.unlock();
+        self.unlock(held);
         listing
     }
 

@@ -56,6 +56,8 @@ impl<T: Drop, P: Ord + Drop, R: Wait + Clone, A: Allocator + Copy> Permit<'_, T,
     ///
     /// If all receivers have been dropped, the message stays pending, or is dropped, as
     /// `close_on_drop` says.
+    ///
+    /// Cost: O(log n) comparisons, at most as many as n + 1 has binary digits. No memory.
     pub fn send(self, msg: T, priority: P) {
         let Permit { handle } = self;
         handle.put(msg, priority);
@@ -83,7 +85,7 @@ impl<T, P: Ord, R: Wait + Clone, A: Allocator + Copy> Sender<T, P, R, A> {
     /// Holds a place for a message still to come, at once. It is refused as a message is by
     /// `try_send`.
     ///
-    /// Cost: no comparison of priorities.
+    /// Cost: no comparison. Memory for the message, unless it is reserved.
     ///
     /// ```
     /// let (tx, rx) = bounded(&rt, rt.alloc(), 1)?;
@@ -97,13 +99,15 @@ impl<T, P: Ord, R: Wait + Clone, A: Allocator + Copy> Sender<T, P, R, A> {
     {
         let mut held = self.handle.hold();
         let reserved = held.core().try_reserve();
-        held.unlock();
+        self.handle.unlock(held);
         reserved?;
         Ok(Permit::of(&self.handle))
     }
 
-    /// Holds a place for a message still to come. If there is no room, it waits for room on this
-    /// thread, as `send_blocking` does, and with its errors.
+    /// Holds a place for a message still to come, and waits for room on this thread, as
+    /// `send_blocking` does, and with its errors.
+    ///
+    /// Cost: as `try_reserve` for each try. Memory for waiting, if it has to wait.
     ///
     /// ```
     /// let (tx, rx) = bounded(&rt, rt.alloc(), 1)?;
@@ -123,6 +127,8 @@ impl<T, P: Ord, R: Wait + Clone, A: Allocator + Copy> Sender<T, P, R, A> {
     }
 
     /// As `reserve_blocking`, but waits no longer than `timeout`, as `send_timeout` does.
+    ///
+    /// Cost: as `reserve_blocking`, and readings of the clock.
     ///
     /// ```
     /// let (tx, _rx) = bounded::<&str, u64, _, _>(&rt, rt.alloc(), 1)?;
@@ -146,6 +152,18 @@ impl<T, P: Ord, R: Wait + Clone, A: Allocator + Copy> Sender<T, P, R, A> {
     }
 
     /// As `reserve_timeout`, but waits no longer than until `deadline`.
+    ///
+    /// Cost: as `reserve_timeout`.
+    ///
+    /// ```
+    /// let (tx, _rx) = bounded::<&str, u64, _, _>(&rt, rt.alloc(), 1)?;
+    /// let limit = Duration::from_millis(5);
+    /// let deadline = Instant::now(&rt)?.checked_add(limit).ok_or("too late")?;
+    /// let permit = tx.reserve_deadline(deadline)?;
+    /// let refused = tx.reserve_deadline(deadline);
+    /// assert!(rt; refused.is_err_and(|error| error.is_timeout()));
+    /// drop(permit);
+    /// ```
     pub fn reserve_deadline(
         &self,
         deadline: Instant,
@@ -158,9 +176,12 @@ impl<T, P: Ord, R: Wait + Clone, A: Allocator + Copy> Sender<T, P, R, A> {
         self.handle.wait((), &deadline, &mut None)?;
         Ok(Permit::of(&self.handle))
     }
+
     /// As `reserve_blocking`, for a task. This is a future, which does nothing until it is polled.
     /// If it is dropped before it has answered, it holds no place. `Memory` includes the memory
     /// that keeps its waker, which the first poll that waits takes.
+    ///
+    /// Cost: none until it is polled (see `Reserve`).
     ///
     /// ```
     /// let (tx, rx) = bounded(&rt, rt.alloc(), 1)?;

@@ -21,17 +21,8 @@ impl Role for Receiving {
 /// Receives the messages of a channel: the greatest priority first, and among equal priorities the
 /// one accepted first.
 ///
-/// | | at once | waits on its thread | for a limited time | for a task |
-/// |---|---|---|---|---|
-/// | a message | `try_recv` | `recv_blocking` | `recv_timeout`, `recv_deadline` | `recv` |
-/// | one that keeps its place | `try_lease` | `lease_blocking`, `leases` | `lease_timeout`, `lease_deadline` | `lease` |
-/// | many messages | `try_recv_many` | `recv_many_blocking` | | `recv_many` |
-/// | one after another | `try_iter` | `iter`, `for pair in rx`, `in &rx` | | `stream`, `into_stream` |
-/// | what a test chooses | `take_where`, `retain` | | | |
-/// | a query | `peek_priority`, `peek_with` | | | |
-///
-/// `End` has the calls that a sender has too, and says what a call costs and which of the user's
-/// code is called under the channel's lock.
+/// `docs/REFERENCE.md` lists its calls. `End` has those that a sender has too, and says which of
+/// the user's code is called under the channel's lock.
 ///
 /// Messages that are pending when the last receiver is dropped stay in memory as long as there is a
 /// handle of the channel, and so does what they own. A client that waits for the answer to a
@@ -53,6 +44,8 @@ impl<T: Drop, P: Ord + Drop, R: Wait + Clone, A: Allocator + Copy> Receiver<T, P
     /// polled. If it is dropped before it has answered, it takes nothing. The error is `Closed` if
     /// no message can come any more, or `Memory` if memory was refused. That includes the memory
     /// that keeps its waker, which the first poll that waits takes.
+    ///
+    /// Cost: none until it is polled (see `Recv`).
     ///
     /// ```
     /// let (tx, rx) = unbounded(&rt, rt.alloc())?;
@@ -77,8 +70,7 @@ impl<T, P: Ord, R: Wait + Clone, A: Allocator + Copy> Receiver<T, P, R, A> {
     /// pending, and `Closed` if none can come any more. Messages that are pending in a closed
     /// channel are still received.
     ///
-    /// Cost: at most twice as many comparisons of priorities as the number of pending messages has
-    /// binary digits. These are the comparisons of the core's call.
+    /// Cost: O(log n) comparisons, at most twice as many as n has binary digits. No memory.
     ///
     /// ```
     /// let (tx, rx) = unbounded(&rt, rt.alloc())?;

@@ -24,15 +24,8 @@ impl Role for Sending {
 
 /// Sends messages into a channel, each with a priority.
 ///
-/// | | at once | waits on its thread | for a limited time | as a future |
-/// |---|---|---|---|---|
-/// | a message | `try_send` | `send_blocking` | `send_timeout`, `send_deadline` | `send` |
-/// | many messages | `try_sendv` | `sendv_blocking` | `sendv_timeout`, `sendv_deadline` | `sendv` |
-/// | one that may displace another | `try_send_evicting` | | | |
-/// | a place for one to come | `try_reserve` | `reserve_blocking` | `reserve_timeout`, `reserve_deadline` | `reserve` |
-///
-/// `End` has the calls that a receiver has too, and says what a call costs and which of the user's
-/// code is called under the channel's lock.
+/// `docs/REFERENCE.md` lists its calls. `End` has those that a receiver has too, and says which of
+/// the user's code is called under the channel's lock.
 ///
 /// ```
 /// let (tx, rx) = unbounded(&rt, rt.alloc())?;
@@ -54,6 +47,9 @@ impl<T: Drop, P: Ord + Drop, R: Wait + Clone, A: Allocator + Copy> Sender<T, P, 
     ///
     /// The iterator is called under the channel's lock (see `End`), and is dropped there if all was
     /// sent.
+    ///
+    /// Cost: for each message that is sent, at most as many comparisons as the number of pending
+    /// messages has binary digits at the end. Memory for the messages, unless it is reserved.
     ///
     /// ```
     /// let (tx, rx) = bounded(&rt, rt.alloc(), 2)?;
@@ -89,6 +85,8 @@ impl<T: Drop, P: Ord + Drop, R: Wait + Clone, A: Allocator + Copy> Sender<T, P, 
     ///
     /// The first `?` below is for `block_on`, the second for the error of the send.
     ///
+    /// Cost: none until it is polled (see `Send`).
+    ///
     /// ```
     /// let (tx, rx) = bounded(&rt, rt.alloc(), 1)?;
     /// block_on(&rt, tx.send("Foo", 0))??;
@@ -111,6 +109,8 @@ impl<T: Drop, P: Ord + Drop, R: Wait + Clone, A: Allocator + Copy> Sender<T, P, 
     /// in both. What it sent stays sent, also if it is dropped or ends in an error, as where the
     /// channel is closed between the two. Its errors are those of `send`, and give back the rest.
     /// The iterator is called and dropped as by `try_sendv`.
+    ///
+    /// Cost: none until it is polled (see `Sendv`).
     ///
     /// ```
     /// let (tx, rx) = bounded(&rt, rt.alloc(), 1)?;
@@ -140,8 +140,8 @@ impl<T, P: Ord, R: Wait + Clone, A: Allocator + Copy> Sender<T, P, R, A> {
     /// Sends a message at once, or gives it back: `Closed` if the channel is closed, `Full` if it
     /// has no room, and `Memory` if it could not get memory for the message.
     ///
-    /// Cost: at most as many comparisons of priorities as the number of pending messages, with this
-    /// one, has binary digits. These are the comparisons of the core's call.
+    /// Cost: O(log n) comparisons, at most as many as n + 1 has binary digits. Memory for the
+    /// message, unless it is reserved.
     ///
     /// ```
     /// let (tx, rx) = bounded(&rt, rt.alloc(), 1)?;
@@ -160,19 +160,21 @@ impl<T, P: Ord, R: Wait + Clone, A: Allocator + Copy> Sender<T, P, R, A> {
         sent
     }
 
-    /// Sends a message at once. If the channel is full, the message takes the place of the pending
-    /// message of least priority, which is returned; among equals that is the one accepted last.
-    /// Only a message of greater priority displaces it. If no pending message has a lesser
-    /// priority, the new message comes back, as `Full`. `Closed` and `Memory` are as for
-    /// `try_send`.
+    /// Sends a message at once, into a full channel in the place of the pending message of least
+    /// priority, which is returned. Among equals that is the one accepted last. Only a message of
+    /// greater priority displaces it. If no pending message has a lesser priority, the new message
+    /// comes back, as `Full`. `Closed` and `Memory` are as for `try_send`.
     ///
     /// It goes ahead of the tasks and threads that wait in `send` for room, also of those with a
-    /// greater priority. If the channel is full, it takes no memory and wakes nobody.
+    /// greater priority. If the channel is full, it wakes nobody.
     ///
     /// The first such send into a full channel reorders the pending messages, so that both the
-    /// greatest and the least are known. The channel keeps this order. A displacement makes at most
-    /// 2 d + 1 comparisons of priorities, where d is the number of binary digits of the number of
-    /// pending messages. From then on sends of equal priorities cost as much as others.
+    /// greatest and the least are known. The channel keeps this order.
+    ///
+    /// Cost: as `try_send` if there is room. A displacement makes O(log n) comparisons, at most
+    /// 2 d + 1, where d is the number of binary digits of n, and takes no memory. The first such
+    /// send into a full channel makes at most n d more. From then on sends of equal priorities cost
+    /// as much as others.
     ///
     /// ```
     /// let (tx, rx) = bounded(&rt, rt.alloc(), 2)?;

@@ -77,9 +77,10 @@ impl<A: Allocator + Copy> Receives<A> {
 /// The messages of a channel as a stream, which ends for good when the channel is closed and empty.
 /// `Receiver::stream` makes it.
 ///
-/// A pending message is received at once, in one step under the lock and without memory. A wait
-/// takes memory for the task's waker, which is kept over all waits, and for an entry in the waiting
-/// list. If either is refused, the task asks to be polled again at once.
+/// If memory for waiting is refused, the task asks to be polled again at once.
+///
+/// Cost: as `try_recv` for a pending message. A wait takes memory for the task's waker, which is
+/// kept over all waits, and for an entry in the waiting list.
 #[must_use = "a stream does nothing until it is polled: `block_on`, or `for pair in &rx`"]
 pub struct RecvStream<'a, T, P: Ord, R: Wait + Clone, A: Allocator + Copy = Global> {
     receiver: &'a Receiver<T, P, R, A>,
@@ -132,6 +133,8 @@ impl<T, P: Ord, R: Wait + Clone, A: Allocator + Copy> Drop for RecvStream<'_, T,
 
 /// As `RecvStream`, with its own receiver, which is dropped with it: a task can own it.
 /// `Receiver::into_stream` makes it.
+///
+/// Cost: as a `RecvStream`.
 #[must_use = "a stream does nothing until it is polled: `block_on`, or `for pair in rx`"]
 pub struct IntoStream<T, P: Ord, R: Wait + Clone, A: Allocator + Copy = Global> {
     receiver: Receiver<T, P, R, A>,
@@ -187,6 +190,8 @@ impl<T, P: Ord, R: Wait + Clone, A: Allocator + Copy> Receiver<T, P, R, A> {
     /// The messages as a stream of the kit's `futures`, which ends when the channel is closed and
     /// empty.
     ///
+    /// Cost: none until it is polled (see `RecvStream`).
+    ///
     /// ```
     /// let (tx, rx) = unbounded(&rt, rt.alloc())?;
     /// let jobs = [("compile", 2), ("link", 1), ("test", 3)];
@@ -205,6 +210,8 @@ impl<T, P: Ord, R: Wait + Clone, A: Allocator + Copy> Receiver<T, P, R, A> {
     }
 
     /// As `stream`, for a task that outlives this receiver.
+    ///
+    /// Cost: none until it is polled (see `IntoStream`).
     ///
     /// ```
     /// let (tx, rx) = bounded(&rt, rt.alloc(), 1)?;

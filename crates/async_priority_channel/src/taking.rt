@@ -20,8 +20,10 @@ impl<S: Role, T, P: Ord, R: Wait + Clone, A: Allocator + Copy> End<S, T, P, R, A
     /// returned true. It is called under the channel's lock (see `End`), and dropped once the lock
     /// is released.
     ///
-    /// It takes no memory, and wakes the waiting senders. Beside the tests, the cost is at most
-    /// twice as many comparisons of priorities as the number of pending messages has binary digits.
+    /// It wakes the waiting senders.
+    ///
+    /// Cost: up to n tests under the lock, and O(log n) comparisons, at most twice as many as n has
+    /// binary digits. No memory.
     ///
     /// ```
     /// let (tx, rx) = unbounded(&rt, rt.alloc())?;
@@ -52,8 +54,10 @@ impl<S: Role, T, P: Ord, R: Wait + Clone, A: Allocator + Copy> End<S, T, P, R, A
     /// under the channel's lock (see `End`), and dropped once the lock is released. So is the given
     /// priority, if there is no such message.
     ///
-    /// It takes no memory, and wakes nobody. Beside the tests, the cost is at most twice as many
-    /// comparisons of priorities as the number of pending messages has binary digits.
+    /// It wakes nobody.
+    ///
+    /// Cost: up to n tests under the lock, and O(log n) comparisons, at most twice as many as n has
+    /// binary digits. No memory.
     ///
     /// ```
     /// let (tx, rx) = unbounded(&rt, rt.alloc())?;
@@ -73,12 +77,14 @@ impl<S: Role, T, P: Ord, R: Wait + Clone, A: Allocator + Copy> End<S, T, P, R, A
     {
         let mut held = self.handle.hold();
         let changed = held.core().change_priority(&test, priority);
-        held.unlock();
+        self.handle.unlock(held);
         changed.ok()
     }
 
     /// The number of pending messages for which the test returns true. The test is called as by
-    /// `retain`. No priorities are compared.
+    /// `retain`.
+    ///
+    /// Cost: n tests under the lock, and no comparison.
     ///
     /// ```
     /// let (tx, rx) = unbounded(&rt, rt.alloc())?;
@@ -93,6 +99,29 @@ impl<S: Role, T, P: Ord, R: Wait + Clone, A: Allocator + Copy> End<S, T, P, R, A
         self.handle.look().core().count_where(&test)
     }
 
+    /// Calls `step` on each pending message in turn, in no specified order, with what the call
+    /// before it returned, and the first time with `init`. Returns what the last call returned, or
+    /// `init` if nothing is pending. All messages stay pending.
+    ///
+    /// `step` is called under the channel's lock (see `End`), and dropped once the lock is
+    /// released.
+    ///
+    /// Cost: n calls of `step` under the lock, and no comparison.
+    ///
+    /// ```
+    /// let (tx, rx) = unbounded(&rt, rt.alloc())?;
+    /// tx.try_sendv([("Foo", 0), ("Bar", 2), ("Baz", 5)].into_iter().peekable())?;
+    /// let most = rx.fold_pending(0, |most: u64, _, priority| most.max(*priority));
+    /// assert_eq!(rt; most, 5);
+    /// ```
+    pub fn fold_pending<X, F: Fn(X, &T, &P) -> X>(&self, init: X, step: F) -> X
+    where
+        F: Drop,
+        requires { F.IsAlwaysCallable step }
+    {
+        self.handle.look().core().fold_pending(init, &step)
+    }
+
     /// Keeps the pending messages for which the test returns true. All others are returned, in no
     /// specified order, also from a closed channel. They are not received: what is kept is in the
     /// order as if they had never been sent.
@@ -100,10 +129,11 @@ impl<S: Role, T, P: Ord, R: Wait + Clone, A: Allocator + Copy> End<S, T, P, R, A
     /// The test is called once on each pending message, in no specified order, and under the
     /// channel's lock.
     ///
-    /// It first reserves memory for as many messages as are pending, also under the lock. If that
-    /// is refused, nothing has changed, and the test was not called. If a message is taken out, the
-    /// waiting senders are woken. Beside the tests, the cost for each kept message is at most as
-    /// many comparisons of priorities as the number of kept messages has binary digits.
+    /// The error is that memory was refused. Then nothing has changed, and the test was not called.
+    /// If a message is taken out, the waiting senders are woken.
+    ///
+    /// Cost: under the lock memory for n messages, n tests, and for each kept message at most as
+    /// many comparisons as the number of kept messages has binary digits.
     ///
     /// ```
     /// let (tx, rx) = unbounded(&rt, rt.alloc())?;
@@ -129,9 +159,45 @@ impl<S: Role, T, P: Ord, R: Wait + Clone, A: Allocator + Copy> End<S, T, P, R, A
 }
 
 impl<T, P: Ord, R: Wait + Clone, A: Allocator + Copy> Receiver<T, P, R, A> {
+    /// Receives the most urgent message for which the test returns true, and among equals the one
+    /// that was accepted first. If messages are pending, but none for which it does, it returns
+    /// `Ok(None)`. The errors are those of `try_recv`.
+    ///
+    /// The test is called once on each pending message, in no specified order, and under the
+    /// channel's lock (see `End`).
+    ///
+    /// Cost: n tests under the lock, and at most n comparisons beside those of `try_recv`. No
+    /// memory.
+    ///
+    /// ```
+    /// let (tx, rx) = unbounded(&rt, rt.alloc())?;
+    /// let jobs = [("compile", 2), ("link", 1), ("test", 3)];
+    /// tx.try_sendv(jobs.into_iter().peekable())?;
+    /// let short = rx.try_recv_where(|job, _| job.len() < 5);
+    /// assert_eq!(rt; short, Ok(Some(("test", 3))));
+    /// assert_eq!(rt; rx.try_recv_where(|job, _| *job == "deploy"), Ok(None));
+    /// assert_eq!(rt; rx.len(), 2);
+    /// ```
+    pub fn try_recv_where<F: Fn(&T, &P) -> bool>(
+        &self,
+        test: F,
+    ) -> Result<Option<(T, P)>, TryRecvError>
+    where
+        F: Drop,
+        requires { F.IsAlwaysCallable test }
+        ensures { IfOk result (λ taken. IfSome taken (λ pair. Tells F.Fn test pair true)) }
+    {
+        let mut held = self.handle.hold();
+        let (received, wakes) = held.core().try_recv_where(&test);
+        self.handle.release(held, wakes);
+        received
+    }
+
     /// Receives the message of greatest priority, if the test returns true for it. Otherwise it
     /// returns `Ok(None)`, and the message stays pending. The errors are those of `try_recv`. The
     /// test is called as by `take_where`, and on this message alone.
+    ///
+    /// Cost: one test under the lock, and as `try_recv`.
     ///
     /// ```
     /// let (tx, rx) = unbounded(&rt, rt.alloc())?;

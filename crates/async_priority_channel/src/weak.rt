@@ -40,6 +40,8 @@ impl<S: Role, T: Drop, P: Ord + Drop, R: Wait + Clone, A: Allocator + Copy> Weak
     /// Another sender, or receiver, of the channel. None if the channel is closed, or if a clone
     /// would be refused.
     ///
+    /// Cost: one hold of the lock.
+    ///
     /// ```
     /// let (tx, rx) = unbounded::<&str, u64, _, _>(&rt, rt.alloc())?;
     /// let weak = tx.downgrade()?;
@@ -54,7 +56,7 @@ impl<S: Role, T: Drop, P: Ord + Drop, R: Wait + Clone, A: Allocator + Copy> Weak
         // This comes last, so that a refusal above leaves the count unchanged.
         let mut held = self.handle.hold();
         let has_joined = !held.core().is_closed() && join(S::SIDE, held.core());
-        held.unlock();
+        self.handle.unlock(held);
         if !has_joined {
             return None;
         }
@@ -64,6 +66,16 @@ impl<S: Role, T: Drop, P: Ord + Drop, R: Wait + Clone, A: Allocator + Copy> Weak
 
 impl<S: Role, T, P: Ord, R: Wait + Clone, A: Allocator + Copy> Weak<S, T, P, R, A> {
     /// As `End::is_closed`.
+    ///
+    /// Cost: one hold of the lock.
+    ///
+    /// ```
+    /// let (tx, rx) = unbounded::<&str, u64, _, _>(&rt, rt.alloc())?;
+    /// let weak = rx.downgrade()?;
+    /// assert!(rt; !weak.is_closed());
+    /// drop(tx);
+    /// assert!(rt; weak.is_closed());
+    /// ```
     pub fn is_closed(&self) -> bool {
         self.handle.look().core().is_closed()
     }
@@ -72,6 +84,16 @@ impl<S: Role, T, P: Ord, R: Wait + Clone, A: Allocator + Copy> Weak<S, T, P, R, 
 impl<S: Role, T, P: Ord, R: Wait + Clone, A: Allocator + Copy> End<S, T, P, R, A> {
     /// A handle of the channel that is not counted as a sender or a receiver. It changes no count.
     /// It is refused if memory is refused.
+    ///
+    /// Cost: no lock.
+    ///
+    /// ```
+    /// let (tx, rx) = unbounded::<&str, u64, _, _>(&rt, rt.alloc())?;
+    /// let weak = tx.downgrade()?;
+    /// assert_eq!(rt; rx.sender_count(), 1);
+    /// drop(tx);
+    /// assert!(rt; rx.is_closed() && weak.upgrade().is_none());
+    /// ```
     pub fn downgrade(&self) -> Result<Weak<S, T, P, R, A>, AllocError>
         ensures { IfOk result (λ weak. SameChannel self.now weak) }
     {
@@ -82,6 +104,8 @@ impl<S: Role, T, P: Ord, R: Wait + Clone, A: Allocator + Copy> End<S, T, P, R, A
 }
 
 /// Another weak handle of the channel.
+///
+/// Cost: no lock.
 impl<S: Role, T: Drop, P: Ord + Drop, R: Wait + Clone, A: Allocator + Copy> Clone
     for Weak<S, T, P, R, A> {
     ghost use Rattle.async_priority_channel.specs.Handles.{SameChannel};

@@ -50,7 +50,7 @@ impl<T, P: Ord, R: Wait + Clone, A: Allocator + Copy> Handle<T, P, R, A> {
         };
         let mut held = self.hold();
         let listing = list_waiter(side, held.core(), ticket, waiter);
-        held.unlock();
+        self.unlock(held);
         match listing {
             Listing::Listed => Poll::Pending,
             Listing::Refused => Poll::Ready(Err(Ended::Memory(call))),
@@ -80,7 +80,7 @@ impl<T, P: Ord, R: Wait + Clone, A: Allocator + Copy> Handle<T, P, R, A> {
         if let Some(ticket) = ticket {
             let mut held = self.hold();
             held.core().give_up(ticket);
-            held.unlock();
+            self.unlock(held);
         }
     }
 }
@@ -90,6 +90,8 @@ impl<T, P: Ord, R: Wait + Clone, A: Allocator + Copy> Handle<T, P, R, A> {
 ///
 /// Once it has answered it is done. A poll of a done future is pending, and asks to be polled
 /// again; nothing else changes.
+///
+/// Cost: as a `Waiting`.
 #[must_use = "a future does nothing until it is polled: `block_on`, or a call in `_blocking`"]
 pub struct Calling<'a, S: Role, C: Copy, T, P: Ord, R: Wait + Clone, A: Allocator + Copy = Global> {
     end: &'a End<S, T, P, R, A>,
@@ -152,6 +154,8 @@ impl<S: Role, C: Copy, T, P: Ord, R: Wait + Clone, A: Allocator + Copy> Drop
 /// Waits for a place. `Sender::reserve` makes it.
 ///
 /// The error is `Closed`, or `Memory` if memory was refused.
+///
+/// Cost: as `try_reserve` for each try (see `Calling`).
 pub type Reserve<'a, T, P, R, A = Global> = Calling<'a, Sending, (), T, P, R, A>;
 
 impl<'a, T, P: Ord, R: Wait + Clone, A: Allocator + Copy> Future for Reserve<'a, T, P, R, A> {
@@ -192,6 +196,8 @@ impl<'a, T, P: Ord, R: Wait + Clone, A: Allocator + Copy> Future for Reserve<'a,
 /// Receives a message, and keeps its place held. `Receiver::lease` makes it.
 ///
 /// The error is `Closed` if no message can come any more, or `Memory` if memory was refused.
+///
+/// Cost: as `try_lease` for each try (see `Calling`).
 pub type LeaseNext<'a, T, P, R, A = Global> = Calling<'a, Receiving, ReceiveHeld, T, P, R, A>;
 
 impl<'a, T: Drop, P: Ord + Drop, R: Wait + Clone, A: Allocator + Copy> Future

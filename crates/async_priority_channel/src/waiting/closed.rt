@@ -15,6 +15,9 @@ use std::sync::Wait;
 ///
 /// The error is that memory for waiting was refused. If it is polled again after its answer, it
 /// does as a `Recv` (see `Waiting`).
+///
+/// Cost: no comparison. A poll that has to wait takes memory for its waiter, which is kept, and for
+/// its entry in the waiting list.
 #[must_use = "a future does nothing until it is polled: `block_on`, or `closed_blocking`"]
 pub struct Closed<'a, S: Role, T, P: Ord, R: Wait + Clone, A: Allocator + Copy = Global> {
     end: &'a End<S, T, P, R, A>,

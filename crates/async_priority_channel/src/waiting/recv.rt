@@ -17,6 +17,8 @@ use std::sync::Wait;
 /// Receives one message once there is one. `Receiver::recv` makes it.
 ///
 /// The error is `Closed` if no message can come any more, or `Memory` if memory was refused.
+///
+/// Cost: as `try_recv` for each try (see `Waiting`).
 pub type Recv<'a, T, P, R, A = Global> = Waiting<'a, Receiving, (), One, T, P, R, A>;
 
 impl<T, P: Ord, R: Wait + Clone, A: Allocator + Copy> Future for Recv<'_, T, P, R, A> {

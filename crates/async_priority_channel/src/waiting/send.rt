@@ -18,6 +18,8 @@ use std::sync::Wait;
 /// Sends one message once there is room. `Sender::send` makes it.
 ///
 /// The error is `Closed`, or `Memory` if memory was refused, and gives the message back.
+///
+/// Cost: as `try_send` for each try (see `Waiting`).
 pub type Send<'a, T, P, R, A = Global> = Waiting<'a, Sending, (T, P), One, T, P, R, A>;
 
 impl<T: Drop, P: Ord + Drop, R: Wait + Clone, A: Allocator + Copy> Future for Send<'_, T, P, R, A> {

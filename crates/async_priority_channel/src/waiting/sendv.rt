@@ -23,6 +23,8 @@ use std::sync::Wait;
 /// messages: a `Peekable`.
 ///
 /// The error is `Closed`, or `Memory` if memory was refused, and gives back what was not sent.
+///
+/// Cost: as `try_sendv` for each try (see `Waiting`).
 pub type Sendv<'a, T, P, M, R, A = Global> = Waiting<'a, Sending, M, Many, T, P, R, A>;
 
 impl<

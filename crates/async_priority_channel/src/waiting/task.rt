@@ -21,6 +21,10 @@ use std::sync::Wait;
 ///
 /// If it is polled again after its answer, it is pending, changes nothing, and asks to be polled
 /// once more. So it should not be polled any more.
+///
+/// Cost: a poll makes one try, and a second one if it has to wait. It compares O(log w) tickets,
+/// where w waiters are listed. A poll that waits takes memory for its waiter, which is kept, and
+/// for its entry in the waiting list.
 #[must_use = "a future does nothing until it is polled: `block_on`, or a call that ends in `_blocking`"]
 pub struct Waiting<'a, S: Role, K, N, T, P: Ord, R: Wait + Clone, A: Allocator + Copy = Global> {
     pub(crate) end: &'a End<S, T, P, R, A>,
@@ -75,7 +79,7 @@ impl<K: Drop, N, A: Allocator + Copy> Task<K, N, A> {
     {
         let mut held = handle.hold();
         let unsent = self.state.give_up_on(held.core());
-        held.unlock();
+        handle.unlock(held);
         unsent
     }
 
