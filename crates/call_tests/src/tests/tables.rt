@@ -12,10 +12,12 @@ use std::fmt::Debug;
 use std::sync::Wait;
 use std::time::Duration;
 
+mod counts;
 mod effects;
 mod held;
 mod memory;
 mod mirror;
+mod sleepers;
 
 // So many messages from the first on, which have their numbers as priorities, and so many received.
 // The message 2 is chosen, and no call has time to wait.

@@ -5,7 +5,9 @@ use std::time::{Clock, Duration};
 
 mod at_once;
 mod clocks;
+mod conditions;
 mod either;
+mod gone;
 mod halts;
 mod limits;
 mod places;
@@ -15,7 +17,7 @@ mod refusals;
 mod soak;
 mod steps;
 mod waits;
-mod watch;
+pub mod watch;
 
 /// What a test with threads asks of its runtime.
 pub trait Threaded: Host + Threads + Copy + Send + Sync + 'static {}
@@ -28,7 +30,7 @@ fn let_others_wait<R: Clock>(rt: &R) {
 }
 
 /// Waits until another thread has made it so. A watch has to stand beside it.
-fn wait_until<R: Clock, F: Fn() -> bool>(rt: &R, is_so: F)
+pub fn wait_until<R: Clock, F: Fn() -> bool>(rt: &R, is_so: F)
     requires { F.IsAlwaysCallable is_so }
 {
     for _ in 0..u64::MAX {

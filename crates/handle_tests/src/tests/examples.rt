@@ -4,7 +4,7 @@
 //! `tools/examples` compares the tests with the doc comments. This file has what the examples name.
 use super::{expect_equal, wait_for};
 use async_priority_channel::{
-    Ends, RecvError, RecvFault, RecvTimeoutError, SendTimeoutError, Sender, TryRecvError,
+    Due, Ends, RecvError, RecvFault, RecvTimeoutError, SendTimeoutError, Sender, TryRecvError,
     TrySendError, bounded, bounded_reserved, unbounded,
 };
 use futures::executor::block_on;

@@ -5,7 +5,7 @@ use super::calls::Side::*;
 use super::calls::Way::*;
 
 /// Those of a sender come first, and those that may close the channel last.
-pub const ALL: [Call; 80] = [
+pub const ALL: [Call; 87] = [
     Send(Try),
     Send(Poll),
     Send(Future),
@@ -41,6 +41,13 @@ pub const ALL: [Call; 80] = [
     RecvMany(Timeout),
     RecvMany(Deadline),
     RecvIf,
+    RecvWhere(Try),
+    RecvWhere(Blocking),
+    RecvWhere(Timeout),
+    RecvWhere(Deadline),
+    RecvWhen(Blocking),
+    RecvWhen(Timeout),
+    RecvWhen(Deadline),
     TryIter,
     Iter,
     IntoIter,

@@ -64,6 +64,10 @@ pub enum Call {
     Retain(Side),
     ChangePriority(Side),
     RecvIf,
+    /// The most urgent message that is for it, also by a wait.
+    RecvWhere(Way),
+    /// The first message, once it is due.
+    RecvWhen(Way),
     PeekWith,
     PeekPriority,
     /// A wait for the close.
@@ -105,6 +109,8 @@ impl Call {
             | Call::Reserve(way)
             | Call::Recv(way)
             | Call::RecvMany(way)
+            | Call::RecvWhere(way)
+            | Call::RecvWhen(way)
             | Call::Stream(way)
             | Call::IntoStream(way)
             | Call::Lease(way)
@@ -122,6 +128,11 @@ impl Call {
             Way::Timeout | Way::Deadline => input.limit > Duration::ZERO,
         }
     }
+}
+
+/// Whether it waits for a message that meets a condition, and not for the first that comes.
+pub fn is_choosy(call: Call) -> bool {
+    matches!(call, Call::RecvWhere(_) | Call::RecvWhen(_))
 }
 
 /// Whether it waits for the close, and not for room or for a message.
@@ -177,7 +188,8 @@ pub struct Input {
     /// The message that `take_where` takes. `retain` lets go what leaves the same rest by 8,
     /// `try_recv_if` receives what leaves the same rest by 2, and `change_priority` gives the
     /// priority of the first pair that is sent to the first message of this kind. That is also the
-    /// priority of what is put back.
+    /// priority of what is put back. A receive that waits for a message with a condition waits for
+    /// one that leaves the same rest by 2.
     pub chosen: u64,
 }
 
@@ -189,5 +201,10 @@ impl Input {
 
     pub fn pair(&self) -> Pair {
         self.one().next().unwrap_or((0, 0))
+    }
+
+    /// Whether the message leaves the same rest by 2 as the chosen one.
+    pub fn is_kind_of(&self, msg: u64) -> bool {
+        msg % 2 == self.chosen % 2
     }
 }

@@ -1,6 +1,6 @@
 //! The calls that both kinds of handles have.
 use super::calls::{Call, Input, Way};
-use super::reply::{Looks, Outcome, Reply};
+use super::reply::{Looks, Outcome, Reply, weighed};
 use super::send::deadline_of;
 use crate::tests::Host;
 use async_priority_channel::{End, Role};
@@ -33,7 +33,7 @@ pub fn make_by_either<S: Role, R: Host, A: Allocator + Copy>(
         // The reply has the old one.
         Call::ChangePriority(_) => {
             let (_, priority) = input.pair();
-            let was = end.change_priority(|msg, _| *msg % 2 == input.chosen % 2, priority);
+            let was = end.change_priority(|msg, _| input.is_kind_of(*msg), priority);
             return Reply::found(rt, was.map(|was| (0, was)), Outcome::Empty);
         }
         Call::Closed(_, way) => wait_closed(rt, end, way, input),
@@ -47,6 +47,7 @@ pub fn make_by_either<S: Role, R: Host, A: Allocator + Copy>(
             sender_count: end.sender_count(),
             receiver_count: end.receiver_count(),
             odd: end.count_where(|msg, _| *msg % 2 == 1),
+            sum: end.fold_pending(0, |sum, msg, priority| weighed(sum, *msg, *priority)),
             is_of_itself: end.same_channel(end),
         }),
         Call::Close(_) => Outcome::Was(end.close()),

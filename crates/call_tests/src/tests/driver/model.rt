@@ -1,6 +1,6 @@
 //! A plain channel: the pending pairs in the order of their acceptance.
 use super::calls::{Call, Input, Pair, Pairs, Side, Way};
-use super::reply::{Looks, Outcome, Reply};
+use super::reply::{Looks, Outcome, Reply, weighed};
 use crate::tests::Host;
 use std::mem;
 
@@ -42,6 +42,8 @@ impl Model {
     pub fn waits(&self, call: Call, input: Input) -> bool {
         let is_ended = match call {
             Call::Closed(..) | Call::Send(_) | Call::Sendv(_) | Call::Reserve(_) => self.is_closed,
+            // What is pending may be for it later.
+            Call::RecvWhere(_) | Call::RecvWhen(_) => self.is_over() && self.pending.is_empty(),
             _receive => self.is_over(),
         };
         if is_ended || !call.may_wait(input) {
@@ -53,6 +55,7 @@ impl Model {
             Call::Sendv(_) => self.room() < input.pairs.count.max(1),
             Call::Iter | Call::IntoIter | Call::Leases => self.pending.len() < input.most,
             Call::RecvMany(_) => self.pending.is_empty() && input.most > 0,
+            Call::RecvWhere(_) | Call::RecvWhen(_) => self.find_for(call, input).is_none(),
             _receive => self.pending.is_empty(),
         }
     }
@@ -77,7 +80,10 @@ impl Model {
             Call::TakeWhere(_) => self.take_where(rt, input.chosen),
             Call::Retain(_) => self.retain(rt, input.chosen),
             Call::ChangePriority(_) => self.change_priority(rt, input),
-            Call::RecvIf => self.receive_if(rt, input.chosen),
+            Call::RecvIf => self.receive_chosen(rt, Way::Try, call, input),
+            Call::RecvWhere(way) | Call::RecvWhen(way) => {
+                self.receive_chosen(rt, way, call, input)
+            }
             Call::PeekWith => {
                 let seen = self.find(true).map(|(_, pair)| pair);
                 Reply::found(rt, seen, Outcome::Empty)
@@ -198,6 +204,10 @@ impl Model {
             sender_count: self.senders,
             receiver_count: self.receivers,
             odd: self.pending.iter().filter(|pair| pair.0 % 2 == 1).count() as u64,
+            sum: self
+                .pending
+                .iter()
+                .fold(0, |sum, pair| weighed(sum, pair.0, pair.1)),
             is_of_itself: true,
         }
     }
@@ -275,11 +285,25 @@ impl Model {
         reply
     }
 
-    fn receive_if(&mut self, rt: &impl Host, chosen: u64) -> Reply {
-        match self.find(true) {
-            Some((_, (msg, _))) if msg % 2 != chosen % 2 => Reply::new(rt, Outcome::Was(false)),
-            _ => self.receive_one(rt, Way::Try, Outcome::Closed),
+    // Only what is for the call. It waits on where that is nothing of what is pending.
+    fn receive_chosen(&mut self, rt: &impl Host, way: Way, call: Call, input: Input) -> Reply {
+        match self.find_for(call, input) {
+            Some(place) => Reply::found(rt, self.take(place), Outcome::Empty),
+            None if self.pending.is_empty() => self.receive_one(rt, way, Outcome::Closed),
+            None => Reply::new(rt, blocked(way, Outcome::Was(false))),
         }
+    }
+
+    // Where the message is that is for this call: the first of all if it is of the chosen kind, or
+    // the first of that kind.
+    fn find_for(&self, call: Call, input: Input) -> Option<usize> {
+        let is_for = |pair: &Pair| input.is_kind_of(pair.0);
+        let found = match call {
+            Call::RecvWhere(_) => self.find_among(true, is_for),
+            _ => self.find(true),
+        };
+        let (place, pair) = found?;
+        is_for(&pair).then_some(place)
     }
 
     fn take_where(&mut self, rt: &impl Host, chosen: u64) -> Reply {
@@ -320,7 +344,7 @@ impl Model {
     fn change_priority(&mut self, rt: &impl Host, input: Input) -> Reply {
         let (_, priority) = input.pair();
         for pair in self.pending.iter_mut() {
-            if pair.0 % 2 == input.chosen % 2 {
+            if input.is_kind_of(pair.0) {
                 let was = mem::replace(&mut pair.1, priority);
                 return Reply::found(rt, Some((0, was)), Outcome::Empty);
             }
@@ -346,8 +370,22 @@ impl Model {
 
     // The first pair of greatest priority, or the last one of least.
     fn find(&self, is_greatest: bool) -> Option<(usize, Pair)> {
+        self.find_among(is_greatest, |_| true)
+    }
+
+    // The same of those that pass.
+    fn find_among<F: Fn(&Pair) -> bool + Drop>(
+        &self,
+        is_greatest: bool,
+        passes: F,
+    ) -> Option<(usize, Pair)>
+        requires { F.IsAlwaysCallable passes }
+    {
         let mut found: Option<(usize, Pair)> = None;
         for (place, pair) in self.pending.iter().enumerate() {
+            if !passes(pair) {
+                continue;
+            }
             let (priority, is_first) = (pair.1, found.is_none());
             let (_, (_, best)) = found.unwrap_or((0, (0, 0)));
             let is_better = if is_greatest {

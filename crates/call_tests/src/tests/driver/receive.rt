@@ -6,7 +6,7 @@ use super::either::{answer_of, make_by_either};
 use super::reply::{Outcome, Refusal, Reply};
 use super::send::{deadline_of, done_if};
 use crate::tests::Host;
-use async_priority_channel::{Lease, Receiver};
+use async_priority_channel::{Due, Lease, Receiver, TryRecvError};
 use futures::StreamExt;
 use std::alloc::Allocator;
 use std::iter::once;
@@ -51,11 +51,9 @@ pub fn receive<R: Host, A: Allocator + Copy, B: Allocator + Copy>(
         Call::Leases => finish_all(rt, rx, most),
         Call::PutBack => put_back(rt, rx, Some(input.pair().1)),
         Call::DropLease => put_back(rt, rx, None),
-        Call::RecvIf => match rx.try_recv_if(|msg, _| *msg % 2 == input.chosen % 2) {
-            Ok(None) => Reply::new(rt, Outcome::Was(false)),
-            Ok(found) => Reply::found(rt, found, Outcome::Empty),
-            Err(refusal) => tell_one(rt, Some(Err(refusal))),
-        },
+        Call::RecvIf => tell_if(rt, rx.try_recv_if(|msg, _| input.is_kind_of(*msg))),
+        Call::RecvWhere(way) => receive_where(rt, rx, way, input),
+        Call::RecvWhen(way) => receive_when(rt, rx, way, input),
         Call::PeekWith => {
             let seen = rx.peek_with(|msg, priority| (*msg, *priority));
             Reply::found(rt, seen, Outcome::Empty)
@@ -120,6 +118,49 @@ fn put_back<R: Host, A: Allocator + Copy>(
     Reply::found(rt, Some(pair), Outcome::Empty)
 }
 
+fn receive_where<R: Host, A: Allocator + Copy>(
+    rt: &R,
+    rx: &Receiver<u64, u64, R, A>,
+    way: Way,
+    input: Input,
+) -> Reply {
+    let test = |msg: &u64, _: &u64| input.is_kind_of(*msg);
+    match way {
+        Way::Try => tell_if(rt, rx.try_recv_where(test)),
+        Way::Blocking => tell_one(rt, Some(rx.recv_where_blocking(test))),
+        Way::Timeout => tell_one(rt, Some(rx.recv_where_timeout(test, input.limit))),
+        Way::Deadline => {
+            let deadline = deadline_of(rt, input);
+            tell_one(rt, Some(rx.recv_where_deadline(test, deadline)))
+        }
+        Way::Poll | Way::Future => Reply::new(rt, Outcome::Impossible),
+    }
+}
+
+fn receive_when<R: Host, A: Allocator + Copy>(
+    rt: &R,
+    rx: &Receiver<u64, u64, R, A>,
+    way: Way,
+    input: Input,
+) -> Reply {
+    let when = |msg: &u64, _: &u64| {
+        if input.is_kind_of(*msg) {
+            Due::Now
+        } else {
+            Due::Never
+        }
+    };
+    match way {
+        Way::Blocking => tell_one(rt, Some(rx.recv_when_blocking(when))),
+        Way::Timeout => tell_one(rt, Some(rx.recv_when_timeout(when, input.limit))),
+        Way::Deadline => {
+            let deadline = deadline_of(rt, input);
+            tell_one(rt, Some(rx.recv_when_deadline(when, deadline)))
+        }
+        Way::Try | Way::Poll | Way::Future => Reply::new(rt, Outcome::Impossible),
+    }
+}
+
 fn receive_many<R: Host, A: Allocator + Copy, B: Allocator + Copy>(
     rt: &R,
     alloc: B,
@@ -159,6 +200,15 @@ pub fn tell_one<E: Refusal<()> + Drop>(rt: &impl Host, received: Option<Result<P
         None => Reply::new(rt, Outcome::Waits),
         Some(Ok(pair)) => Reply::found(rt, Some(pair), Outcome::Done),
         Some(Err(refusal)) => Reply::new(rt, refusal.tell().0),
+    }
+}
+
+// Also that what is pending is not for it.
+fn tell_if(rt: &impl Host, received: Result<Option<Pair>, TryRecvError>) -> Reply {
+    match received {
+        Ok(None) => Reply::new(rt, Outcome::Was(false)),
+        Ok(found) => Reply::found(rt, found, Outcome::Empty),
+        Err(refusal) => Reply::new(rt, refusal.tell().0),
     }
 }
 

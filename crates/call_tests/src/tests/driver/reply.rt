@@ -21,8 +21,15 @@ pub struct Looks {
     pub receiver_count: usize,
     /// How many messages are odd numbers.
     pub odd: u64,
+    /// The sum of all messages, each as often as its priority says and once more.
+    pub sum: u64,
     /// Whether the handle is one of the same channel as itself.
     pub is_of_itself: bool,
+}
+
+/// The sum with one more pair, in whatever order they come.
+pub fn weighed(sum: u64, msg: u64, priority: u64) -> u64 {
+    sum.wrapping_add(msg.wrapping_mul(priority.wrapping_add(1)))
 }
 
 #[derive(Clone, Copy, Debug, PartialEq)]

@@ -20,8 +20,21 @@ pub fn waits(call: Call) -> bool {
     !matches!(call.way(), Way::Try | Way::Poll)
 }
 
+/// How often a wait asks for memory: for a waiter, and for an entry in the list of those that wait.
+/// The first wait with a condition also asks for these lists. None where that is not told: a batch
+/// asks for its memory too, a loop never fails, and a task asks for more.
+pub fn requests_of(call: Call) -> Option<u64> {
+    match call {
+        _ if !waits(call) || call.way() == Way::Future => None,
+        Call::Send(_) | Call::Sendv(_) | Call::Reserve(_) => Some(2),
+        Call::Recv(_) | Call::Lease(_) | Call::Closed(..) => Some(2),
+        Call::RecvWhere(_) | Call::RecvWhen(_) => Some(3),
+        _ => None,
+    }
+}
+
 /// The calls that wait for a limited time.
-pub const TIMED: [Call; 16] = [
+pub const TIMED: [Call; 20] = [
     Call::Send(Way::Timeout),
     Call::Send(Way::Deadline),
     Call::Sendv(Way::Timeout),
@@ -34,6 +47,10 @@ pub const TIMED: [Call; 16] = [
     Call::Lease(Way::Deadline),
     Call::RecvMany(Way::Timeout),
     Call::RecvMany(Way::Deadline),
+    Call::RecvWhere(Way::Timeout),
+    Call::RecvWhere(Way::Deadline),
+    Call::RecvWhen(Way::Timeout),
+    Call::RecvWhen(Way::Deadline),
     Call::Closed(Side::Sender, Way::Timeout),
     Call::Closed(Side::Sender, Way::Deadline),
     Call::Closed(Side::Receiver, Way::Timeout),
@@ -91,7 +108,7 @@ pub fn long() -> Duration {
 }
 
 // A sender sends the 7, or the 7 and the 8, each with itself as its priority. A batch or a loop
-// receives one.
+// receives one, and a condition is that the number is odd.
 fn input(limit: Duration) -> Input {
     Input {
         pairs: Pairs::new(7, 2, u64::MAX),

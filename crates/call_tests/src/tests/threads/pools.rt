@@ -134,7 +134,7 @@ fn take_over<R: Threaded>(rt: &R, call: Call, called: Option<Call>) {
         pairs: Pairs::new(0, 0, 1),
         most: 1,
         limit: long(),
-        chosen: 0,
+        chosen: 7,
     };
     let round = ("a message of one that died", call, called);
     let is_in_hand = AtomicBool::new(false);

@@ -1,5 +1,5 @@
 //! Memory that is refused to waits, and how much of it they ask for.
-use super::either::{Either, SIDES, block, done, long, refused, waits};
+use super::either::{Either, SIDES, block, done, long, refused, requests_of, waits};
 use super::places::{PLACES, Place, at, before};
 use super::watch::{beside, within};
 use super::{Threaded, let_others_wait, wait_until};
@@ -11,22 +11,6 @@ use async_priority_channel::{bounded, bounded_reserved};
 use refusing::Refusing;
 use std::thread;
 use std::time::{Duration, Instant};
-
-// A wait asks for a waiter, and for an entry in the list of those that wait. A batch asks for its
-// memory too, a loop never fails, and a task asks for more.
-fn asks_for_two(call: Call) -> bool {
-    waits(call)
-        && call.way() != Way::Future
-        && matches!(
-            call,
-            Call::Send(_)
-                | Call::Sendv(_)
-                | Call::Reserve(_)
-                | Call::Recv(_)
-                | Call::Lease(_)
-                | Call::Closed(..)
-        )
-}
 
 // A wait is refused its nth request, where none waits before it or where one does.
 fn refuse_a_wait<R: Threaded>(rt: &R, call: Call, n: u64, place: Place) {
@@ -53,9 +37,10 @@ fn refuse_a_wait<R: Threaded>(rt: &R, call: Call, n: u64, place: Place) {
 fn each_request_of_a_wait_may_be_refused(rt: HostRuntime) {
     for call in ALL {
         for place in PLACES {
-            if asks_for_two(call) && place.is_for(call) {
-                refuse_a_wait(&rt, call, 1, place);
-                refuse_a_wait(&rt, call, 2, place);
+            if place.is_for(call) {
+                for n in 1..=requests_of(call).unwrap_or(0) {
+                    refuse_a_wait(&rt, call, n, place);
+                }
             }
         }
     }

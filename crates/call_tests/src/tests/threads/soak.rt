@@ -7,7 +7,7 @@ use super::Threaded;
 use super::watch::within;
 use crate::tests::dice::Dice;
 use crate::tests::driver::all::ALL;
-use crate::tests::driver::calls::{Call, Input, Pair, Pairs, Side, Way};
+use crate::tests::driver::calls::{Call, Input, Pair, Pairs, Side, Way, is_choosy};
 use crate::tests::driver::receive::receive;
 use crate::tests::driver::reply::{Outcome, Reply};
 use crate::tests::driver::send::send;
@@ -96,6 +96,8 @@ impl Round {
     fn draws(self, side: Side, call: Call) -> bool {
         let is_drawn = match call {
             Call::Closed(..) if self.only_waits => false,
+            // Nobody else may be there to take what is not for it.
+            _ if is_choosy(call) && call.way() == Way::Blocking => false,
             _ if self.only_waits => matches!(call.way(), Way::Blocking | Way::Future),
             Call::Closed(_, way) => matches!(way, Way::Poll | Way::Timeout | Way::Deadline),
             Call::ChangePriority(_) | Call::PutBack | Call::DropLease => self.changes,

@@ -66,6 +66,21 @@ fn example_of_sender_send_timeout(rt: HostRuntime) {
 }
 
 #[test]
+fn example_of_sender_send_deadline(rt: HostRuntime) {
+    let (tx, _rx) = bounded(&rt, rt.alloc(), 1).expect(&rt, "bounded");
+    let limit = Duration::from_millis(5);
+    let deadline = Instant::now(&rt)
+        .expect(&rt, "now")
+        .checked_add(limit)
+        .ok_or("too late")
+        .expect(&rt, "ok_or");
+    tx.send_deadline("Foo", 0, deadline)
+        .expect(&rt, "send_deadline");
+    let late = tx.send_deadline("Bar", 2, deadline);
+    expect_equal(&rt, late, Err(SendTimeoutError::Timeout(("Bar", 2))));
+}
+
+#[test]
 fn example_of_sender_sendv_blocking(rt: HostRuntime) {
     let (tx, rx) = bounded(&rt, rt.alloc(), 1).expect(&rt, "bounded");
     let jobs = [(3, 1), (4, 2)].into_iter().peekable();
@@ -86,6 +101,23 @@ fn example_of_sender_sendv_timeout(rt: HostRuntime) {
         expect_true(&rt, tx.try_sendv(error.into_inner()).is_ok());
     }
     expect_equal(&rt, rx.try_recv(), Ok(("link", 2)));
+}
+
+#[test]
+fn example_of_sender_sendv_deadline(rt: HostRuntime) {
+    let (tx, rx) = bounded(&rt, rt.alloc(), 1).expect(&rt, "bounded");
+    let limit = Duration::from_millis(5);
+    let deadline = Instant::now(&rt)
+        .expect(&rt, "now")
+        .checked_add(limit)
+        .ok_or("too late")
+        .expect(&rt, "ok_or");
+    let jobs = [("compile", 1), ("link", 2)].into_iter().peekable();
+    if let Err(error) = tx.sendv_deadline(jobs, deadline) {
+        expect_true(&rt, error.is_timeout());
+        expect_equal(&rt, error.into_inner().next(), Some(("link", 2)));
+    }
+    expect_equal(&rt, rx.try_recv(), Ok(("compile", 1)));
 }
 
 fn numbers<R: Wait + Clone>(rt: &R, alloc: Global) -> Result<Ends<u64, u64, R>, AllocError> {
@@ -178,6 +210,20 @@ fn example_of_end_closed_timeout(rt: HostRuntime) {
 }
 
 #[test]
+fn example_of_end_closed_deadline(rt: HostRuntime) {
+    let (tx, rx) = unbounded::<&str, u64, _, _>(&rt, rt.alloc()).expect(&rt, "unbounded");
+    let limit = Duration::from_millis(5);
+    let deadline = Instant::now(&rt)
+        .expect(&rt, "now")
+        .checked_add(limit)
+        .ok_or("too late")
+        .expect(&rt, "ok_or");
+    expect_equal(&rt, tx.closed_deadline(deadline), Ok(false));
+    drop(rx);
+    expect_equal(&rt, tx.closed_deadline(deadline), Ok(true));
+}
+
+#[test]
 fn example_of_end(rt: HostRuntime) {
     let (tx, rx) = bounded(&rt, rt.alloc(), 2).expect(&rt, "bounded");
     tx.try_send("Foo", 0).expect(&rt, "try_send");
@@ -212,6 +258,15 @@ fn example_of_end_close_when_done(rt: HostRuntime) {
     expect_true(&rt, !tx.is_closed());
     rx.try_lease().expect(&rt, "try_lease").finish();
     expect_true(&rt, tx.is_closed());
+}
+
+#[test]
+fn example_of_end_held(rt: HostRuntime) {
+    let (tx, rx) = bounded(&rt, rt.alloc(), 2).expect(&rt, "bounded");
+    let permit = tx.try_reserve().expect(&rt, "try_reserve");
+    expect_equal(&rt, (rx.held(), rx.len()), (1, 0));
+    permit.send("Foo", 0);
+    expect_equal(&rt, (rx.held(), rx.len()), (0, 1));
 }
 
 #[test]
@@ -273,7 +328,7 @@ fn example_of_lease(rt: HostRuntime) {
     let (tx, rx) = bounded(&rt, rt.alloc(), 1).expect(&rt, "bounded");
     tx.try_send("compile", 2).expect(&rt, "try_send");
     let lease = rx.try_lease().expect(&rt, "try_lease");
-    expect_equal(&rt, *lease.message(), "compile");
+    expect_equal(&rt, (*lease.message(), *lease.priority()), ("compile", 2));
     expect_true(&rt, rx.is_empty() && tx.is_full());
     drop(lease);
     expect_equal(
@@ -282,6 +337,17 @@ fn example_of_lease(rt: HostRuntime) {
         ("compile", 2),
     );
     expect_true(&rt, rx.is_empty() && !tx.is_full());
+}
+
+#[test]
+fn example_of_lease_message_mut(rt: HostRuntime) {
+    let (tx, rx) = unbounded(&rt, rt.alloc()).expect(&rt, "unbounded");
+    tx.try_send(3, 0).expect(&rt, "try_send");
+    let mut lease = rx.try_lease().expect(&rt, "try_lease");
+    let job = lease.message_mut();
+    *job = 4;
+    drop(lease);
+    expect_equal(&rt, rx.try_recv(), Ok((4, 0)));
 }
 
 #[test]
@@ -302,6 +368,18 @@ fn example_of_lease_into_parts(rt: HostRuntime) {
     expect_equal(&rt, (job, priority), ("compile", 2));
     permit.send("link", 1);
     expect_equal(&rt, rx.try_recv(), Ok(("link", 1)));
+}
+
+#[test]
+fn example_of_receiver_try_lease(rt: HostRuntime) {
+    let (tx, rx) = bounded(&rt, rt.alloc(), 1).expect(&rt, "bounded");
+    expect_true(&rt, rx.try_lease().is_err_and(|error| error.is_empty()));
+    tx.try_send("Foo", 0).expect(&rt, "try_send");
+    expect_equal(
+        &rt,
+        rx.try_lease().expect(&rt, "try_lease").finish(),
+        ("Foo", 0),
+    );
 }
 
 #[test]
@@ -331,6 +409,30 @@ fn example_of_receiver_lease_timeout(rt: HostRuntime) {
         &rt,
         rx.lease_timeout(limit)
             .expect(&rt, "lease_timeout")
+            .finish(),
+        ("Foo", 0),
+    );
+}
+
+#[test]
+fn example_of_receiver_lease_deadline(rt: HostRuntime) {
+    let (tx, rx) = bounded(&rt, rt.alloc(), 1).expect(&rt, "bounded");
+    let limit = Duration::from_millis(5);
+    let deadline = Instant::now(&rt)
+        .expect(&rt, "now")
+        .checked_add(limit)
+        .ok_or("too late")
+        .expect(&rt, "ok_or");
+    expect_true(
+        &rt,
+        rx.lease_deadline(deadline)
+            .is_err_and(|error| error.is_timeout()),
+    );
+    tx.try_send("Foo", 0).expect(&rt, "try_send");
+    expect_equal(
+        &rt,
+        rx.lease_deadline(deadline)
+            .expect(&rt, "lease_deadline")
             .finish(),
         ("Foo", 0),
     );
@@ -445,6 +547,19 @@ fn example_of_time_limits(rt: HostRuntime) {
 }
 
 #[test]
+fn example_of_conditions(rt: HostRuntime) {
+    let (tx, rx) = unbounded(&rt, rt.alloc()).expect(&rt, "unbounded");
+    let free = 4;
+    for (job, memory, urgency) in [("compile", 8, 2), ("test", 1, 1)] {
+        tx.try_send((job, memory), urgency).expect(&rt, "try_send");
+    }
+    let (job, _) = rx
+        .recv_where_blocking(|(_, memory), _| *memory <= free)
+        .expect(&rt, "recv_where_blocking");
+    expect_equal(&rt, job, ("test", 1));
+}
+
+#[test]
 fn example_of_iterating(rt: HostRuntime) {
     let mut done = Vec::new(rt.alloc());
     let (tx, rx) = bounded(&rt, rt.alloc(), 1).expect(&rt, "bounded");
@@ -547,6 +662,22 @@ fn example_of_receiver_recv_many_timeout(rt: HostRuntime) {
 }
 
 #[test]
+fn example_of_receiver_recv_many_deadline(rt: HostRuntime) {
+    let (tx, rx) = bounded(&rt, rt.alloc(), 10).expect(&rt, "bounded");
+    let limit = Duration::from_millis(5);
+    let deadline = Instant::now(&rt)
+        .expect(&rt, "now")
+        .checked_add(limit)
+        .ok_or("too late")
+        .expect(&rt, "ok_or");
+    let mut batch = Vec::new(rt.alloc());
+    tx.try_send("Foo", 0).expect(&rt, "try_send");
+    expect_equal(&rt, rx.recv_many_deadline(&mut batch, 8, deadline), Ok(1));
+    let late = rx.recv_many_deadline(&mut batch, 8, deadline);
+    expect_equal(&rt, late, Err(RecvTimeoutError::Timeout));
+}
+
+#[test]
 fn example_of_receiver_recv_many(rt: HostRuntime) {
     let (tx, rx) = unbounded(&rt, rt.alloc()).expect(&rt, "unbounded");
     tx.try_send("Foo", 0).expect(&rt, "try_send");
@@ -626,6 +757,23 @@ fn example_of_sender_reserve_timeout(rt: HostRuntime) {
 }
 
 #[test]
+fn example_of_sender_reserve_deadline(rt: HostRuntime) {
+    let (tx, _rx) = bounded::<&str, u64, _, _>(&rt, rt.alloc(), 1).expect(&rt, "bounded");
+    let limit = Duration::from_millis(5);
+    let deadline = Instant::now(&rt)
+        .expect(&rt, "now")
+        .checked_add(limit)
+        .ok_or("too late")
+        .expect(&rt, "ok_or");
+    let permit = tx
+        .reserve_deadline(deadline)
+        .expect(&rt, "reserve_deadline");
+    let refused = tx.reserve_deadline(deadline);
+    expect_true(&rt, refused.is_err_and(|error| error.is_timeout()));
+    drop(permit);
+}
+
+#[test]
 fn example_of_sender_reserve(rt: HostRuntime) {
     let (tx, rx) = bounded(&rt, rt.alloc(), 1).expect(&rt, "bounded");
     tx.try_send("Foo", 0).expect(&rt, "try_send");
@@ -663,6 +811,80 @@ fn example_of_receiver_try_recv(rt: HostRuntime) {
     drop(tx);
     expect_equal(&rt, rx.try_recv(), Ok(("Foo", 0)));
     expect_equal(&rt, rx.try_recv(), Err(TryRecvError::Closed));
+}
+
+#[test]
+fn example_of_receiver_recv_when_blocking(rt: HostRuntime) {
+    let (tx, rx) = unbounded(&rt, rt.alloc()).expect(&rt, "unbounded");
+    let now = Instant::now(&rt).expect(&rt, "now");
+    let soon = now
+        .checked_add(Duration::from_millis(5))
+        .ok_or("too late")
+        .expect(&rt, "ok_or");
+    tx.try_send("boil the water", Reverse(soon))
+        .expect(&rt, "try_send");
+    let (job, _) = rx
+        .recv_when_blocking(|_, due| Due::At(due.0))
+        .expect(&rt, "recv_when_blocking");
+    expect_equal(&rt, job, "boil the water");
+    expect_true(&rt, soon <= Instant::now(&rt).expect(&rt, "now"));
+}
+
+#[test]
+fn example_of_receiver_recv_when_timeout(rt: HostRuntime) {
+    let (tx, rx) = unbounded(&rt, rt.alloc()).expect(&rt, "unbounded");
+    tx.try_send("paused", 1).expect(&rt, "try_send");
+    let limit = Duration::from_millis(5);
+    let late = rx.recv_when_timeout(|_, _| Due::Never, limit);
+    expect_equal(&rt, late, Err(RecvTimeoutError::Timeout));
+    expect_equal(
+        &rt,
+        rx.recv_when_timeout(|_, _| Due::Now, limit),
+        Ok(("paused", 1)),
+    );
+}
+
+#[test]
+fn example_of_receiver_recv_when_deadline(rt: HostRuntime) {
+    let (tx, rx) = unbounded(&rt, rt.alloc()).expect(&rt, "unbounded");
+    tx.try_send("Foo", 0).expect(&rt, "try_send");
+    let now = Instant::now(&rt).expect(&rt, "now");
+    expect_equal(
+        &rt,
+        rx.recv_when_deadline(|_, _| Due::At(now), now),
+        Ok(("Foo", 0)),
+    );
+}
+
+#[test]
+fn example_of_receiver_recv_where_blocking(rt: HostRuntime) {
+    let (tx, rx) = unbounded(&rt, rt.alloc()).expect(&rt, "unbounded");
+    tx.try_send("compile", 2).expect(&rt, "try_send");
+    tx.try_send("link", 1).expect(&rt, "try_send");
+    let job = rx.recv_where_blocking(|job, _| *job == "link");
+    expect_equal(&rt, job, Ok(("link", 1)));
+}
+
+#[test]
+fn example_of_receiver_recv_where_timeout(rt: HostRuntime) {
+    let (tx, rx) = unbounded(&rt, rt.alloc()).expect(&rt, "unbounded");
+    tx.try_send("compile", 2).expect(&rt, "try_send");
+    let limit = Duration::from_millis(5);
+    let late = rx.recv_where_timeout(|job, _| *job == "link", limit);
+    expect_equal(&rt, late, Err(RecvTimeoutError::Timeout));
+    expect_equal(&rt, rx.len(), 1);
+}
+
+#[test]
+fn example_of_receiver_recv_where_deadline(rt: HostRuntime) {
+    let (tx, rx) = unbounded(&rt, rt.alloc()).expect(&rt, "unbounded");
+    tx.try_send("Foo", 0).expect(&rt, "try_send");
+    let now = Instant::now(&rt).expect(&rt, "now");
+    expect_equal(
+        &rt,
+        rx.recv_where_deadline(|_, _| true, now),
+        Ok(("Foo", 0)),
+    );
 }
 
 #[test]
@@ -799,6 +1021,15 @@ fn example_of_end_count_where(rt: HostRuntime) {
 }
 
 #[test]
+fn example_of_end_fold_pending(rt: HostRuntime) {
+    let (tx, rx) = unbounded(&rt, rt.alloc()).expect(&rt, "unbounded");
+    tx.try_sendv([("Foo", 0), ("Bar", 2), ("Baz", 5)].into_iter().peekable())
+        .expect(&rt, "try_sendv");
+    let most = rx.fold_pending(0, |most: u64, _, priority| most.max(*priority));
+    expect_equal(&rt, most, 5);
+}
+
+#[test]
 fn example_of_end_retain(rt: HostRuntime) {
     let (tx, rx) = unbounded(&rt, rt.alloc()).expect(&rt, "unbounded");
     let jobs = [("compile", 2), ("link", 1), ("test", 3)];
@@ -808,6 +1039,18 @@ fn example_of_end_retain(rt: HostRuntime) {
     expect_equal(&rt, cancelled.as_slice(), [("link", 1)].as_slice());
     expect_equal(&rt, rx.try_recv(), Ok(("test", 3)));
     expect_equal(&rt, rx.len(), 1);
+}
+
+#[test]
+fn example_of_receiver_try_recv_where(rt: HostRuntime) {
+    let (tx, rx) = unbounded(&rt, rt.alloc()).expect(&rt, "unbounded");
+    let jobs = [("compile", 2), ("link", 1), ("test", 3)];
+    tx.try_sendv(jobs.into_iter().peekable())
+        .expect(&rt, "try_sendv");
+    let short = rx.try_recv_where(|job, _| job.len() < 5);
+    expect_equal(&rt, short, Ok(Some(("test", 3))));
+    expect_equal(&rt, rx.try_recv_where(|job, _| *job == "deploy"), Ok(None));
+    expect_equal(&rt, rx.len(), 2);
 }
 
 #[test]
@@ -828,6 +1071,35 @@ fn example_of_weak_upgrade(rt: HostRuntime) {
     expect_true(&rt, weak.upgrade().is_some());
     drop(tx);
     expect_true(&rt, weak.upgrade().is_none() && rx.is_closed());
+}
+
+#[test]
+fn example_of_weak_is_closed(rt: HostRuntime) {
+    let (tx, rx) = unbounded::<&str, u64, _, _>(&rt, rt.alloc()).expect(&rt, "unbounded");
+    let weak = rx.downgrade().expect(&rt, "downgrade");
+    expect_true(&rt, !weak.is_closed());
+    drop(tx);
+    expect_true(&rt, weak.is_closed());
+}
+
+#[test]
+fn example_of_end_downgrade(rt: HostRuntime) {
+    let (tx, rx) = unbounded::<&str, u64, _, _>(&rt, rt.alloc()).expect(&rt, "unbounded");
+    let weak = tx.downgrade().expect(&rt, "downgrade");
+    expect_equal(&rt, rx.sender_count(), 1);
+    drop(tx);
+    expect_true(&rt, rx.is_closed() && weak.upgrade().is_none());
+}
+
+#[test]
+fn example_of_due(rt: HostRuntime) {
+    let (tx, rx) = unbounded(&rt, rt.alloc()).expect(&rt, "unbounded");
+    tx.try_send("tea", Reverse(Instant::now(&rt).expect(&rt, "now")))
+        .expect(&rt, "try_send");
+    let (ready, _) = rx
+        .recv_when_blocking(|_, due| Due::At(due.0))
+        .expect(&rt, "recv_when_blocking");
+    expect_equal(&rt, ready, "tea");
 }
 
 #[test]

@@ -1,0 +1,98 @@
+//! What a thread does with a channel, step by step.
+use crate::tests::{Host, expect_true};
+use async_priority_channel::{Lease, Permit, Receiver, Sender};
+use std::alloc::Allocator;
+use std::sync::Wait;
+
+/// A step, with the number of a message, its priority, or both.
+#[derive(Clone, Copy, Debug)]
+pub enum Step {
+    Nothing,
+    Send(u64, u64),
+    Receive,
+    /// By `take_where`.
+    TakeOut(u64),
+    /// By `retain`.
+    Retain(u64),
+    Change(u64, u64),
+    /// The first message is leased, and then comes one of the next three.
+    Lease,
+    DropLease,
+    PutBack(u64),
+    Finish,
+    /// A place is reserved, and then comes one of the next two.
+    Reserve,
+    Fill(u64, u64),
+    Free,
+    Close,
+    CloseWhenDone,
+}
+
+/// The handles of a channel, and what is held of it.
+#[derive(Drop)]
+pub struct Hands<'a, R: Wait + Clone, A: Allocator + Copy> {
+    tx: &'a Sender<u64, u64, R, A>,
+    rx: &'a Receiver<u64, u64, R, A>,
+    lease: Option<Lease<'a, u64, u64, R, A>>,
+    permit: Option<Permit<'a, u64, u64, R, A>>,
+}
+
+impl<'a, R: Wait + Clone, A: Allocator + Copy> Hands<'a, R, A> {
+    pub fn new(tx: &'a Sender<u64, u64, R, A>, rx: &'a Receiver<u64, u64, R, A>) -> Self {
+        Hands {
+            tx,
+            rx,
+            lease: None,
+            permit: None,
+        }
+    }
+
+    /// Takes the step, which has to be possible.
+    pub fn take(&mut self, rt: &impl Host, step: Step) {
+        let could = match step {
+            Step::Nothing => true,
+            Step::Send(msg, priority) => self.tx.try_send(msg, priority).is_ok(),
+            Step::Receive => self.rx.try_recv().is_ok(),
+            Step::TakeOut(chosen) => self.tx.take_where(|msg, _| *msg == chosen).is_some(),
+            Step::Retain(chosen) => match self.rx.retain(|msg, _| *msg != chosen) {
+                Ok(taken) => taken.len() == 1,
+                Err(_) => false,
+            },
+            Step::Change(chosen, priority) => {
+                let was = self.tx.change_priority(|msg, _| *msg == chosen, priority);
+                was.is_some()
+            }
+            Step::Lease => {
+                self.lease = self.rx.try_lease().ok();
+                self.lease.is_some()
+            }
+            Step::Reserve => {
+                self.permit = self.tx.try_reserve().ok();
+                self.permit.is_some()
+            }
+            Step::Close => self.rx.close(),
+            Step::CloseWhenDone => {
+                self.tx.close_when_done();
+                true
+            }
+            _ => self.let_go(step),
+        };
+        expect_true(rt, could, "the step could be taken");
+    }
+
+    // Ends a hold. Tells whether there was one.
+    fn let_go(&mut self, step: Step) -> bool {
+        let (lease, permit) = (self.lease.take(), self.permit.take());
+        match (step, lease, permit) {
+            (Step::DropLease, Some(lease), _) => drop(lease),
+            (Step::PutBack(priority), Some(lease), _) => lease.put_back(priority),
+            (Step::Finish, Some(lease), _) => {
+                lease.finish();
+            }
+            (Step::Fill(msg, priority), _, Some(permit)) => permit.send(msg, priority),
+            (Step::Free, _, Some(permit)) => drop(permit),
+            _ => return false,
+        }
+        true
+    }
+}
