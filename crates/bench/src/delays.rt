@@ -10,7 +10,7 @@ use std::thread;
 use std::time::Instant;
 
 /// How many nanoseconds each call of a thread took.
-type Delays = Vec<u64>;
+pub type Delays = Vec<u64>;
 
 /// So many threads send, and as many receive. The nanoseconds within which so many of a thousand
 /// calls returned; of 1000, what the longest took.
@@ -31,14 +31,18 @@ pub fn delay<R: Machine>(
     for thread in started {
         delays.append(&mut thread.join(&rt)?)?;
     }
+    Ok(Measure {
+        amount: u128::from(at_permille(delays, permille)?),
+        sum: count,
+    })
+}
+
+/// The delay within which so many of a thousand were.
+pub fn at_permille(mut delays: Delays, permille: u64) -> anyhow::Result<u64> {
     delays.sort_unstable();
     let last = u64::try_from(delays.len().saturating_sub(1))?;
     let position = usize::try_from(last.saturating_mul(permille) / 1000)?;
-    let delay = *delays.get(position).context("no call was timed")?;
-    Ok(Measure {
-        amount: u128::from(delay),
-        sum: count,
-    })
+    Ok(*delays.get(position).context("nothing was timed")?)
 }
 
 fn start_thread<R: Machine>(

@@ -10,6 +10,7 @@ mod calls;
 mod choosing;
 mod crawl;
 mod delays;
+mod due;
 mod handles;
 mod load;
 mod measure;
@@ -33,7 +34,7 @@ use std::time::CpuClock;
 use threads::Machine;
 
 // Each ends with its count of messages.
-const ROWS: [&str; 28] = [
+const ROWS: [&str; 29] = [
     // How priorities come, how many pairs are pending.
     "core random 0 1000",
     "core equal 100 1000",
@@ -69,6 +70,8 @@ const ROWS: [&str; 28] = [
     // By which calls, of how many of a thousand calls, how many threads a side, and which capacity.
     "delay blocking 999 4 10 1600",
     "delay try 1000 4 10 1600",
+    // Of how many of a thousand delayed messages, and how many workers.
+    "due 1000 4 1000",
     // By which calls.
     "wake blocking 20",
     "wake future 20",
@@ -100,6 +103,7 @@ fn run<R: Machine + CpuClock + Files>(rt: R, row: &str) -> anyhow::Result<Measur
     match (words.as_slice(), numbers.as_slice()) {
         (["witnessed", _, _], [pending, count]) => witnessed::steady(&rt, *pending, *count),
         (["batches", _, _], [size, count]) => handles::batches(&rt, *size, *count),
+        (["due", _, _, _], [permille, workers, count]) => due::due(rt, *permille, *workers, *count),
         (["crawl", _, _], [workers, count]) => crawl::crawl(rt, *workers, *count),
         (["memory", "core", _], [count]) => memory::core(&rt, *count),
         (["memory", "handles", _], [count]) => memory::handles(&rt, *count),

@@ -5,13 +5,16 @@ mod aging;
 mod batches;
 mod blind_bound;
 mod cancel;
+mod delay;
 mod ends;
+mod expiry;
 mod frontier;
 mod lease;
 mod own_queue;
 mod permit;
 mod producer;
 mod replies;
+mod tenants;
 mod timer;
 
 fn main(rt: HostRuntime) -> anyhow::Result<()> {
@@ -26,5 +29,8 @@ fn main(rt: HostRuntime) -> anyhow::Result<()> {
     frontier::run(&rt)?;
     batches::run(rt)?;
     timer::run(rt)?;
-    producer::run(rt)
+    producer::run(rt)?;
+    delay::run(rt)?;
+    tenants::run(rt)?;
+    expiry::run(rt)
 }
