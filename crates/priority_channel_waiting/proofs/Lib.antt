@@ -8,3 +8,4 @@ pub mod Watchers
 pub mod Lines
 pub mod worlds
 pub mod queue
+pub mod Seen

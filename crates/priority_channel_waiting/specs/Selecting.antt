@@ -1,6 +1,6 @@
 -- Threads that wait until a pending message meets a condition, and what they have seen.
 use Rattle.std.specs.Prelude.{◌≡◌, ℕ, ◌<◌, ◌&&◌, if◌then◌else◌, List, length, Option, Some, None}
-use Rattle.priority_channel_core.specs.Prelude.{CountedState, is_done, listing, without_given}
+use Rattle.priority_channel_core.specs.Prelude.{CountedState, is_done, listing, without, without_given}
 use Rattle.priority_channel_waiting.specs.declared.selecting.Listed.{Listed}
 use Rattle.priority_channel_waiting.specs.declared.selecting.Listed.TheVariants.{Under, Over, Refused}
 use Rattle.priority_channel_waiting.specs.declared.selecting.Sight.{Sight}
@@ -27,6 +27,10 @@ looking_at All selection = selection.all
 abbrev pub with_looking_at : Sight → Watched → Selection → Selection
 with_looking_at First watched selection = record selection { first = watched }
 with_looking_at All watched selection = record selection { all = watched }
+
+-- without the waiter that has this ticket
+abbrev pub left_by : ℕ → Watched → Watched
+left_by ticket watched = record watched { waiters = without ticket watched.waiters }
 
 module _ {T P W : Type 0} where
   -- whether another message is first, or another one was accepted, and whether a priority was

@@ -3,9 +3,8 @@
 //! Such a thread looks at the pending messages. If none is for it, it is listed together with what
 //! it has seen. Once that is no longer what is there, the threads are taken off the list, to be
 //! woken and to look again.
-ghost use Rattle.std.specs.Prelude.{◌≡◌, ◌↔◌, ◌≤◌, [], ◌++◌, length, IsTrue, None, Some};
-ghost use Rattle.priority_channel_core.specs.Prelude.{without};
-ghost use Rattle.priority_channel_waiting.specs.Selecting.{looking_at, seen_of, with_looking_at, AllHaveSeen, Enrols, HaveSeen};
+ghost use Rattle.std.specs.Prelude.{◌≡◌, ◌↔◌, [], ◌++◌, IsTrue, None, Some};
+ghost use Rattle.priority_channel_waiting.specs.Selecting.{left_by, looking_at, seen_of, with_looking_at, AllHaveSeen, Enrols, HaveSeen};
 
 use crate::waiter::{Core, Waiter};
 use priority_channel_core::comparisons::Comparisons;
@@ -127,8 +126,7 @@ impl<A: Allocator + Copy> Watchers<A> {
 
     /// Takes a waiter off the list.
     pub fn unlisten(&mut self, ticket: u64)
-        ensures taken { self.new ≡ record self.old { waiters = without ticket self.old.waiters } }
-        ensures fewer { length self.new.waiters ≤ length self.old.waiters }
+        ensures { self.new ≡ left_by ticket self.old }
     {
         let mut comparisons = Comparisons::new();
         self.waiters.remove(ticket, &mut comparisons);
@@ -207,15 +205,8 @@ impl<A: Allocator + Copy> Selecting<A> {
 
     /// Takes a waiter off its list.
     pub fn unlisten(&mut self, sight: Sight, ticket: u64)
-        ensures taken { (looking_at sight self.new).waiters
-            ≡ without ticket (looking_at sight self.old).waiters }
-        ensures others { self.new ≡ with_looking_at sight (looking_at sight self.new) self.old }
-        ensures first { length self.new.first.waiters ≤ length self.old.first.waiters }
-        ensures all { length self.new.all.waiters ≤ length self.old.all.waiters }
-        ensures same { self.new ≡ record self.old {
-          first = record self.old.first { waiters = self.new.first.waiters };
-          all = record self.old.all { waiters = self.new.all.waiters };
-        } }
+        ensures { self.new
+            ≡ with_looking_at sight (left_by ticket (looking_at sight self.old)) self.old }
     {
         match sight {
             Sight::First => self.first.unlisten(ticket),
