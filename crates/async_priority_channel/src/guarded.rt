@@ -1,9 +1,10 @@
 //! What the channel's lock guards, and the holds of the lock.
 ghost use Rattle.std.specs.Prelude.{◌≡◌, ◌++◌, None, IsSomeAnd, box_value};
 
+use priority_channel_core::awaitable_atomics::Wakes;
 use priority_channel_waiting::closing::{Closing, Watch};
 use priority_channel_waiting::selecting::{Listed, Selecting, Sight, Taken};
-use priority_channel_waiting::waiter::{Core, Waiter, wake_each};
+use priority_channel_waiting::waiter::{Core, Waiter, wake_all, wake_each};
 use std::alloc::Allocator;
 use std::marker::Model;
 use std::sync::{MutexGuard, Wait};
@@ -193,19 +194,42 @@ impl<'h, T, P: Ord, A: Allocator + Copy> Held<'h, T, P, A> {
         }
     }
 
-    /// Releases the lock. What it returns is to be woken.
+    /// Releases the lock, and then wakes the waiters that a call took off the core's lists, and
+    /// those beside the core for whom something has changed.
     #[inline(always)]
-    pub fn unlock(self, alloc: A) -> Option<OtherWakes<A>> {
+    pub fn release<R: Wait>(self, rt: &R, alloc: A, wakes: Wakes<Waiter<A>, A>) {
         if self.is_watched() {
-            return Some(self.unlock_watched(alloc));
+            self.release_watched(rt, alloc, wakes);
+            return;
         }
-        let Held {
-            guarded,
-            away: Away { selecting },
-        } = self;
-        drop(selecting);
-        drop(guarded);
-        None
+        self.end();
+        wake_all(rt, wakes);
+    }
+
+    // Apart, so that `release` stays small.
+    #[inline(never)]
+    fn release_watched<R: Wait>(mut self, rt: &R, alloc: A, wakes: Wakes<Waiter<A>, A>) {
+        let others = self.settle(alloc);
+        self.end();
+        wake_all(rt, wakes);
+        others.wake(rt);
+    }
+
+    /// The same after calls that took no waiter off the core's lists.
+    #[inline(always)]
+    pub fn unlock<R: Wait>(self, rt: &R, alloc: A) {
+        if self.is_watched() {
+            self.unlock_watched(rt, alloc);
+            return;
+        }
+        self.end();
+    }
+
+    #[inline(never)]
+    fn unlock_watched<R: Wait>(mut self, rt: &R, alloc: A) {
+        let others = self.settle(alloc);
+        self.end();
+        others.wake(rt);
     }
 
     // Whether waiters beside the core may have to be woken.
@@ -214,16 +238,15 @@ impl<'h, T, P: Ord, A: Allocator + Copy> Held<'h, T, P, A> {
         self.away.selecting.is_some() || self.guarded.closing.due(&self.guarded.core).is_some()
     }
 
-    #[inline(never)]
-    fn unlock_watched(mut self, alloc: A) -> OtherWakes<A> {
-        let due = self.settle(alloc);
+    // Releases the lock. No waiters are away any more.
+    #[inline(always)]
+    fn end(self) {
         let Held {
             guarded,
             away: Away { selecting },
         } = self;
         drop(selecting);
         drop(guarded);
-        due
     }
 
     // Takes off the waiters beside the core that have to be woken.

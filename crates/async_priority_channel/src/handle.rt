@@ -15,7 +15,7 @@ use priority_channel_core::awaitable_atomics::Wakes;
 use priority_channel_core::side::Side;
 use priority_channel_waiting::line::Line;
 use priority_channel_waiting::spins::Spins;
-use priority_channel_waiting::waiter::{Core, Waiter, wake_all};
+use priority_channel_waiting::waiter::{Core, Waiter};
 use std::alloc::{AllocError, Allocator};
 use std::marker::Model;
 use std::random::RandomSource;
@@ -147,19 +147,13 @@ impl<T, P: Ord, R: Wait + Clone, A: Allocator + Copy> Handle<T, P, R, A> {
     /// core's lists, and those beside the core for whom something has changed.
     #[inline(always)]
     pub fn release(&self, held: Held<'_, T, P, A>, wakes: Wakes<Waiter<A>, A>) {
-        let others = held.unlock(self.alloc());
-        wake_all(&self.rt, wakes);
-        if let Some(others) = others {
-            others.wake(&self.rt);
-        }
+        held.release(&self.rt, self.alloc(), wakes);
     }
 
     /// The same after calls that took no waiter off the core's lists.
     #[inline(always)]
     pub fn unlock(&self, held: Held<'_, T, P, A>) {
-        if let Some(others) = held.unlock(self.alloc()) {
-            others.wake(&self.rt);
-        }
+        held.unlock(&self.rt, self.alloc());
     }
 
     /// Locks the core for queries.

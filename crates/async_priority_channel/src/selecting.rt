@@ -333,7 +333,6 @@ impl<T, P: Ord, R: Wait + Clone, A: Allocator + Copy> Handle<T, P, R, A> {
 fn sooner(left: Option<Duration>, within: Option<Duration>) -> Option<Duration> {
     match (left, within) {
         (Some(left), Some(within)) => Some(left.min(within)),
-        (Some(left), None) => Some(left),
-        (None, within) => within,
+        (left, within) => left.or(within),
     }
 }
