@@ -20,6 +20,11 @@ fn the_test_is_asked_as_often_as_is_said(rt: HostRuntime) {
     expect_equal(&rt, (changed, asked.replace(0) <= 10), (Some(0), true));
     expect_equal(&rt, rx.change_priority(|_, _| count(false), 1), None);
     expect_equal(&rt, asked.replace(0), 10);
+    // Of each once, where the most urgent is wanted, and of a fold.
+    expect_equal(&rt, rx.try_recv_where(|_, _| count(false)), Ok(None));
+    expect_equal(&rt, asked.replace(0), 10);
+    let folded = rx.fold_pending(true, |is_so, _, _| is_so && count(true));
+    expect_equal(&rt, (folded, asked.replace(0)), (true, 10));
     // Of each once, where it tells false; of none after it told true; and of each that may stay.
     expect_equal(&rt, rx.take_where(|_, _| count(false)), None);
     expect_equal(&rt, asked.replace(0), 10);
@@ -52,10 +57,17 @@ fn the_test_is_dropped_once_the_lock_is_free(rt: HostRuntime) {
     let other = another(&rt, &rx);
     expect_equal(&rt, rx.count_where(move |_, _| owns(&other)), 2);
     let other = another(&rt, &rx);
+    let folded = rx.fold_pending(true, move |is_so, _, _| is_so && owns(&other));
+    expect_equal(&rt, folded, true);
+    let other = another(&rt, &rx);
     expect_equal(&rt, rx.retain(move |_, _| owns(&other)).is_ok(), true);
     let other = another(&rt, &rx);
     let received = rx.try_recv_if(move |_, _| owns(&other));
     expect_equal(&rt, received, Ok(Some(('a', 2))));
+    expect_equal(&rt, tx.try_send('c', 1), Ok(()));
+    let other = another(&rt, &rx);
+    let received = rx.try_recv_where(move |_, _| owns(&other));
+    expect_equal(&rt, received, Ok(Some(('c', 1))));
     let other = another(&rt, &rx);
     let taken = rx.take_where(move |_, _| owns(&other));
     expect_equal(&rt, (taken, rx.receiver_count()), (Some(('b', 0)), 1));
