@@ -1,5 +1,6 @@
 //! Memory that is refused to waits, and how much of it they ask for.
-use super::either::{Either, SIDES, block, done, long, refused, requests_of, waits};
+use super::clocks::{Paced, Plan, Times, second};
+use super::either::{Either, SIDES, TIMED, block, done, long, refused, requests_of, waits};
 use super::places::{PLACES, Place, at, before};
 use super::watch::{beside, within};
 use super::{Threaded, let_others_wait, wait_until};
@@ -151,6 +152,33 @@ fn a_wait_leaves_no_place_behind(rt: HostRuntime) {
             expect_equal_at(&rt, (call, round), got, (outcome, nth > 0));
         }
         expect_true(&rt, other.help(), "the channel is open");
+    }
+}
+
+// A thread that sleeps again and again keeps its place in the list.
+#[test]
+fn a_wait_asks_once_however_often_it_looks(rt: HostRuntime) {
+    for call in TIMED {
+        let Some(requests) = requests_of(call) else {
+            continue
+        };
+        let times = Times::new(Plan::HaltsAt(40));
+        let paced = Paced::new(&rt, &times);
+        let alloc = Refusing::new(rt.alloc());
+        let (blocked, _other) = block(&paced, &alloc, call);
+        let before = alloc.count();
+        let (answer, ()) = beside(
+            &rt,
+            ("a wait that looks often", call),
+            || blocked.make(&paced, &alloc, call, second()),
+            || {
+                wait_until(&rt, || times.is_reached());
+                times.let_go(true);
+            },
+        );
+        let got = (answer, alloc.count().saturating_sub(before));
+        let wanted = (refused(call, Outcome::Timeout), requests);
+        expect_equal_at(&rt, call, got, wanted);
     }
 }
 
