@@ -6,7 +6,7 @@ use crate::tests::threads::clocks::{Paced, Plan, Times};
 use crate::tests::threads::either::long;
 use crate::tests::threads::watch::within;
 use crate::tests::{Host, expect_equal_at, expect_true};
-use async_priority_channel::{Due, Receiver, Sender, unbounded};
+use async_priority_channel::{Due, Receiver, RecvTimeoutError, Sender, unbounded};
 use refusing::Refusing;
 use std::alloc::Allocator;
 use std::cmp::Reverse;
@@ -80,6 +80,27 @@ fn a_message_whose_instant_has_passed_comes_at_once(rt: HostRuntime) {
         );
         let msg = came.map(|(msg, ..)| msg);
         expect_equal_at(&rt, way, msg, Some(7));
+    }
+}
+
+// The time is over before the instant comes.
+#[test]
+fn a_limit_ends_a_wait_for_a_later_instant(rt: HostRuntime) {
+    for way in [Way::Timeout, Way::Deadline] {
+        let (tx, rx) = unbounded(&rt, rt.alloc()).expect(&rt, "a channel");
+        let later = after(&rt, now(&rt), long());
+        expect_true(&rt, tx.try_send(7u64, Reverse(later)).is_ok(), "it is open");
+        let over = after(&rt, now(&rt), Duration::from_millis(40));
+        let when = |_: &u64, due: &Reverse<Instant>| Due::At(due.0);
+        let late = within(&rt, ("a limit before an instant", way), || {
+            if way == Way::Deadline {
+                rx.recv_when_deadline(when, over)
+            } else {
+                rx.recv_when_timeout(when, Duration::from_millis(40))
+            }
+        });
+        let got = (late, over <= now(&rt), rx.len());
+        expect_equal_at(&rt, way, got, (Err(RecvTimeoutError::Timeout), true, 1));
     }
 }
 
