@@ -21,11 +21,11 @@ use std::time::{Clock, Duration, Instant};
 /// the bound of the channel counts what is pending and what is in hand.
 ///
 /// `finish` frees the place. If the lease is dropped, as by a `?`, its message is put back: it is
-/// pending again, with its priority, behind its equals. That is never refused: not by a full
-/// channel, since the place was held, nor by a closed one, nor for memory. A loop that drops its
-/// leases gets the same message again and again, and so does a pool whose workers all fail at it:
-/// count the tries in the message, before the work. A lease that is kept for ever keeps the
-/// receivers of a closed channel waiting for its message.
+/// pending again, with its priority, behind its equals, and what its worker has sent stays sent.
+/// That is never refused: not by a full channel, since the place was held, nor by a closed one, nor
+/// for memory. A loop that drops its leases gets the same message again and again, and so does a
+/// pool whose workers all fail at it: count the tries in the message, before the work. A lease that
+/// is kept for ever keeps the receivers of a closed channel waiting for its message.
 ///
 /// `Receiver::try_lease` and its variants make it.
 ///

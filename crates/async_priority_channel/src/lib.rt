@@ -174,8 +174,8 @@
 //!
 //! In a task, `send`, `sendv`, `recv`, `recv_many`, `reserve` and `lease` are futures, and `stream`
 //! and `into_stream` are streams, of the kit's `futures`. They do nothing until they are polled. One
-//! that is dropped before it has answered receives nothing, and sends no more. Threads and tasks may
-//! wait in one channel.
+//! that is dropped before it has answered receives nothing, and sends no more: what it has not sent
+//! is dropped with it. Threads and tasks may wait in one channel.
 //!
 //! ```
 //! let (tx, rx) = bounded(&rt, rt.alloc(), 1)?;

@@ -166,7 +166,7 @@ impl<T, P: Ord, R: Wait + Clone, A: Allocator + Copy> Sender<T, P, R, A> {
     /// comes back, as `Full`. `Closed` and `Memory` are as for `try_send`.
     ///
     /// It goes ahead of the tasks and threads that wait in `send` for room, also of those with a
-    /// greater priority. If the channel is full, it wakes nobody.
+    /// greater priority. If the channel is full, it wakes only `recv_when_*` and `recv_where_*`.
     ///
     /// The first such send into a full channel reorders the pending messages, so that both the
     /// greatest and the least are known. The channel keeps this order.
