@@ -1,9 +1,10 @@
 //! A delay queue: each job is received once its time has come.
 //!
-//! You need this where a message names the instant of its work, as a retry or a reminder does. The
-//! earliest instant is the greatest priority, and the worker sleeps until it has come. A job that
-//! is sent with an earlier one wakes the worker, and so does one that is moved to an earlier one.
-//! What is pending when the channel closes is still done at its time.
+//! You need this where a message names the instant of its work, as a reminder does (`retry.rt` has
+//! jobs that failed). The earliest instant is the greatest priority, and the worker sleeps until it
+//! has come. A job that is sent with an earlier one wakes the worker, and so does one that is moved
+//! to an earlier one. What is pending when the channel closes is still done at its time: to end at
+//! once, `retain(|_, _| false)` drops it.
 
 use anyhow::Context;
 use async_priority_channel::{Due, Receiver, RecvFault, Sender, unbounded};

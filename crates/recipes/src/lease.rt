@@ -30,8 +30,8 @@ fn work<R: Wait + Clone + Print>(
         let urgency = *lease.priority();
         let job = lease.message_mut();
         job.tries = job.tries.saturating_add(1);
-        let is_done = job.tries == job.lucky;
-        if is_done || job.tries == MOST_TRIES {
+        let is_done = job.lucky <= job.tries;
+        if is_done || MOST_TRIES <= job.tries {
             println!(rt; "lease: {} done at try {}: {is_done}", job.what, job.tries)?;
             lease.finish();
         } else {

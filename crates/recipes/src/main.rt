@@ -14,12 +14,14 @@ mod own_queue;
 mod permit;
 mod producer;
 mod replies;
+mod retry;
 mod tenants;
 mod timer;
 
 fn main(rt: HostRuntime) -> anyhow::Result<()> {
     ends::run(rt)?;
     lease::run(&rt)?;
+    retry::run(&rt)?;
     permit::run(&rt)?;
     own_queue::run(&rt)?;
     replies::run(rt)?;
