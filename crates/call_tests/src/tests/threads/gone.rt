@@ -2,7 +2,7 @@
 //! and no task that is gone.
 use super::either::{Either, block, long, requests_of};
 use super::places::{PLACES, Place, at};
-use super::{Threaded, let_others_wait};
+use super::{Threaded, let_others_wait, wait_until};
 use crate::tests::driver::all::ALL;
 use crate::tests::driver::calls::{Call, Way, is_for_close};
 use crate::tests::driver::reply::Outcome;
@@ -23,6 +23,7 @@ fn wait_after_a_refusal<R: Threaded>(rt: &R, call: Call, n: u64, place: Place, n
     let alloc = Refusing::new(rt.alloc());
     let (blocked, other) = block(rt, &alloc, call);
     let round = (call, n, place, next);
+    let asked = alloc.count().wrapping_add(place.requests_before());
     let (_, (refused, answer, could)) = at(
         rt,
         ("the wait after one without memory", round),
@@ -30,6 +31,8 @@ fn wait_after_a_refusal<R: Threaded>(rt: &R, call: Call, n: u64, place: Place, n
         (rt, &alloc, call),
         (&blocked, &other),
         || {
+            // No request of the call before is refused, however long it takes to wait.
+            wait_until(rt, || alloc.count() >= asked);
             alloc.refuse_nth(n);
             let refused = blocked.make(rt, &alloc, call, long()).0;
             alloc.refuse_none();

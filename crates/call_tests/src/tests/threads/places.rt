@@ -26,6 +26,14 @@ impl Place {
             Place::Second => !is_bulk(call) && !is_for_close(call),
         }
     }
+
+    /// How often the call that waits before asks for memory: for its waiter, and for its entry.
+    pub fn requests_before(self) -> u64 {
+        match self {
+            Place::First => 0,
+            Place::Second => 2,
+        }
+    }
 }
 
 /// The call that waits before one at the second place.

@@ -18,6 +18,7 @@ fn refuse_a_wait<R: Threaded>(rt: &R, call: Call, n: u64, place: Place) {
     let alloc = Refusing::new(rt.alloc());
     let (blocked, other) = block(rt, &alloc, call);
     let round = (call, n, place);
+    let asked = alloc.count().wrapping_add(place.requests_before());
     let (first, (answer, met_none)) = at(
         rt,
         ("a wait without memory", round),
@@ -25,6 +26,8 @@ fn refuse_a_wait<R: Threaded>(rt: &R, call: Call, n: u64, place: Place) {
         (rt, &alloc, call),
         (&blocked, &other),
         || {
+            // No request of the call before is refused, however long it takes to wait.
+            wait_until(rt, || alloc.count() >= asked);
             alloc.refuse_nth(n);
             let answer = blocked.make(rt, &alloc, call, long());
             (answer, alloc.refuse_none())
@@ -198,5 +201,37 @@ fn memory_for_a_message_is_not_waited_for(rt: HostRuntime) {
         });
         let got = (answer.0, answer.2, rx.is_empty());
         expect_equal_at(&rt, call, got, (Outcome::Memory, 7, true));
+    }
+}
+
+// At the last look there is room, and no memory for the message: the time is over all the same.
+#[test]
+fn memory_refused_at_the_last_look_is_a_time_that_is_over(rt: HostRuntime) {
+    for call in TIMED {
+        if call.side() != Side::Sender || is_for_close(call) {
+            continue;
+        }
+        let times = Times::new(Plan::HaltsAt(1));
+        let paced = Paced::new(&rt, &times);
+        let alloc = Refusing::new(rt.alloc());
+        let (tx, rx) = bounded(&paced, &alloc, 1).expect(&rt, "a channel");
+        expect_true(&rt, tx.try_send(1, 1).is_ok(), "there is room");
+        let tx = Either::Sender(tx);
+        let (answer, received) = beside(
+            &rt,
+            ("a last look without memory", call),
+            || tx.make(&paced, &alloc, call, second()),
+            || {
+                wait_until(&rt, || times.is_reached());
+                let received = rx.try_recv();
+                rx.shrink_to_fit();
+                alloc.refuse_all();
+                times.let_go(true);
+                received
+            },
+        );
+        let got = (answer.0, answer.2, received, rx.is_empty());
+        let wanted = (Outcome::Timeout, 7, Ok((1, 1)), true);
+        expect_equal_at(&rt, call, got, wanted);
     }
 }
