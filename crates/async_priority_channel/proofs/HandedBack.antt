@@ -1,35 +1,26 @@
--- What a bulk send gives back is a tail of what it was given, over all of its polls.
-use Rattle.std.proofs.Common.{◌≡◌, List, Option, None, Some, IfSome, is_some, Ok, Err}
-use Rattle.std.specs.Option.{ForSome}
+-- What a future gives back is left of what it kept, also if it answers after a try that had to wait.
+use Rattle.std.proofs.Common.{◌≡◌, Option, None, Some, IfSome, is_some}
 use Rattle.futures.specs.declared.task.Poll.{Poll}
 use Rattle.futures.specs.declared.task.Poll.TheVariants as poll
-use Rattle.futures.specs.Poll.{OnPending}
-use Rattle.priority_channel_core.specs.declared.errors.SendFault.TheVariants as send_fault
-use Rattle.priority_channel_waiting.specs.Holding.{HoldsTail}
-use Rattle.async_priority_channel.specs.Handles.{Underway, HandsBackTail}
-use Rattle.priority_channel_waiting.specs.Tails.{tail_of_itself, tail_of_tail}
-use Rattle.priority_channel_core.specs.Prelude.{SendEnd}
+use Rattle.futures.specs.Poll.{IfReady}
+use Rattle.priority_channel_waiting.specs.Holding.{Holding, IsRestOf}
 
-module _ {X M : Type 0} (holds : M → List X → Type 0) (can : M → Type 0) where
-  -- if the future is given up at once
-  pub hands_back_all : (future : Underway M) (rest : M) → future.state.kept ≡ Some rest → ForSome future.state.kept can
-      → HandsBackTail holds can future (Err (send_fault.Memory rest))
-  hands_back_all future rest is h = (h rest is, rw is (tail_of_itself holds rest))
+module _ {K R : Type 0} (can : K → Type 0) (leaves : K → K → Type 0)
+    (still : (first next last : K) → leaves first next → leaves next last → leaves first last)
+    (back : R → Option K) where
+  abbrev IsLeft : Option K → Option K → Type 0
+  IsLeft kept left = IfSome kept (λ k. IfSome left (λ rest. can rest × leaves k rest))
 
-  -- after a poll that was pending, for all later polls
-  still : (first mid : Option M) (last : M) → is_some mid ≡ is_some first → IfSome first (λ msgs. IfSome mid (λ rest. can rest × HoldsTail holds msgs rest))
-      → IfSome mid (λ msgs. HoldsTail holds msgs last) → IfSome first (λ msgs. HoldsTail holds msgs last)
-  still None mid last some h k = tt
-  still (Some msgs) None last some h k = absurd (cc)
-  still (Some msgs) (Some rest) last some h k = tail_of_tail holds msgs rest last h.1 k
+  later : (first mid last : Option K) → is_some mid ≡ is_some first → IsLeft first mid → IsLeft mid last → IsLeft first last
+  later None mid last some h k = tt
+  later (Some first) None last some h k = absurd (cc)
+  later (Some first) (Some mid) None some h k = tt
+  later (Some first) (Some mid) (Some last) some h k = (k.0, still first mid last h.1 k.1)
 
-  pub hands_back_still : (old new : Underway M) (polled : Poll (SendEnd M))
-      → OnPending polled (is_some new.state.kept ≡ is_some old.state.kept)
-      → IfSome old.state.kept (λ msgs. IfSome new.state.kept (λ rest. can rest × HoldsTail holds msgs rest))
-      → OnPending polled ((x : SendEnd M) → HandsBackTail holds can new x → HandsBackTail holds can old x)
-  hands_back_still old new (poll.Ready outcome) waits kept = tt
-  hands_back_still old new poll.Pending waits kept = passes
-    where
-      passes : (x : SendEnd M) → HandsBackTail holds can new x → HandsBackTail holds can old x
-      passes (Ok sent) h = tt
-      passes (Err fault) h = (h.0, still old.state.kept new.state.kept _ waits kept h.1)
+  abbrev GivesBack : Holding K → R → Type 0
+  GivesBack kept answer = IsRestOf can leaves kept (back answer)
+
+  pub hands_back_after : (old mid : Holding K) (polled : Poll R) → is_some mid.kept ≡ is_some old.kept → IsRestOf can leaves old mid.kept
+      → IfReady polled (GivesBack mid) → IfReady polled (GivesBack old)
+  hands_back_after old mid (poll.Ready answer) waits left h = later old.kept mid.kept (back answer) waits left h
+  hands_back_after old mid poll.Pending waits left h = tt

@@ -1,9 +1,8 @@
 -- What handles and futures show of their channel. No value shows what is behind its lock.
-use Rattle.std.specs.Prelude.{◌≡◌, ⊤, ℕ, Bool, true, List, [], IfErr, IfSome, Option, Some, None}
+use Rattle.std.specs.Prelude.{◌≡◌, ⊤, ℕ, Bool, true, List, [], Option, None}
 use Rattle.priority_channel_core.specs.declared.side.Side.{Side}
 use Rattle.priority_channel_core.specs.declared.side.Side.TheVariants.{Room, Message}
-use Rattle.priority_channel_core.specs.Prelude.{unsent, SendEnd}
-use Rattle.priority_channel_waiting.specs.Holding.{Holding, HoldsTail}
+use Rattle.priority_channel_waiting.specs.Holding.{Holding}
 use Rattle.futures.specs.declared.task.Poll.{Poll}
 use Rattle.futures.specs.Poll.{OnPending}
 
@@ -56,17 +55,6 @@ pub record Watching : Type 0 where
   pub channel : Channel
   pub ticket : Option ℕ
   pub is_done : Bool
-
--- the error of a send gives back what the future kept
-abbrev pub HandsBack : {K : Type 0} → Underway K → SendEnd K → Type 0
-HandsBack future answer = IfErr answer (λ fault. future.state.kept ≡ Some (unsent fault))
-
--- the error of a bulk send gives back a tail of what the future kept, which can be sent again
-abbrev pub HandsBackTail : {X M : Type 0} → (M → List X → Type 0) → (M → Type 0) → Underway M
-    → SendEnd M → Type 0
-HandsBackTail holds can future answer =
-    IfErr answer (λ fault. can (unsent fault)
-    × IfSome future.state.kept (λ msgs. HoldsTail holds msgs (unsent fault)))
 
 -- a future that is pending may give any answer, as before
 abbrev pub MayAnswerAlike : {X : Type 0} → Poll X → Type 0

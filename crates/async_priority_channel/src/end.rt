@@ -91,11 +91,11 @@ impl<S: Role, T, P: Ord, R: Wait + Clone, A: Allocator + Copy> End<S, T, P, R, A
     /// is held, so no message is in hand either. If that is so already, as in a channel into which
     /// nothing was sent yet, it closes at once.
     ///
-    /// It ends a pool whose workers also send to their own channel. Such a worker takes its messages
-    /// by leases: what it sends before it has finished its message comes in time. A plain receive
-    /// of the last message ends the channel, before its worker can send another one. A producer
-    /// that has more to send holds a permit meanwhile, in a bounded channel one of its places. A
-    /// pool that only puts messages back ends as well by the drop of its last sender.
+    /// It ends a pool whose workers also send to their own channel. Such a worker takes its
+    /// messages by leases: what it sends before it has finished its message comes in time. A plain
+    /// receive of the last message ends the channel, before its worker can send another one. A
+    /// producer that has more to send holds a permit meanwhile, in a bounded channel one of its
+    /// places. A pool that only puts messages back ends as well by the drop of its last sender.
     ///
     /// Cost: no comparison. No memory.
     ///
@@ -146,7 +146,8 @@ impl<S: Role, T, P: Ord, R: Wait + Clone, A: Allocator + Copy> End<S, T, P, R, A
 
     /// The number of places that are held: by permits, and by leases for messages in hand.
     ///
-    /// Cost: one hold of the lock. `len` takes another, so their sum may be that of no moment.
+    /// Cost: one hold of the lock. `len` takes another, and a message may be received or put back in
+    /// between.
     ///
     /// ```
     /// let (tx, rx) = bounded(&rt, rt.alloc(), 2)?;

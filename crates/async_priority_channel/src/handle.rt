@@ -7,12 +7,12 @@ ghost use Rattle.futures.specs.Task.{Hears, IsArmed, Keeps};
 ghost use Rattle.priority_channel_core.specs.Prelude.{opening, capacity_told};
 ghost use Rattle.async_priority_channel.specs.Handles.{source_of};
 
-use crate::guarded::{Guarded, Held, Look};
 use crate::identity::Identity;
 use crate::lock::Lock;
 use futures::task::{Context, Source};
 use priority_channel_core::awaitable_atomics::Wakes;
 use priority_channel_core::side::Side;
+use priority_channel_waiting::guarded::{Guarded, Held, Look};
 use priority_channel_waiting::line::Line;
 use priority_channel_waiting::spins::Spins;
 use priority_channel_waiting::waiter::{Core, Waiter};

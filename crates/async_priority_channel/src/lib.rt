@@ -93,9 +93,9 @@
 //! # Held places
 //!
 //! `try_lease` and its variants receive a message and keep its place held until it is finished. A
-//! `Lease` that is dropped puts its message back, so a worker that leaves by a `?` loses no job, and
-//! the bound counts what is pending and what is in hand. `for lease in rx.leases()` is the loop of
-//! such a worker. `try_reserve` and its variants hold a place for a message still to come: a
+//! `Lease` that is dropped puts its message back, so a worker that leaves by a `?` loses no job,
+//! and the bound counts what is pending and what is in hand. `for lease in rx.leases()` is the loop
+//! of such a worker. `try_reserve` and its variants hold a place for a message still to come: a
 //! `Permit`, whose `send` is never refused.
 //!
 //! A channel for which `close_when_done` was called closes once nothing is pending and no place is
@@ -173,9 +173,9 @@
 //! # Futures
 //!
 //! In a task, `send`, `sendv`, `recv`, `recv_many`, `reserve` and `lease` are futures, and `stream`
-//! and `into_stream` are streams, of the kit's `futures`. They do nothing until they are polled. One
-//! that is dropped before it has answered receives nothing, and sends no more: what it has not sent
-//! is dropped with it. Threads and tasks may wait in one channel.
+//! and `into_stream` are streams, of the kit's `futures`. They do nothing until they are polled.
+//! One that is dropped before it has answered receives nothing, and sends no more: what it has not
+//! sent is dropped with it. Threads and tasks may wait in one channel.
 //!
 //! ```
 //! let (tx, rx) = bounded(&rt, rt.alloc(), 1)?;
@@ -243,7 +243,6 @@ mod channel;
 mod close_on_drop;
 mod closed;
 mod end;
-mod guarded;
 mod handle;
 mod identity;
 mod iter;

@@ -63,8 +63,8 @@ impl<T, P: Ord, R: Wait + Clone, A: Allocator + Copy> Receiver<T, P, R, A> {
         }
     }
 
-    // Reserves memory for the pending messages. A batch with room for `limit` messages needs no look
-    // at how many are pending.
+    // Reserves memory for the pending messages. A batch with room for `limit` messages needs no
+    // look at how many are pending.
     fn make_room<B: Allocator>(&self, batch: &mut Vec<(T, P), B>, limit: usize)
         ensures { batch.new.items ≡ batch.old.items }
     {
@@ -365,7 +365,7 @@ fn poll_batch<T, P: Ord, B: Allocator, R: Wait + Clone, A: Allocator + Copy>(
 {
     let answer = match receiver.answer_at_once(batch, limit) {
         Some(answer) => answer,
-        None => match task.receive(&receiver.handle, cx) {
+        None => match task.poll(&receiver.handle, cx) {
             Poll::Pending => return Poll::Pending,
             Poll::Ready(Ok(first)) => Ok(receiver.receive_with(first, batch, limit)),
             Poll::Ready(Err(fault)) => Err(fault),

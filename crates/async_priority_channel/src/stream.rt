@@ -50,7 +50,7 @@ impl<A: Allocator + Copy> Receives<A> {
         if self.has_ended {
             return Poll::Ready(None);
         }
-        match self.task.receive(handle, cx) {
+        match self.task.poll(handle, cx) {
             Poll::Pending => Poll::Pending,
             Poll::Ready(Ok(pair)) => {
                 self.task.begin_again();

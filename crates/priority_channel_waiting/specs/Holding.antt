@@ -63,6 +63,11 @@ module _ {K : Type 0} where
     left_now (Ok answer) = back answer
     left_now (Err rest) = Some rest
 
+-- what is kept or comes back is left of what a future kept before, and may be polled
+abbrev pub IsRestOf : {K : Type 0} → (K → Type 0) → (K → K → Type 0) → Holding K → Option K → Type 0
+IsRestOf can leaves before left =
+    IfSome before.kept (λ kept. IfSome left (λ rest. can rest × leaves kept rest))
+
 -- A try of a bulk send sends this prefix, if any. Answered, its ticket is in neither list.
 pub record TriesFront {T P W R K : Type 0} (old : State T P W) (given : Option ℕ)
     (front : List (T × P)) (tried : Result R K) (handed : Handed W) (new : State T P W) : Type 0

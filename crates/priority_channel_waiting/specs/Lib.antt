@@ -7,5 +7,6 @@ pub mod Polled
 pub mod Ends
 pub mod Closers
 pub mod Selecting
+pub mod Guarded
 pub mod Seeking
 pub mod laws

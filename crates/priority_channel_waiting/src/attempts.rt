@@ -3,6 +3,7 @@
 ghost use Rattle.std.specs.Prelude.{◌≡◌, ⊤, IfSome, IfOk, IfErr, Some, refl};
 ghost use Rattle.std.proofs.Common.{◌∙◌};
 ghost use Rattle.std.specs.Iterator.Adapters.{peekable_can};
+ghost use Rattle.priority_channel_core.specs.declared.side.Side.{Side};
 ghost use Rattle.priority_channel_core.specs.Prelude.{HasList, Step, Performs};
 ghost use Rattle.priority_channel_waiting.specs.Holding.{HoldsTail};
 ghost use Rattle.priority_channel_waiting.specs.Ends.{OnOver};
@@ -56,8 +57,12 @@ pub trait Attempt<T, P: Ord, A: Allocator + Copy>: Sized {
     // Holds for a call and the rest of it that may come back.
     ghost leaves: { Self → Self → Type 0 };
 
+    // The side on which the call waits if it is blocked.
+    ghost waits_on: { Side };
+
     /// The side on which the call waits if it is blocked.
-    fn side() -> Side;
+    fn side() -> Side
+        ensures { result ≡ waits_on };
 
     /// Makes the call, in one step.
     fn try_on(self, core: &mut Core<T, P, A>) -> (Outcome<Self::Done, Self>, Wakes<Waiter<A>, A>)
@@ -83,9 +88,9 @@ impl<T, P: Ord, A: Allocator + Copy> Attempt<T, P, A> for Receive {
 
     ghost still = { λ _ _ _ _ _. tt };
 
-    fn side() -> Side
-        ensures { result ≡ Side.Message }
-    {
+    ghost waits_on = { Side.Message };
+
+    fn side() -> Side {
         Side::Message
     }
 
@@ -118,9 +123,9 @@ impl<T, P: Ord, A: Allocator + Copy> Attempt<T, P, A> for ReceiveHeld {
 
     ghost still = { λ _ _ _ _ _. tt };
 
-    fn side() -> Side
-        ensures { result ≡ Side.Message }
-    {
+    ghost waits_on = { Side.Message };
+
+    fn side() -> Side {
         Side::Message
     }
 
@@ -161,9 +166,9 @@ impl<T, P: Ord, A: Allocator + Copy> Attempt<T, P, A> for (T, P) {
 
     ghost still = { λ _ _ _ one other. other ∙ one };
 
-    fn side() -> Side
-        ensures { result ≡ Side.Room }
-    {
+    ghost waits_on = { Side.Room };
+
+    fn side() -> Side {
         Side::Room
     }
 
@@ -193,9 +198,9 @@ impl<T: Drop, P: Ord + Drop, A: Allocator + Copy, I: Iterator<Item = (T, P)>> At
 
     ghost still = { λ first mid last. tail_of_tail (HasList I.next_gives) first mid last };
 
-    fn side() -> Side
-        ensures { result ≡ Side.Room }
-    {
+    ghost waits_on = { Side.Room };
+
+    fn side() -> Side {
         Side::Room
     }
 
@@ -222,9 +227,9 @@ impl<T, P: Ord, A: Allocator + Copy> Attempt<T, P, A> for () {
 
     ghost still = { λ _ _ _ _ _. tt };
 
-    fn side() -> Side
-        ensures { result ≡ Side.Room }
-    {
+    ghost waits_on = { Side.Room };
+
+    fn side() -> Side {
         Side::Room
     }
 

@@ -1,5 +1,6 @@
 //! How senders and receivers wait: what they attempt, the state of a future between its polls, the
-//! waiter that wakes a task or a thread, the queue of a waiting thread, and the time limit.
+//! waiter that wakes a task or a thread, the queue of a waiting thread, the time limit, and what a
+//! channel's lock guards.
 //!
 //! `async_priority_channel` builds the calls of its handles on these, and returns the errors of
 //! `timeouts` to its callers. Nothing here takes a channel's lock.
@@ -7,6 +8,7 @@
 
 pub mod attempts;
 pub mod closing;
+pub mod guarded;
 pub mod laws;
 pub mod line;
 pub mod polled;

@@ -1,11 +1,14 @@
 //! What futures do at each poll: a receive, a send, a bulk send.
-ghost use Rattle.std.specs.Prelude.{◌≡◌, ⊤, ℕ, Option, None, Some, Result, Err, IfSome, IfOk, IfErr, MatchOption};
+ghost use Rattle.std.specs.Prelude.{◌≡◌, ⊤, ℕ, Option, None, Some, Result, Err, IfSome, IfOk, IfErr, MatchOption, refl};
+ghost use Rattle.std.proofs.Common.{◌∙◌};
 ghost use Rattle.std.specs.Iterator.Adapters.{peekable_can};
 ghost use Rattle.priority_channel_core.specs.declared.calls.CorePoll.{CorePoll};
+ghost use Rattle.priority_channel_core.specs.declared.side.Side.{Side};
 ghost use Rattle.priority_channel_core.specs.Prelude.{CountedState, ComparesAtMost, Handed, HasList, recv_answer, search_bound};
 ghost use Rattle.priority_channel_waiting.specs.Future.{GivesUpTicket};
 ghost use Rattle.priority_channel_waiting.specs.Holding.{at_once, left_after, left_now, unsent_of, HoldsTail};
 ghost use Rattle.priority_channel_waiting.specs.Polled.{RecvPolls, RecvTries, SendPolls, SendTries, SendvPolls, SendvTries};
+ghost use Rattle.priority_channel_waiting.specs.Tails.{tail_of_itself, tail_of_tail};
 
 use priority_channel_core::awaitable_atomics::Wakes;
 use priority_channel_core::calls::CorePoll;
@@ -13,6 +16,7 @@ use priority_channel_core::channel::PriorityQueueChannel;
 use priority_channel_core::errors::{
     RecvError, RecvFault, SendError, SendFault, TryRecvError, TrySendError,
 };
+use priority_channel_core::side::Side;
 use std::alloc::Allocator;
 use std::iter::Peekable;
 
@@ -25,6 +29,12 @@ pub trait Polled<T, P: Ord, W: Clone, A: Allocator + Copy>: Sized {
 
     // Holds for what was kept, and the rest of it that is still kept or comes back.
     ghost leaves: { Self → Self → Type 0 };
+
+    ghost still: { (first next last : Self) → leaves first next → leaves next last
+        → leaves first last };
+
+    // The side on which it waits.
+    ghost waits_on: { Side };
 
     // What comes back with an answer.
     ghost back: { Self.Answer → Option Self };
@@ -61,6 +71,15 @@ pub trait Polled<T, P: Ord, W: Clone, A: Allocator + Copy>: Sized {
         ensures step { polls self ticket waker.now core.old result.0 result.1 core.new }
         ensures left { IfSome (left_after back result.0)
             (λ rest. can_poll rest × leaves self rest) };
+
+    /// The answer if memory for waiting was refused.
+    fn refuse(self) -> Self::Answer
+        requires { can_poll self }
+        ensures { IfSome (back result) (λ rest. can_poll rest × leaves self rest) };
+
+    /// The side on which it waits.
+    fn side() -> Side
+        ensures { result ≡ waits_on };
 }
 
 /// A receive of one pair.
@@ -68,6 +87,10 @@ impl<T, P: Ord, W: Clone, A: Allocator + Copy> Polled<T, P, W, A> for () {
     type Answer = Result<(T, P), RecvFault>;
 
     ghost leaves = { λ _ _. ⊤ };
+
+    ghost still = { λ _ _ _ _ _. tt };
+
+    ghost waits_on = { Side.Message };
 
     ghost back = { λ _. None };
 
@@ -96,6 +119,16 @@ impl<T, P: Ord, W: Clone, A: Allocator + Copy> Polled<T, P, W, A> for () {
     ) -> (CorePoll<Result<(T, P), RecvFault>, ()>, Wakes<W, A>) {
         core.poll_recv(ticket, waker)
     }
+
+    fn refuse(self) -> Result<(T, P), RecvFault>
+        ensures { result ≡ Err RecvFault.Memory }
+    {
+        Err(RecvFault::Memory)
+    }
+
+    fn side() -> Side {
+        Side::Message
+    }
 }
 
 // The answer of a receive, unless the channel is empty and may still get a message.
@@ -115,6 +148,10 @@ impl<T, P: Ord, W: Clone, A: Allocator + Copy> Polled<T, P, W, A> for (T, P) {
     type Answer = Result<(), SendFault<(T, P)>>;
 
     ghost leaves = { λ pair rest. rest ≡ pair };
+
+    ghost still = { λ _ _ _ one other. other ∙ one };
+
+    ghost waits_on = { Side.Room };
 
     ghost back = { unsent_of };
 
@@ -141,6 +178,16 @@ impl<T, P: Ord, W: Clone, A: Allocator + Copy> Polled<T, P, W, A> for (T, P) {
         let (msg, priority) = self;
         core.poll_send(msg, priority, ticket, waker)
     }
+
+    fn refuse(self) -> Result<(), SendFault<(T, P)>>
+        ensures { result ≡ Err (SendFault.Memory self) }
+    {
+        Err(SendFault::Memory(self))
+    }
+
+    fn side() -> Side {
+        Side::Room
+    }
 }
 
 /// A send of many pairs. A prefix may have been sent.
@@ -155,6 +202,10 @@ impl<T: Drop, P: Ord + Drop, W: Clone, A: Allocator + Copy, I: Iterator<Item = (
     ghost can_poll = { peekable_can I.can_next };
 
     ghost leaves = { HoldsTail (HasList I.next_gives) };
+
+    ghost still = { λ first mid last. tail_of_tail (HasList I.next_gives) first mid last };
+
+    ghost waits_on = { Side.Room };
 
     ghost back = { unsent_of };
 
@@ -184,6 +235,16 @@ impl<T: Drop, P: Ord + Drop, W: Clone, A: Allocator + Copy, I: Iterator<Item = (
         Wakes<W, A>,
     ) {
         core.poll_sendv(self, ticket, waker)
+    }
+
+    fn refuse(self) -> Result<(), SendFault<Peekable<I>>>
+        ensures { result ≡ Err (SendFault.Memory self) }
+    {
+        Err(SendFault::Memory(self))
+    }
+
+    fn side() -> Side {
+        Side::Room
     }
 }
 

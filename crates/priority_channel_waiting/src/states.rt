@@ -5,7 +5,7 @@ ghost use Rattle.std.specs.Option.{ForSome};
 ghost use Rattle.futures.specs.Poll.{IfReady, OnPending};
 ghost use Rattle.priority_channel_core.specs.Prelude.{nobody, ComparesAtMost, search_bound};
 ghost use Rattle.priority_channel_waiting.specs.Future.{GivesUpTicket};
-ghost use Rattle.priority_channel_waiting.specs.Holding.{unpolled, done, told_by, left_by, PollsKept, TriesKept};
+ghost use Rattle.priority_channel_waiting.specs.Holding.{unpolled, done, told_by, left_by, IsRestOf, PollsKept, TriesKept};
 
 use crate::polled::{Polled, give_up_given};
 use futures::task::Poll;
@@ -142,10 +142,9 @@ impl<K: Drop, N> State<K, N> {
             × (self.new ≡ self.old) × (core.new ≡ core.old) }
         ensures answered { IfReady result.0 (λ _. self.new ≡ done) }
         ensures waits { OnPending result.0 (is_some self.new.kept ≡ is_some self.old.kept) }
-        ensures handed_back { IfSome self.old.kept (λ kept. IfReady result.0 (λ answer.
-            IfSome (K.back answer) (λ rest. K.can_poll rest × K.leaves kept rest))) }
-        ensures kept { IfSome self.old.kept (λ kept. IfSome self.new.kept (λ rest.
-            K.can_poll rest × K.leaves kept rest)) }
+        ensures handed_back { IfReady result.0 (λ answer.
+            IsRestOf K.can_poll K.leaves self.old (K.back answer)) }
+        ensures kept { IsRestOf K.can_poll K.leaves self.old self.new.kept }
     {
         let Some((kept, ticket)) = self.take() else {
             return (Poll::Pending, core.nobody());
@@ -174,10 +173,9 @@ impl<K: Drop, N> State<K, N> {
             × (self.new ≡ self.old) × (core.new ≡ core.old) }
         ensures answered { IfReady result.0 (λ _. self.new ≡ done) }
         ensures waits { OnPending result.0 (is_some self.new.kept ≡ is_some self.old.kept) }
-        ensures handed_back { IfSome self.old.kept (λ kept. IfReady result.0 (λ answer.
-            IfSome (K.back answer) (λ rest. K.can_poll rest × K.leaves kept rest))) }
-        ensures kept { IfSome self.old.kept (λ kept. IfSome self.new.kept (λ rest.
-            K.can_poll rest × K.leaves kept rest)) }
+        ensures handed_back { IfReady result.0 (λ answer.
+            IsRestOf K.can_poll K.leaves self.old (K.back answer)) }
+        ensures kept { IsRestOf K.can_poll K.leaves self.old self.new.kept }
     {
         let Some((kept, given)) = self.take() else {
             return (Poll::Pending, core.nobody());

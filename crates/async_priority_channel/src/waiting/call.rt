@@ -13,7 +13,6 @@ use crate::sender::Sending;
 use futures::Future;
 use futures::task::{Context, Poll};
 use priority_channel_core::errors::{RecvFault, SendFault};
-use priority_channel_core::side::Side;
 use priority_channel_waiting::attempts::{Attempt, ReceiveHeld};
 use priority_channel_waiting::line::{Listing, list_waiter};
 use priority_channel_waiting::timeouts::Ended;
@@ -30,20 +29,20 @@ impl<T, P: Ord, R: Wait + Clone, A: Allocator + Copy> Handle<T, P, R, A> {
     fn poll_call<C: Attempt<T, P, A> + Copy + Drop>(
         &self,
         cx: &mut Context<'_>,
-        side: Side,
         call: C,
         ticket: &mut Option<u64>,
         waiter: &mut Option<Waiter<A>>,
     ) -> Poll<Result<C::Done, Ended<C, Infallible>>>
         requires { C.can_attempt call }
         ensures registered { OnPending result (Covers cx.new (λ source.
-            source ≡ source_of side self.now)) }
+            source ≡ source_of C.waits_on self.now)) }
         ensures kept { Keeps cx.old cx.new }
         ensures answered { IfReady result (λ _. ticket.new ≡ None) }
     {
         if let Some(answer) = self.answer_call(call, ticket) {
             return Poll::Ready(answer);
         }
+        let side = C::side();
         let Some(waiter) = self.register(cx, side, waiter) else {
             self.give_up(ticket.take());
             return Poll::Ready(Err(Ended::Memory(call)));
@@ -181,7 +180,7 @@ impl<'a, T, P: Ord, R: Wait + Clone, A: Allocator + Copy> Future for Reserve<'a,
         }
         let end = self.end;
         let handle = &end.handle;
-        let polled = handle.poll_call(cx, Side::Room, (), &mut self.ticket, &mut self.waiter);
+        let polled = handle.poll_call(cx, (), &mut self.ticket, &mut self.waiter);
         let Poll::Ready(reserved) = polled else {
             return Poll::Pending;
         };
@@ -224,13 +223,7 @@ impl<'a, T: Drop, P: Ord + Drop, R: Wait + Clone, A: Allocator + Copy> Future
         }
         let end = self.end;
         let handle = &end.handle;
-        let polled = handle.poll_call(
-            cx,
-            Side::Message,
-            ReceiveHeld,
-            &mut self.ticket,
-            &mut self.waiter,
-        );
+        let polled = handle.poll_call(cx, ReceiveHeld, &mut self.ticket, &mut self.waiter);
         let Poll::Ready(leased) = polled else {
             return Poll::Pending;
         };

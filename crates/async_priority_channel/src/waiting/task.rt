@@ -1,52 +1,19 @@
-//! What the futures have in common.
-ghost use Rattle.std.specs.Prelude.{◌≡◌};
+//! What a future keeps between its polls, and a poll of it.
+ghost use Rattle.std.specs.Prelude.{◌≡◌, true, None, is_some};
+ghost use Rattle.std.specs.Option.{ForSome};
 ghost use Rattle.futures.specs.Task.{Covers, Keeps};
 ghost use Rattle.futures.specs.Poll.{IfReady, OnPending};
-ghost use Rattle.priority_channel_waiting.specs.Holding.{done};
+ghost use Rattle.priority_channel_waiting.specs.Holding.{done, IsRestOf};
+ghost use Rattle.async_priority_channel.specs.Handles.{source_of};
 
-use crate::end::{End, Role};
 use crate::handle::Handle;
 use crate::waiting::RecvState;
 use futures::task::{Context, Poll};
-use priority_channel_core::errors::RecvFault;
-use priority_channel_core::side::Side;
+use priority_channel_waiting::polled::Polled;
 use priority_channel_waiting::states::{One, State};
 use priority_channel_waiting::waiter::Waiter;
-use std::alloc::{Allocator, Global};
-use std::marker::Model;
+use std::alloc::Allocator;
 use std::sync::Wait;
-
-/// A `Recv`, a `Send` or a `Sendv`: what it keeps between its polls, and the handle by which it
-/// receives or sends.
-///
-/// If it is polled again after its answer, it is pending, changes nothing, and asks to be polled
-/// once more. So it should not be polled any more.
-///
-/// Cost: a poll makes one try, and a second one if it has to wait. It compares O(log w) tickets,
-/// where w waiters are listed. A poll that waits takes memory for its waiter, which is kept, and
-/// for its entry in the waiting list.
-#[must_use = "a future does nothing until it is polled: `block_on`, or a call that ends in `_blocking`"]
-pub struct Waiting<'a, S: Role, K, N, T, P: Ord, R: Wait + Clone, A: Allocator + Copy = Global> {
-    pub(crate) end: &'a End<S, T, P, R, A>,
-    pub(crate) task: Task<K, N, A>,
-}
-
-impl<'a, S: Role, K, N, T, P: Ord, R: Wait + Clone, A: Allocator + Copy> Model
-    for Waiting<'a, S, K, N, T, P, R, A> {
-    ghost use Rattle.async_priority_channel.specs.Handles.{Underway};
-
-    ghost Value = { Underway K };
-
-    ghost view = { λ f. record { channel = f.end.now; state = f.task.state } };
-}
-
-impl<S: Role, K: Drop, N, T, P: Ord, R: Wait + Clone, A: Allocator + Copy> Drop
-    for Waiting<'_, S, K, N, T, P, R, A> {
-    fn drop(self) {
-        let Waiting { end, task } = self;
-        task.end(&end.handle);
-    }
-}
 
 /// The state of a future, and the waiter of its task, which is made when it first waits.
 #[derive(Drop)]
@@ -83,6 +50,71 @@ impl<K: Drop, N, A: Allocator + Copy> Task<K, N, A> {
         unsent
     }
 
+    // Makes the call at once and without memory for waiting, or else waits with the task's waker.
+    pub(crate) fn poll<T, P: Ord, R: Wait + Clone>(
+        &mut self,
+        handle: &Handle<T, P, R, A>,
+        cx: &mut Context<'_>,
+    ) -> Poll<K::Answer>
+    where
+        K: Polled<T, P, Waiter<A>, A>,
+        requires { ForSome self.old.state.kept K.can_poll }
+        ensures registered { OnPending result (Covers cx.new (λ source.
+            source ≡ source_of K.waits_on handle.now)) }
+        ensures kept { Keeps cx.old cx.new }
+        ensures answered { IfReady result (λ _. self.new.state ≡ done) }
+        ensures waits { OnPending result
+            (is_some self.new.state.kept ≡ is_some self.old.state.kept) }
+        ensures handed_back { IfReady result (λ answer.
+            IsRestOf K.can_poll K.leaves self.old.state (K.back answer)) }
+        ensures left { IsRestOf K.can_poll K.leaves self.old.state self.new.state.kept }
+        ensures done { self.old.state.kept ≡ None → (result ≡ Poll.Pending)
+            × (self.new.state ≡ self.old.state) }
+    {
+        if self.state.is_done() {
+            return cx.yield_now();
+        }
+        let mut held = handle.hold();
+        let (tried, wakes) = self.state.try_on(held.core());
+        handle.release(held, wakes);
+        match tried {
+            Poll::Ready(answer) => Poll::Ready(answer),
+            Poll::Pending => self.wait(handle, cx),
+        }
+    }
+
+    // Stores the waker, and then makes the call or waits.
+    fn wait<T, P: Ord, R: Wait + Clone>(
+        &mut self,
+        handle: &Handle<T, P, R, A>,
+        cx: &mut Context<'_>,
+    ) -> Poll<K::Answer>
+    where
+        K: Polled<T, P, Waiter<A>, A>,
+        requires callable { ForSome self.old.state.kept K.can_poll }
+        requires kept { is_some self.old.state.kept ≡ true }
+        ensures registered { OnPending result (Covers cx.new (λ source.
+            source ≡ source_of K.waits_on handle.now)) }
+        ensures kept { Keeps cx.old cx.new }
+        ensures answered { IfReady result (λ _. self.new.state ≡ done) }
+        ensures waits { OnPending result
+            (is_some self.new.state.kept ≡ is_some self.old.state.kept) }
+        ensures handed_back { IfReady result (λ answer.
+            IsRestOf K.can_poll K.leaves self.old.state (K.back answer)) }
+        ensures left { IsRestOf K.can_poll K.leaves self.old.state self.new.state.kept }
+    {
+        let Some(waiter) = handle.register(cx, K::side(), &mut self.waiter) else {
+            let Some(rest) = self.give_up(handle) else {
+                unreachable!()
+            };
+            return Poll::Ready(rest.refuse());
+        };
+        let mut held = handle.hold();
+        let (polled, wakes) = self.state.poll_on(held.core(), waiter);
+        handle.release(held, wakes);
+        polled
+    }
+
     /// Gives up the ticket, if there is one.
     pub(crate) fn end<T, P: Ord, R: Wait + Clone>(mut self, handle: &Handle<T, P, R, A>) {
         if self.state.ticket().is_some() {
@@ -92,34 +124,6 @@ impl<K: Drop, N, A: Allocator + Copy> Task<K, N, A> {
 }
 
 impl<A: Allocator + Copy> Task<(), One, A> {
-    /// Receives at once and without memory for waiting, or else waits with the task's waker.
-    pub(crate) fn receive<T, P: Ord, R: Wait + Clone>(
-        &mut self,
-        handle: &Handle<T, P, R, A>,
-        cx: &mut Context<'_>,
-    ) -> Poll<Result<(T, P), RecvFault>>
-        ensures registered { OnPending result (Covers cx.new (λ source.
-            source ≡ handle.now.message)) }
-        ensures kept { Keeps cx.old cx.new }
-        ensures answered { IfReady result (λ _. self.new.state ≡ done) }
-        ensures waits { OnPending result (self.new.state.kept ≡ self.old.state.kept) }
-    {
-        let mut held = handle.hold();
-        let (tried, wakes) = self.state.try_on(held.core());
-        handle.release(held, wakes);
-        if let Poll::Ready(received) = tried {
-            return Poll::Ready(received);
-        }
-        let Some(waiter) = handle.register(cx, Side::Message, &mut self.waiter) else {
-            self.give_up(handle);
-            return Poll::Ready(Err(RecvFault::Memory));
-        };
-        let mut held = handle.hold();
-        let (polled, wakes) = self.state.poll_on(held.core(), waiter);
-        handle.release(held, wakes);
-        polled
-    }
-
     /// Begins another receive. The waiter is kept.
     pub(crate) fn begin_again(&mut self) {
         self.state = RecvState::new();

@@ -1,10 +1,10 @@
 //! What the channel's lock guards, and the holds of the lock.
 ghost use Rattle.std.specs.Prelude.{◌≡◌, ◌++◌, None, IsSomeAnd, box_value};
 
+use crate::closing::{Closing, Watch};
+use crate::selecting::{Listed, Selecting, Sight, Taken};
+use crate::waiter::{Core, Waiter, wake_all, wake_each};
 use priority_channel_core::awaitable_atomics::Wakes;
-use priority_channel_waiting::closing::{Closing, Watch};
-use priority_channel_waiting::selecting::{Listed, Selecting, Sight, Taken};
-use priority_channel_waiting::waiter::{Core, Waiter, wake_all, wake_each};
 use std::alloc::Allocator;
 use std::marker::Model;
 use std::sync::{MutexGuard, Wait};
@@ -24,7 +24,7 @@ pub struct Guarded<T, P: Ord, A: Allocator + Copy> {
 
 impl<T, P: Ord, A: Allocator + Copy> Model for Guarded<T, P, A> {
     ghost use Rattle.std.specs.Prelude.{option_map, box_value};
-    ghost use Rattle.async_priority_channel.specs.Guarded.{Content, HaveSeenAll};
+    ghost use Rattle.priority_channel_waiting.specs.Guarded.{Content, HaveSeenAll};
 
     ghost Value = { Content T P };
 
