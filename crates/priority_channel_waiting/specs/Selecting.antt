@@ -56,7 +56,9 @@ module _ {T P W : Type 0} where
   -- nothing changes.
   abbrev pub Enrols : CountedState T P W → Option ℕ → ℕ → Listed → Watched → Watched → Type 0
   Enrols core given waiter (Under ticket) old new =
-      listing given waiter old.waiters old.next_ticket
-      ≡ record { ticket = ticket; waiters = new.waiters; next_ticket = new.next_ticket }
+      (listing given waiter old.waiters old.next_ticket
+      ≡ record { ticket = ticket; waiters = new.waiters; next_ticket = new.next_ticket })
+      × (new.sight ≡ old.sight)
   Enrols core given waiter Over old new = (seen_of old.sight core ≡ None) × (new ≡ old)
-  Enrols core given waiter Refused old new = new.waiters ≡ without_given given old.waiters
+  Enrols core given waiter Refused old new =
+      new ≡ record old { waiters = without_given given old.waiters; seen = new.seen }
