@@ -146,8 +146,8 @@ impl<S: Role, T, P: Ord, R: Wait + Clone, A: Allocator + Copy> End<S, T, P, R, A
 
     /// The number of places that are held: by permits, and by leases for messages in hand.
     ///
-    /// Cost: one hold of the lock. `len` takes another, and a message may be received or put back in
-    /// between.
+    /// Cost: one hold of the lock. `len` takes another, and a message may be received or put back
+    /// in between.
     ///
     /// ```
     /// let (tx, rx) = bounded(&rt, rt.alloc(), 2)?;

@@ -64,7 +64,8 @@ impl<W, A: Allocator + Copy> Wakes<W, A> {
 /// whole lists out, so it takes no memory.
 ///
 /// ```
-/// let mut length: AwaitableAtomicCounterAndBit<Waker> = AwaitableAtomicCounterAndBit::new(alloc, 5);
+/// let mut length: AwaitableAtomicCounterAndBit<Waker> =
+///     AwaitableAtomicCounterAndBit::new(alloc, 5);
 /// let (before, wakes) = length.incr(2);
 /// assert_eq!(rt; before, (false, 5));
 /// let (_for_room, _for_message) = wakes.into_lists();
@@ -333,8 +334,8 @@ impl<W, A: Allocator + Copy> AwaitableAtomicCounterAndBit<W, A> {
         self.decr_many(1)
     }
 
-    /// Subtracts so many from the count, and does else as `decr`. If the count does not fall, nobody
-    /// is taken off.
+    /// Subtracts so many from the count, and does else as `decr`. If the count stays, nobody is taken
+    /// off.
     #[inline(always)]
     pub fn decr_many(&mut self, n: u64) -> ((bool, u64), Wakes<W, A>)
         requires { n ≤ self.old.word.count }

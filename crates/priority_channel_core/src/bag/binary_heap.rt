@@ -1,5 +1,5 @@
-//! A binary heap, and the two ways in which an item moves through it. The parent of the item at i is
-//! at (i - 1) / 2.
+//! A binary heap, and the two ways in which an item moves through it. The parent of the item at i
+//! is at (i - 1) / 2.
 ghost use Rattle.std.specs.Prelude.{◌≡◌, ◌+◌, ◌*◌, ◌<◌, ◌≤◌, false, length, IsPermutation, swap};
 ghost use Rattle.std.specs.BinaryHeap.Sift.{SiftsUp, IsGreaterChild};
 ghost use Rattle.priority_channel_core.specs.bag.Prelude.{digits, item_cmp, MendsAt};

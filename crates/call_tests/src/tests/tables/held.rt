@@ -1,5 +1,5 @@
-//! Places that are held: each call beside those that others hold, what comes of them afterwards, and
-//! whom that wakes.
+//! Places that are held: each call beside those that others hold, what comes of them afterwards,
+//! and whom that wakes.
 use super::{Mirrored, input, watch_rounds};
 use crate::tests::driver::all::ALL;
 use crate::tests::driver::calls::{Call, Side, Way};

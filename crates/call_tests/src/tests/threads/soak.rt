@@ -1,6 +1,6 @@
 //! Rounds of threads that send and receive by drawn calls over a drawn channel, and hold places of
-//! it now and then. Each message comes once or comes back, those of one sender and one priority come
-//! in their order, what is held counts, and each round ends.
+//! it now and then. Each message comes once or comes back, those of one sender and one priority
+//! come in their order, what is held counts, and each round ends.
 //!
 //! The test runs a few rounds, and `tools/soak` runs it for minutes, from another seed.
 use super::Threaded;
