@@ -15,7 +15,6 @@ mod messages;
 mod scarce;
 mod script;
 mod taking;
-mod texts;
 mod waits;
 mod wakers;
 

@@ -1,7 +1,10 @@
-//! Weak handles, and to which channel handles belong.
+//! Weak handles, to which channel handles belong, and what they print.
 use super::script::Host;
 use super::{expect_equal, expect_equal_at};
 use async_priority_channel::{End, Role, bounded, unbounded};
+use std::alloc::AllocGlobal;
+use std::fmt::Debug;
+use std::process::Abort;
 
 // A weak handle counts for nothing beside the last of its side, and opens nothing behind it.
 fn expect_closed_by_last<S: Role, O: Role, R: Host>(
@@ -89,4 +92,24 @@ fn each_of_many_channels_is_itself_alone(rt: HostRuntime) {
             expect_equal(&rt, are_same, (one == other, one == other));
         }
     }
+}
+
+// A message that can be neither printed nor compared.
+#[derive(Drop)]
+struct Opaque;
+
+fn expect_printed<R: Abort + AllocGlobal>(rt: &R, handle: &impl Debug, name: &str) {
+    let printed = format!(in rt.alloc(); "{handle:?}").expect(rt, "memory");
+    expect_equal(rt, printed.as_str(), name);
+}
+
+#[test]
+fn handles_print_their_names(rt: HostRuntime) {
+    let (tx, rx) = bounded::<Opaque, u64, _, _>(&rt, rt.alloc(), 1).expect(&rt, "a channel");
+    let senders = tx.downgrade().expect(&rt, "a weak handle");
+    let receivers = rx.downgrade().expect(&rt, "a weak handle");
+    expect_printed(&rt, &tx, "Sender { .. }");
+    expect_printed(&rt, &rx, "Receiver { .. }");
+    expect_printed(&rt, &senders, "WeakSender { .. }");
+    expect_printed(&rt, &receivers, "WeakReceiver { .. }");
 }
