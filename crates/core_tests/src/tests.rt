@@ -5,7 +5,6 @@ use std::process::Abort;
 mod calls;
 mod iterators;
 mod lists;
-mod long;
 mod memory;
 mod rows;
 mod runs;
