@@ -78,6 +78,14 @@ module _ {T P W M F : Type 0} (holds : M → List (T × P) → Type 0) (cmp : P 
       performed (ChangePriority none priority) meant told at = absurd none
       performed call meant told at = at
 
+-- of a call that means only one
+pub makes_as : {T P W M F : Type 0} {holds : M → List (T × P) → Type 0} {cmp : P → P → Ordering} {is_clone : W → W → Type 0} {old new : State T P W} {made call : Call T P W M F}
+    {reply given : Answer T P M} {handed wakes : Handed W} {meant : Calls T P W} {told : Answers T P} → made ≡ call → reply ≡ given → handed ≡ wakes
+    → ((other : Calls T P W) → SameCall holds call other → other ≡ meant) → SameAnswer holds given told → Step cmp is_clone old meant told wakes new
+    → Makes holds cmp is_clone old made reply handed new
+makes_as made_is reply_is handed_is only same step =
+    rw (made_is, reply_is, handed_is) (makes_step _ _ _ _ _ _ _ _ (λ other is. (_, same, rw (only other is) step)))
+
 module _ {T P W M F : Type 0} (holds : M → List (T × P) → Type 0) (cmp : P → P → Ordering) (is_clone : W → W → Type 0) where
   pub RunsFront-none : (old : State T P W) (calls : List (Call T P W M F)) → RunsFront holds cmp is_clone old calls [] calls old
   RunsFront-none old calls = record { at = λ meant same. ([], meant, places_same meant, tt, same, refl) }

@@ -334,8 +334,8 @@ impl<W, A: Allocator + Copy> AwaitableAtomicCounterAndBit<W, A> {
         self.decr_many(1)
     }
 
-    /// Subtracts so many from the count, and does else as `decr`. If the count stays, nobody is taken
-    /// off.
+    /// Subtracts so many from the count, and does else as `decr`. If the count stays, nobody is
+    /// taken off.
     #[inline(always)]
     pub fn decr_many(&mut self, n: u64) -> ((bool, u64), Wakes<W, A>)
         requires { n ≤ self.old.word.count }

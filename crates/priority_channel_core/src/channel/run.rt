@@ -96,7 +96,6 @@ impl<T: Drop, P: Ord + Drop, W: Clone, A: Allocator + Copy> PriorityQueueChannel
         Ran { done, left: calls }
     }
 
-    #[tactic(auto, using(crate::proofs::Running::makes_step, crate::proofs::Running::makes_performed))]
     fn make<I: Iterator<Item = (T, P)>, F: Fn(&T, &P) -> bool + Drop>(
         &mut self,
         call: Call<T, P, W, Peekable<I>, F>,

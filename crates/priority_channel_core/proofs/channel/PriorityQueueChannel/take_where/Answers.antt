@@ -1,6 +1,6 @@
 use Rattle.std.proofs.Common.{length, arith, refl, rules}
 use Rattle.priority_channel_core.specs.Prelude.{Frees, state_of}
-use Rattle.priority_channel_core.proofs.Evicting.{good_frees, frees_one}
+use Rattle.priority_channel_core.proofs.Evicting.{good_frees, frees_one, sound_freed}
 use Rattle.priority_channel_core.proofs.channel.PriorityQueueChannel.take_where.Goals as goal
 
 pub returns-in-Some-clause-step : goal.returns-in-Some-clause-step
@@ -26,3 +26,9 @@ returns-in-None-clause-step g c = (
 
 pub returns-in-None-clause-none : goal.returns-in-None-clause-none
 returns-in-None-clause-none g c = rw (← c.self.view_is) c.in-None.ensures.none
+
+pub invariant_of-self : goal.invariant_of-self
+invariant_of-self g c =
+    let own = c.self.inside in
+    sound_freed own.bag c.take_where.new.self own.word.word c.decr-wakes.new.self.word c.decr-wakes.result.1 own.capacity own.is_reserved own.sender_count own.receiver_count
+    c.self.invariant c.in-Some.pair c.in-Some.ensures.taken (search rules) (search rules) c.decr-wakes.ensures.handed c.decr-wakes.ensures.word c.decr-wakes.ensures.tickets
