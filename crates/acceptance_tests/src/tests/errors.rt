@@ -37,8 +37,7 @@ fn expect_debug<R: Abort + AllocGlobal>(rt: &R, error: impl Error, wanted: &str)
 }
 
 #[test]
-fn each_error_prints_its_texts_whatever_it_holds(rt: HostRuntime) {
-    // texts of the errors
+fn texts_of_the_errors(rt: HostRuntime) {
     expect_text(&rt, TryRecvError::Empty, RECV_EMPTY);
     expect_text(&rt, TryRecvError::Closed, RECV_CLOSED);
     expect_text(&rt, TrySendError::Full(1), SEND_FULL);
@@ -48,7 +47,10 @@ fn each_error_prints_its_texts_whatever_it_holds(rt: HostRuntime) {
     expect_text(&rt, TrySendError::Full(Opaque), SEND_FULL);
     expect_text(&rt, TrySendError::Closed(Opaque), SEND_CLOSED);
     expect_text(&rt, RecvFault::Closed(RecvError), RECV_CLOSED);
-    // texts of the refusals for memory
+}
+
+#[test]
+fn texts_of_the_refusals_for_memory(rt: HostRuntime) {
     let closed = SendFault::Closed(SendError(1));
     expect_text(&rt, TrySendError::Memory(1), SEND_MEMORY);
     expect_text(&rt, SendFault::Memory(1), SEND_MEMORY);
@@ -61,8 +63,7 @@ fn each_error_prints_its_texts_whatever_it_holds(rt: HostRuntime) {
 }
 
 #[test]
-fn each_error_prints_its_debug_text_whatever_it_holds(rt: HostRuntime) {
-    // debug texts of the errors
+fn debug_texts_of_the_errors(rt: HostRuntime) {
     expect_debug(&rt, SendError(1), "SendError(..)");
     expect_debug(&rt, TrySendError::Full(1), "Full(..)");
     expect_debug(&rt, TrySendError::Closed(1), "Closed(..)");
@@ -76,7 +77,10 @@ fn each_error_prints_its_debug_text_whatever_it_holds(rt: HostRuntime) {
     let closed = SendFault::Closed(SendError(Opaque));
     expect_debug(&rt, closed, "Closed(..)");
     expect_debug(&rt, SendFault::Memory(Opaque), "Memory(..)");
-    // These are derived.
+}
+
+#[test]
+fn debug_texts_that_are_derived(rt: HostRuntime) {
     expect_debug(&rt, RecvError, "RecvError");
     expect_debug(&rt, TryRecvError::Empty, "Empty");
     expect_debug(&rt, TryRecvError::Closed, "Closed");

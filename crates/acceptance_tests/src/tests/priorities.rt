@@ -1,7 +1,7 @@
 //! Priorities of other types, on handles at once, by futures, and on the core.
 use super::word::unwoken;
 use super::{Host, expect_equal, expect_true, wait_for};
-use async_priority_channel::unbounded;
+use async_priority_channel::{Receiver, Sender, unbounded};
 use priority_channel_core::channel::PriorityQueueChannel;
 use std::cmp::Reverse;
 use std::fmt::Debug;
@@ -36,21 +36,40 @@ where
 {
     let (tx, rx) = unbounded(rt, rt.alloc()).expect(rt, "a channel");
     for (msg, priority) in pairs {
-        let is_sent = if by_futures {
-            wait_for(rt, tx.send(*msg, *priority)).is_ok()
-        } else {
-            tx.try_send(*msg, *priority).is_ok()
-        };
-        expect_true(rt, is_sent, "a send");
+        send(rt, &tx, *msg, *priority, by_futures);
     }
     for msg in wanted {
-        let came = if by_futures {
-            wait_for(rt, rx.recv()).ok()
-        } else {
-            rx.try_recv().ok()
-        };
-        expect_equal(rt, came.map(|pair| pair.0), Some(*msg));
+        expect_equal(rt, receive(rt, &rx, by_futures), Some(*msg));
     }
+}
+
+fn send<R: Host, T: Drop, P: Ord + Drop>(
+    rt: &R,
+    tx: &Sender<T, P, R>,
+    msg: T,
+    priority: P,
+    by_futures: bool,
+) {
+    let is_sent = if by_futures {
+        wait_for(rt, tx.send(msg, priority)).is_ok()
+    } else {
+        tx.try_send(msg, priority).is_ok()
+    };
+    expect_true(rt, is_sent, "a send");
+}
+
+fn receive<R: Host, T: Drop, P: Ord + Drop>(
+    rt: &R,
+    rx: &Receiver<T, P, R>,
+    by_futures: bool,
+) -> Option<T> {
+    let received = if by_futures {
+        wait_for(rt, rx.recv()).ok()
+    } else {
+        rx.try_recv().ok()
+    };
+    let (msg, _) = received?;
+    Some(msg)
 }
 
 #[test]

@@ -38,31 +38,40 @@ impl<'a> CoreStage<'a> {
             ["bounded", word] => {
                 self.core = Core::bounded(self.alloc, capacity(rt, *word, u64::MAX));
             }
-            ["bounded_reserved", word] => {
-                let capacity = capacity(rt, *word, MOST_RESERVED);
-                let made: Result<Core<'a>, AllocError> = Core::bounded_reserved(
-                    self.alloc, capacity,
-                );
-                match made {
-                    Ok(core) => self.core = core,
-                    Err(error) => return told(rt, error),
-                }
-            }
+            ["bounded_reserved", word] => return self.reserve(rt, *word),
             [name, "is", call @ ..] => {
                 let state = State::new(rt, &mut self.ledger, call);
                 self.states.push((*name, state)).expect(rt, "memory");
             }
-            [name, call @ ..] => {
-                for (other, state) in self.states.iter_mut() {
-                    if *other == *name {
-                        return state.make(rt, &mut self.ledger, &mut self.core, call);
-                    }
-                }
-                return ask(rt, &mut self.ledger, &mut self.core, *name, call);
-            }
+            [name, call @ ..] => return self.make_by_name(rt, *name, call),
             [] => {}
         }
         text(rt, "")
+    }
+
+    fn reserve<R: Abort + AllocGlobal>(&mut self, rt: &R, word: Text) -> String {
+        let capacity = capacity(rt, word, MOST_RESERVED);
+        let made: Result<Core<'a>, AllocError> = Core::bounded_reserved(self.alloc, capacity);
+        match made {
+            Ok(core) => self.core = core,
+            Err(error) => return told(rt, error),
+        }
+        text(rt, "")
+    }
+
+    // A call of the state of this name or, if there is none, of the core.
+    fn make_by_name<R: Abort + AllocGlobal>(
+        &mut self,
+        rt: &R,
+        name: Text,
+        call: &[Text],
+    ) -> String {
+        for (other, state) in self.states.iter_mut() {
+            if *other == name {
+                return state.make(rt, &mut self.ledger, &mut self.core, call);
+            }
+        }
+        ask(rt, &mut self.ledger, &mut self.core, name, call)
     }
 
     /// Receives what is pending, so that each pair has come out or back.
