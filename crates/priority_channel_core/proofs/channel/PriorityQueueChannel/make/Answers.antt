@@ -35,7 +35,7 @@ returns-in-PollSendv-clause-step g c =
     rw (c.in-PollSendv.is, c.new-in-PollSendv.ensures.answer, c.new-in-PollSendv.ensures.handed)
     (makes_performed _ _ _ _ _ _ _ _ (call.PollSendv c.in-PollSendv.msgs c.in-PollSendv.ticket c.in-PollSendv.waker) c.poll_sendv-poll.ensures.step (λ other same. same))
 
--- A search finds these too, but then takes more than half of the time of this function's proof.
+-- A search finds these too, but then the proof of this function takes nearly twice as long.
 pub returns-in-TrySend-clause-step : goal.returns-in-TrySend-clause-step
 returns-in-TrySend-clause-step g c = makes_as c.in-TrySend.is c.new.ensures.answer c.new.ensures.handed (λ other is. is) refl c.try_send-reply.ensures.step
 
