@@ -1,4 +1,4 @@
-use Rattle.std.proofs.Common.{◌≡◌, ◌+◌, ◌≤◌, true, false, sym, subst, ◌∙◌, arith, refl, rules, is_gt}
+use Rattle.std.proofs.Common.{◌≡◌, ◌+◌, true, false, sym, subst, ◌∙◌, arith, refl, rules, is_gt}
 use Rattle.std.proofs.lemmas.List.{get_or_default}
 use Rattle.priority_channel_core.specs.bag.Prelude.{item_cmp, pair_of, Tells, Item}
 use Rattle.priority_channel_core.proofs.items.Firsts.{FoundWithin, found_now, failed_now, passed_by, of_all}

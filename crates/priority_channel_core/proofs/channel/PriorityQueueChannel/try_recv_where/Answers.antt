@@ -1,4 +1,4 @@
-use Rattle.std.proofs.Common.{length, arith, refl, rules, sym, ◌∙◌}
+use Rattle.std.proofs.Common.{refl, rules}
 use Rattle.priority_channel_core.specs.Prelude.{Frees, state_of}
 use Rattle.priority_channel_core.proofs.Evicting.{good_frees, frees_one, sound_freed}
 use Rattle.priority_channel_core.proofs.channel.PriorityQueueChannel.try_recv_where.Goals as goal
