@@ -1,5 +1,5 @@
 //! Waits on a thread that end with their time, and what an ended wait leaves.
-use super::{Alloc, Channel, Passes, Scene, count, play};
+use super::{Alloc, Caller, Channel, Passes, Scene, count, play};
 use crate::tests::{Host, expect_equal};
 use priority_channel_waiting::timeouts::{RecvTimeoutError, SendTimeoutError};
 use priority_channel_witnessed::Recording;
@@ -43,10 +43,8 @@ fn expect_past<R: Host>(rt: &R, deadline: Instant) {
     expect_equal(rt, (deadline, now, deadline <= now), (deadline, now, true));
 }
 
-/// A receive from an empty channel, and sends into one that is full with a pair. None ends before
-/// its limit or its deadline, and a waiter whose time has passed is listed no more. Then calls
-/// without time: each is a try, which asks for no memory, so the request that is to be refused
-/// never comes. Of three pairs by one call one is sent in the end.
+/// Waits that end with their time, and then calls without time. A waiter whose time has passed is
+/// listed no more.
 pub(super) fn end_in_time<'a, J: Recording, R: Host>(
     rt: &R,
     alloc: Alloc<'a>,
@@ -55,62 +53,98 @@ pub(super) fn end_in_time<'a, J: Recording, R: Host>(
 ) {
     let mut pass = passes.pop().expect(rt, "a pass");
     let begun = Instant::now(rt).expect(rt, "a clock");
+    receive_in_time(rt, channel, &mut pass, begun);
+    send_in_time(rt, channel, &mut pass);
+    // Each is a try, which asks for no memory, so the request that is to be refused never comes.
+    alloc.refuse_nth(1);
+    call_without_time(rt, channel, &mut pass, begun);
+    expect_equal(rt, alloc.refuse_none(), true);
+    send_three_in_time(rt, alloc, channel, &mut pass);
+    passes.push(pass).expect(rt, "its own place");
+}
+
+// From an empty channel: neither ends before its limit or its deadline.
+fn receive_in_time<'a, J: Recording, R: Host>(
+    rt: &R,
+    channel: &Channel<J, Alloc<'a>>,
+    pass: &mut Caller<J, Alloc<'a>>,
+    begun: Instant,
+) {
     let counting = Counting {
         rt,
         readings: Cell::new(0),
     };
-    let late = channel.recv_timeout(&counting, &mut pass, limit());
+    let late = channel.recv_timeout(&counting, pass, limit());
     let took = begun.elapsed(rt).expect(rt, "a clock");
     let readings = counting.readings.get();
     expect_equal(rt, late, Err(RecvTimeoutError::Timeout));
     let is_right = readings < 20 && took >= limit();
     expect_equal(rt, (readings, took, is_right), (readings, took, true));
     let end = deadline(rt);
-    let late = channel.recv_deadline(rt, &mut pass, end);
+    let late = channel.recv_deadline(rt, pass, end);
     expect_equal(rt, late, Err(RecvTimeoutError::Timeout));
     expect_past(rt, end);
-    let (_, wakes) = channel.try_send(rt, &mut pass, 1, 5);
-    expect_equal(rt, count(wakes), 0);
-    let end = deadline(rt);
-    let late = channel.send_timeout(rt, &mut pass, 2, 6, limit());
-    expect_equal(rt, late, Err(SendTimeoutError::Timeout((2, 6))));
-    expect_past(rt, end);
-    let end = deadline(rt);
-    let late = channel.send_deadline(rt, &mut pass, 2, 6, end);
-    expect_equal(rt, late, Err(SendTimeoutError::Timeout((2, 6))));
-    expect_past(rt, end);
-    let (_, wakes) = channel.try_recv(rt, &mut pass);
-    expect_equal(rt, count(wakes), 0);
+}
 
-    alloc.refuse_nth(1);
-    let late = channel.recv_timeout(rt, &mut pass, Duration::ZERO);
+// Into a channel that is full with a pair, which is received then.
+fn send_in_time<'a, J: Recording, R: Host>(
+    rt: &R,
+    channel: &Channel<J, Alloc<'a>>,
+    pass: &mut Caller<J, Alloc<'a>>,
+) {
+    let (_, wakes) = channel.try_send(rt, pass, 1, 5);
+    expect_equal(rt, count(wakes), 0);
+    let end = deadline(rt);
+    let late = channel.send_timeout(rt, pass, 2, 6, limit());
+    expect_equal(rt, late, Err(SendTimeoutError::Timeout((2, 6))));
+    expect_past(rt, end);
+    let end = deadline(rt);
+    let late = channel.send_deadline(rt, pass, 2, 6, end);
+    expect_equal(rt, late, Err(SendTimeoutError::Timeout((2, 6))));
+    expect_past(rt, end);
+    let (_, wakes) = channel.try_recv(rt, pass);
+    expect_equal(rt, count(wakes), 0);
+}
+
+fn call_without_time<'a, J: Recording, R: Host>(
+    rt: &R,
+    channel: &Channel<J, Alloc<'a>>,
+    pass: &mut Caller<J, Alloc<'a>>,
+    begun: Instant,
+) {
+    let late = channel.recv_timeout(rt, pass, Duration::ZERO);
     expect_equal(rt, late, Err(RecvTimeoutError::Timeout));
-    let late = channel.recv_deadline(rt, &mut pass, begun);
+    let late = channel.recv_deadline(rt, pass, begun);
     expect_equal(rt, late, Err(RecvTimeoutError::Timeout));
-    let sent = channel.send_deadline(rt, &mut pass, 3, 7, begun);
+    let sent = channel.send_deadline(rt, pass, 3, 7, begun);
     expect_equal(rt, sent, Ok(()));
-    let late = channel.send_timeout(rt, &mut pass, 4, 8, Duration::ZERO);
+    let late = channel.send_timeout(rt, pass, 4, 8, Duration::ZERO);
     expect_equal(rt, late, Err(SendTimeoutError::Timeout((4, 8))));
-    let late = channel.send_deadline(rt, &mut pass, 4, 8, begun);
+    let late = channel.send_deadline(rt, pass, 4, 8, begun);
     expect_equal(rt, late, Err(SendTimeoutError::Timeout((4, 8))));
-    let received = channel.recv_deadline(rt, &mut pass, begun);
+    let received = channel.recv_deadline(rt, pass, begun);
     expect_equal(rt, received, Ok((3, 7)));
-    expect_equal(rt, alloc.refuse_none(), true);
+}
 
+// Of three pairs by one call one is sent in the end.
+fn send_three_in_time<'a, J: Recording, R: Host>(
+    rt: &R,
+    alloc: Alloc<'a>,
+    channel: &Channel<J, Alloc<'a>>,
+    pass: &mut Caller<J, Alloc<'a>>,
+) {
     let pairs = Vec::from_array(alloc, [(7u64, 1u64), (8, 1), (9, 1)]).expect(rt, "memory");
     let end = deadline(rt);
-    let sent = channel.sendv_timeout(rt, &mut pass, pairs.into_iter().peekable(), limit());
+    let sent = channel.sendv_timeout(rt, pass, pairs.into_iter().peekable(), limit());
     expect_past(rt, end);
     let rest = sent.err().expect(rt, "room for one and not for three");
-    let told = (rest.is_timeout(), channel.len(rt, &mut pass));
-    expect_equal(rt, told, (true, 1));
+    expect_equal(rt, (rest.is_timeout(), channel.len(rt, pass)), (true, 1));
     let end = deadline(rt);
-    let sent = channel.sendv_deadline(rt, &mut pass, rest.into_inner(), end);
+    let sent = channel.sendv_deadline(rt, pass, rest.into_inner(), end);
     expect_past(rt, end);
     let error = sent.err().expect(rt, "room for none");
     let told = (error.is_timeout(), error.into_inner().count());
     expect_equal(rt, told, (true, 2));
-    passes.push(pass).expect(rt, "its own place");
 }
 
 #[test]
