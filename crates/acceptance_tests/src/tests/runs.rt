@@ -74,16 +74,15 @@ fn expect_nobody(rt: &impl Abort, response: &Response<u64, u64, u64, Pairs, Memo
     expect_equal(rt, counts, (0, 0));
 }
 
-#[test]
-fn a_run_of_four_calls_and_a_run_of_none(rt: HostRuntime) {
-    let alloc = Refusing::new(rt.alloc());
-    let made: Result<Core<'_>, AllocError> = Core::bounded_reserved(&alloc, 2);
-    let mut core = made.expect(&rt, "a channel");
-    let mut calls = Vec::new(&alloc);
-    add(&rt, &mut calls, Call::TrySend(1, 5));
-    add(&rt, &mut calls, Call::TryRecv);
-    add(&rt, &mut calls, Call::TryRecv);
-    add(&rt, &mut calls, Call::Close);
+// The channel behind its four calls.
+fn run_four<'a, R: Abort + AllocGlobal>(rt: &R, alloc: Memory<'a>) -> Core<'a> {
+    let made: Result<Core<'a>, AllocError> = Core::bounded_reserved(alloc, 2);
+    let mut core = made.expect(rt, "a channel");
+    let mut calls = Vec::new(alloc);
+    add(rt, &mut calls, Call::TrySend(1, 5));
+    add(rt, &mut calls, Call::TryRecv);
+    add(rt, &mut calls, Call::TryRecv);
+    add(rt, &mut calls, Call::Close);
     let wanted = [
         "TrySend(Ok(()))",
         "TryRecv(Ok((1, 5)))",
@@ -91,8 +90,15 @@ fn a_run_of_four_calls_and_a_run_of_none(rt: HostRuntime) {
         "Close(true)",
     ];
     let Ran { done, left } = core.run(calls);
-    expect_equal(&rt, (done.len(), left.len()), (4, 0));
-    expect_answers(&rt, done, &wanted, 0, &mut Vec::new(rt.alloc()));
+    expect_equal(rt, (done.len(), left.len()), (4, 0));
+    expect_answers(rt, done, &wanted, 0, &mut Vec::new(rt.alloc()));
+    core
+}
+
+#[test]
+fn a_run_of_four_calls_and_a_run_of_none(rt: HostRuntime) {
+    let alloc = Refusing::new(rt.alloc());
+    let mut core = run_four(&rt, &alloc);
     let none: Calls<'_> = Vec::new(&alloc);
     let Ran { done, left } = core.run(none);
     expect_equal(&rt, (done.len(), left.len()), (0, 0));

@@ -37,11 +37,20 @@ fn expect_answers<R: Abort + AllocGlobal, A: Allocator>(
     done: Vec<Response<char, u64, u64, Pairs, A>, A>,
     behind: usize,
 ) {
-    for (response, wanted) in done.into_iter().zip(ANSWERS.iter().skip(behind)) {
-        let said = said(rt, response.answer);
-        let got = said_to(rt, said, response.room_waiters, response.message_waiters);
-        expect_equal(rt, got.as_str(), *wanted);
+    for (place, response) in done.into_iter().enumerate() {
+        let wanted = ANSWERS.get(behind.wrapping_add(place));
+        expect_answer(rt, response, *wanted.expect(rt, "no more calls"));
     }
+}
+
+fn expect_answer<R: Abort + AllocGlobal, A: Allocator>(
+    rt: &R,
+    response: Response<char, u64, u64, Pairs, A>,
+    wanted: &str,
+) {
+    let said = said(rt, response.answer);
+    let got = said_to(rt, said, response.room_waiters, response.message_waiters);
+    expect_equal(rt, got.as_str(), wanted);
 }
 
 // No call takes memory. The calls that are left are then run with memory.

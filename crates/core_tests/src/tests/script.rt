@@ -4,6 +4,8 @@
 //! more than `()` or `Ok(())`. `bounded 2`, `reserved 2` and `unbounded` make a new channel.
 //! `refuse` names the requests for memory that are refused from then on. What stands behind `#` is
 //! for the reader.
+ghost use Rattle.std.specs.Prelude.{◌<◌, ◌≤◌};
+
 use super::calls::{Core, ask, ask_to_wait, number, said};
 use refusing::Refusing;
 use std::alloc::{AllocError, AllocGlobal, Global};
@@ -27,32 +29,72 @@ impl Stage<'_> {
             .collect(rt.alloc())
             .expect(rt, "memory");
         match words.as_slice() {
-            ["unbounded"] => self.core = Core::unbounded(self.alloc),
-            ["bounded", capacity] => {
-                let capacity = number(*capacity);
-                assert!(rt; 0 < capacity);
-                self.core = Core::bounded(self.alloc, capacity);
-            }
-            ["reserved", capacity] => {
-                let capacity = number(*capacity);
-                assert!(rt; 0 < capacity && capacity <= MOST);
-                let made: Result<_, AllocError> = Core::bounded_reserved(self.alloc, capacity);
-                match made {
-                    Ok(core) => self.core = core,
-                    Err(error) => return said(rt, error),
-                }
-            }
-            // Tells whether the request that was named is still to come.
-            ["refuse", "none"] => return said(rt, self.alloc.refuse_none()),
-            ["refuse", "all"] => self.alloc.refuse_all(),
-            ["refuse", nth] => self.alloc.refuse_nth(number(*nth)),
+            ["unbounded" | "bounded" | "reserved", ..] => self.open(rt, words.as_slice()),
+            ["refuse", nth] => refuse(rt, self.alloc, *nth),
             ["poll_send" | "poll_sendv" | "poll_recv" | "give_up", ..] => {
-                return ask_to_wait(rt, self.alloc, &mut self.core, words.as_slice());
+                ask_to_wait(rt, self.alloc, &mut self.core, words.as_slice())
             }
-            _at_once => return ask(rt, &mut self.core, words.as_slice()),
+            _at_once => ask(rt, &mut self.core, words.as_slice()),
         }
-        said(rt, ())
     }
+
+    // Makes a channel in place of the one before.
+    fn open<R: Abort + AllocGlobal>(&mut self, rt: &R, words: &[&str]) -> String {
+        let made: Result<_, AllocError> = match words {
+            ["bounded", word] => Ok(Core::bounded(self.alloc, capacity(rt, *word, u64::MAX))),
+            ["reserved", word] => Core::bounded_reserved(self.alloc, capacity(rt, *word, MOST)),
+            ["unbounded"] => Ok(Core::unbounded(self.alloc)),
+            _ => panic!(rt; "no channel is {words:?}"),
+        };
+        match made {
+            Ok(core) => {
+                self.core = core;
+                said(rt, ())
+            }
+            Err(error) => said(rt, error),
+        }
+    }
+
+    // Adds the answers to those that were told. The first that is not as the script says tells a
+    // refusal, and then this is false.
+    fn tell_calls<R: Abort + AllocGlobal>(
+        &mut self,
+        rt: &R,
+        n: u64,
+        script: &str,
+        told: &mut String,
+    ) -> bool {
+        let mut is_as_said = true;
+        for call in script.lines().filter(|line| !line.trim().is_empty()) {
+            let got = self.make(rt, asked(call));
+            if is_as_said && !is_wanted(got.as_str(), call) {
+                is_as_said = false;
+                assert!(rt; got.contains("Memory"), "at {n}, {call}: it answered {got}");
+            }
+            tell(rt, told, got);
+        }
+        is_as_said
+    }
+}
+
+// At most this.
+fn capacity(rt: &impl Abort, word: &str, most: u64) -> u64
+    ensures positive { 0 < result }
+    ensures fits { result ≤ most }
+{
+    let capacity = number(word);
+    assert!(rt; 0 < capacity && capacity <= most);
+    capacity
+}
+
+// `none` tells whether the request that was named is still to come.
+fn refuse<R: Abort + AllocGlobal>(rt: &R, alloc: &Refusing<Global>, nth: &str) -> String {
+    match nth {
+        "none" => return said(rt, alloc.refuse_none()),
+        "all" => alloc.refuse_all(),
+        nth => alloc.refuse_nth(number(nth)),
+    }
+    said(rt, ())
 }
 
 fn is_wanted(got: &str, call: &str) -> bool {
@@ -108,27 +150,19 @@ fn tell_refused<R: Abort + AllocGlobal>(
     n: u64,
     script: &str,
 ) -> String {
-    let mut told = String::new(rt.alloc());
     let core = Core::unbounded(alloc);
     let mut stage = Stage { alloc, core };
-    let mut is_as_said = true;
+    let mut told = String::new(rt.alloc());
     alloc.refuse_nth(n);
-    for call in script.lines() {
-        if call.trim().is_empty() {
-            continue;
-        }
-        let got = stage.make(rt, asked(call));
-        if is_as_said && !is_wanted(got.as_str(), call) {
-            is_as_said = false;
-            assert!(rt; got.contains("Memory"), "at {n}, {call}: it answered {got}");
-        }
-        told.push_str(got.as_str()).expect(rt, "memory");
-    }
+    let is_as_said = stage.tell_calls(rt, n, script, &mut told);
     let met_none = alloc.refuse_none();
     assert!(rt; is_as_said == met_none, "at {n}: {told}");
     for _ in 0..stage.core.len() {
-        let got = stage.make(rt, "try_recv");
-        told.push_str(got.as_str()).expect(rt, "memory");
+        tell(rt, &mut told, stage.make(rt, "try_recv"));
     }
     told
+}
+
+fn tell(rt: &impl Abort, told: &mut String, answer: String) {
+    told.push_str(answer.as_str()).expect(rt, "memory");
 }

@@ -34,28 +34,35 @@ impl<'a> CoreStage<'a> {
 
     pub fn make<R: Abort + AllocGlobal>(&mut self, rt: &R, call: &[Text]) -> String {
         match call {
-            ["unbounded"] => self.core = Core::unbounded(self.alloc),
-            ["bounded", word] => {
-                self.core = Core::bounded(self.alloc, capacity(rt, *word, u64::MAX));
-            }
-            ["bounded_reserved", word] => return self.reserve(rt, *word),
-            [name, "is", call @ ..] => {
-                let state = State::new(rt, &mut self.ledger, call);
-                self.states.push((*name, state)).expect(rt, "memory");
-            }
-            [name, call @ ..] => return self.make_by_name(rt, *name, call),
-            [] => {}
+            ["unbounded" | "bounded" | "bounded_reserved", ..] => self.open(rt, call),
+            [name, "is", call @ ..] => self.name_state(rt, *name, call),
+            [name, call @ ..] => self.make_by_name(rt, *name, call),
+            [] => text(rt, ""),
         }
-        text(rt, "")
     }
 
-    fn reserve<R: Abort + AllocGlobal>(&mut self, rt: &R, word: Text) -> String {
-        let capacity = capacity(rt, word, MOST_RESERVED);
-        let made: Result<Core<'a>, AllocError> = Core::bounded_reserved(self.alloc, capacity);
+    // Makes a channel in place of the one before.
+    fn open<R: Abort + AllocGlobal>(&mut self, rt: &R, call: &[Text]) -> String {
+        let made: Result<Core<'a>, AllocError> = match call {
+            ["bounded", word] => Ok(Core::bounded(self.alloc, capacity(rt, *word, u64::MAX))),
+            ["bounded_reserved", word] => {
+                Core::bounded_reserved(self.alloc, capacity(rt, *word, MOST_RESERVED))
+            }
+            ["unbounded"] => Ok(Core::unbounded(self.alloc)),
+            _ => panic!(rt; "no channel is {call:?}"),
+        };
         match made {
-            Ok(core) => self.core = core,
-            Err(error) => return told(rt, error),
+            Ok(core) => {
+                self.core = core;
+                text(rt, "")
+            }
+            Err(error) => told(rt, error),
         }
+    }
+
+    fn name_state<R: Abort + AllocGlobal>(&mut self, rt: &R, name: Text, call: &[Text]) -> String {
+        let state = State::new(rt, &mut self.ledger, call);
+        self.states.push((name, state)).expect(rt, "memory");
         text(rt, "")
     }
 

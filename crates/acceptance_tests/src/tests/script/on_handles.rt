@@ -10,7 +10,7 @@ use async_priority_channel::waiting::{Recv, Send, Sendv};
 use async_priority_channel::{
     End, Ends, Receiver, Role, Sender, TrySendError, bounded, bounded_reserved, unbounded,
 };
-use futures::future::poll_immediate;
+use futures::future::{Future, poll_immediate};
 use refusing::Refusing;
 use std::alloc::{AllocError, Global};
 
@@ -87,7 +87,8 @@ impl<'a, R: Host> HandleStage<'a, R> {
                 let capacity = capacity(rt, *word, MOST_RESERVED);
                 bounded_reserved(self.permission, self.alloc, capacity)
             }
-            _ => unbounded(self.permission, self.alloc),
+            ["unbounded"] => unbounded(self.permission, self.alloc),
+            _ => panic!(rt; "no channel is {call:?}"),
         };
         match made {
             Ok((tx, rx)) => {
@@ -152,10 +153,7 @@ fn send<'a, R: Host>(
 ) -> String {
     match call {
         ["send", word] if matches!(way, Way::AsFuture) => {
-            let (msg, priority) = ledger.submit(rt, *word);
-            let future: Send<'_, Text, u64, Asking<'a, R>, Memory<'a>> = tx.send(msg, priority);
-            let sent = wait_for(rt, future).map_err(TrySendError::from);
-            told_sent(rt, ledger, sent)
+            send_by_future(rt, ledger, tx, *word, false)
         }
         ["send" | "try_send", word] => {
             let (msg, priority) = ledger.submit(rt, *word);
@@ -165,23 +163,51 @@ fn send<'a, R: Host>(
             let sent = tx.try_sendv(ledger.submit_many(rt, words));
             told_sent_many(rt, ledger, sent)
         }
-        ["poll_once_and_drop", "send", word] => {
-            let (msg, priority) = ledger.submit(rt, *word);
-            match wait_for(rt, poll_immediate(tx.send(msg, priority))) {
-                Some(sent) => ready_sent(rt, ledger, sent),
-                None => text(rt, "Pending"),
-            }
-        }
-        ["poll_once_and_drop", "sendv", words @ ..] => {
-            let future: Sendv<'_, Text, u64, Bulk, Asking<'a, R>, Memory<'a>> = tx.sendv(
-                ledger.submit_many(rt, words),
-            );
-            match wait_for(rt, poll_immediate(future)) {
-                Some(sent) => ready_sent_many(rt, ledger, sent),
-                None => text(rt, "Pending"),
-            }
-        }
+        ["poll_once_and_drop", "send", word] => send_by_future(rt, ledger, tx, *word, true),
+        ["poll_once_and_drop", "sendv", words @ ..] => poll_sendv_once(rt, ledger, tx, words),
         _ => panic!(rt; "a handle has no call {call:?}"),
+    }
+}
+
+// The future is waited for, or it is polled once and dropped.
+fn send_by_future<'a, R: Host>(
+    rt: &R,
+    ledger: &mut Ledger,
+    tx: &Tx<'a, R>,
+    word: Text,
+    is_once: bool,
+) -> String {
+    let (msg, priority) = ledger.submit(rt, word);
+    let future: Send<'_, Text, u64, Asking<'a, R>, Memory<'a>> = tx.send(msg, priority);
+    match answer_of(rt, future, is_once) {
+        Some(sent) if is_once => ready_sent(rt, ledger, sent),
+        Some(sent) => told_sent(rt, ledger, sent.map_err(TrySendError::from)),
+        None => text(rt, "Pending"),
+    }
+}
+
+// None where it is polled once and is pending.
+fn answer_of<F: Future>(rt: &impl Host, future: F, is_once: bool) -> Option<F::Output>
+    requires { F.can_poll future }
+{
+    if is_once {
+        wait_for(rt, poll_immediate(future))
+    } else {
+        Some(wait_for(rt, future))
+    }
+}
+
+fn poll_sendv_once<'a, R: Host>(
+    rt: &R,
+    ledger: &mut Ledger,
+    tx: &Tx<'a, R>,
+    words: &[Text],
+) -> String {
+    let msgs = ledger.submit_many(rt, words);
+    let future: Sendv<'_, Text, u64, Bulk, Asking<'a, R>, Memory<'a>> = tx.sendv(msgs);
+    match answer_of(rt, future, true) {
+        Some(sent) => ready_sent_many(rt, ledger, sent),
+        None => text(rt, "Pending"),
     }
 }
 
