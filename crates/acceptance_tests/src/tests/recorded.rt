@@ -14,7 +14,7 @@ use async_priority_channel::recorded::{
     Call, Entry, Fresh, History, NoPlace, Pass, Recorded, Recording, Reply,
 };
 use refusing::Refusing;
-use std::alloc::{AllocError, Global};
+use std::alloc::{AllocError, Allocator, Global};
 use std::marker::Brand;
 use steps::play;
 pub use steps::{Step, expect_book, expect_history};
@@ -24,13 +24,14 @@ mod memory;
 mod steps;
 mod threads;
 
-type Alloc<'a> = &'a Refusing<Global>;
+/// What refuses requests, and the same as the memory of a recorder.
+type Memory<'m, A> = (&'m Refusing<Global>, A);
 
-type Recorder<'a, J> = Recorded<u64, u64, J, Alloc<'a>>;
+type Recorder<J, A> = Recorded<u64, u64, J, A>;
 
 type Caller<J> = Pass<u64, u64, J>;
 
-type Passes<'a, J> = Vec<Caller<J>, Alloc<'a>>;
+type Passes<J, A> = Vec<Caller<J>, A>;
 
 type Made = Entry<u64, u64>;
 
@@ -54,32 +55,32 @@ struct Kept {
 }
 
 /// What a scene left, and how many calls were refused their entry.
-type Told<'a> = (History<u64, u64, Alloc<'a>>, u64);
+type Told<A> = (History<u64, u64, A>, u64);
 
 // Plays a scene on a recorder for so many pairs, entries and passes. The entries under each number
 // are what its caller kept. The error is that memory was refused for the recorder.
-fn record<'a, R: Host>(
+fn record<R: Host, A: Allocator + Copy + Send + Sync>(
     rt: &R,
-    alloc: Alloc<'a>,
+    memory: Memory<'_, A>,
     scene: Scene<'_>,
     cap: u64,
     entries: usize,
     passes: usize,
-) -> Result<Told<'a>, AllocError>
+) -> Result<Told<A>, AllocError>
     requires positive { 0 < cap }
     requires fits { cap < 2 ^ 63 }
 {
     let sizes = (cap, entries, passes);
-    record_as::<Brand, R>(rt, alloc, scene, Fresh::new(cap, passes), sizes)
+    record_as::<Brand, R, A>(rt, memory, scene, Fresh::new(cap, passes), sizes)
 }
 
-fn record_as<'a, J: Recording + Send + Sync, R: Host>(
+fn record_as<J: Recording + Send + Sync, R: Host, A: Allocator + Copy + Send + Sync>(
     rt: &R,
-    alloc: Alloc<'a>,
+    memory: Memory<'_, A>,
     scene: Scene<'_>,
     fresh: Fresh<u64, u64>,
     sizes: (u64, usize, usize),
-) -> Result<Told<'a>, AllocError>
+) -> Result<Told<A>, AllocError>
     requires positive { 0 < sizes.0 }
     requires fits { sizes.0 < 2 ^ 63 }
     requires names { fresh ≡ names J.log J.capacity J.is_reserved J.name J.parts }
@@ -87,7 +88,7 @@ fn record_as<'a, J: Recording + Send + Sync, R: Host>(
     requires passes { fresh.passes ≡ sizes.2 }
 {
     let (cap, entries, count) = sizes;
-    let made = Recorder::<J>::new(alloc, fresh, cap, entries, count);
+    let made = Recorder::<J, A>::new(memory.1, fresh, cap, entries, count);
     let (recorder, mut passes) = made?;
     let mut kept = Kept {
         made: Vec::new(rt.alloc()),
@@ -96,7 +97,7 @@ fn record_as<'a, J: Recording + Send + Sync, R: Host>(
     within(
         rt,
         "the end of a scene",
-        || act(rt, alloc, scene, &recorder, &mut passes, &mut kept),
+        || act(rt, memory, scene, &recorder, &mut passes, &mut kept),
     );
     if passes.len() != count {
         panic!(rt; "a pass is missing");
@@ -107,25 +108,25 @@ fn record_as<'a, J: Recording + Send + Sync, R: Host>(
 }
 
 // Gives the passes back that it takes.
-fn act<'a, J: Recording + Send + Sync, R: Host>(
+fn act<J: Recording + Send + Sync, R: Host, A: Allocator + Copy + Send + Sync>(
     rt: &R,
-    alloc: Alloc<'a>,
+    memory: Memory<'_, A>,
     scene: Scene<'_>,
-    recorder: &Recorder<'a, J>,
-    passes: &mut Passes<'a, J>,
+    recorder: &Recorder<J, A>,
+    passes: &mut Passes<J, A>,
     kept: &mut Kept,
 ) {
     match scene {
-        Scene::Steps(steps) => play(rt, alloc, recorder, passes, kept, steps, false),
-        Scene::UntilRefused(steps) => play(rt, alloc, recorder, passes, kept, steps, true),
-        Scene::Threads(work) => call_on_threads(rt, alloc, recorder, passes, kept, work),
+        Scene::Steps(steps) => play(rt, memory.0, recorder, passes, kept, steps, false),
+        Scene::UntilRefused(steps) => play(rt, memory.0, recorder, passes, kept, steps, true),
+        Scene::Threads(work) => call_on_threads(rt, memory.1, recorder, passes, kept, work),
     }
 }
 
 // Makes a call, and keeps what came of it. After a refusal the pass has seen what it had seen.
-fn call_and_keep<'a, J: Recording, R: Host>(
+fn call_and_keep<J: Recording, R: Host, A: Allocator + Copy>(
     rt: &R,
-    recorder: &Recorder<'a, J>,
+    recorder: &Recorder<J, A>,
     pass: &mut Caller<J>,
     kept: &mut Kept,
     call: Call<u64, u64>,

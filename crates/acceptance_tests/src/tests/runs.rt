@@ -5,24 +5,22 @@ use super::{expect_equal, expect_equal_at, expect_true};
 use priority_channel_core::channel::{Answer, Call, CorePoll, PriorityQueueChannel, Ran, Response};
 use priority_channel_core::errors::TrySendError;
 use refusing::Refusing;
-use std::alloc::{AllocError, AllocGlobal, Global};
+use std::alloc::{AllocError, AllocGlobal, Allocator, Global};
 use std::iter::Peekable;
 use std::process::Abort;
 use std::vec::IntoIter;
-
-type Memory<'a> = &'a Refusing<Global>;
 
 type Pair = (u64, u64);
 
 type Pairs = Peekable<IntoIter<Pair>>;
 
-type Core<'a> = PriorityQueueChannel<u64, u64, u64, Memory<'a>>;
+type Core<A> = PriorityQueueChannel<u64, u64, u64, A>;
 
 type Made = Call<u64, u64, u64, Pairs>;
 
-type Calls<'a> = Vec<Made, Memory<'a>>;
+type Calls<A> = Vec<Made, A>;
 
-type Done<'a> = Vec<Response<u64, u64, u64, Pairs, Memory<'a>>, Memory<'a>>;
+type Done<A> = Vec<Response<u64, u64, u64, Pairs, A>, A>;
 
 // The messages of a bulk send.
 fn bulk<R: Abort + AllocGlobal>(rt: &R, pairs: &[Pair]) -> Pairs {
@@ -34,7 +32,7 @@ fn bulk<R: Abort + AllocGlobal>(rt: &R, pairs: &[Pair]) -> Pairs {
 }
 
 // Calls are listed by this, since an array of them, as `vec!` makes one, is dear to prove.
-fn add(rt: &impl Abort, calls: &mut Calls<'_>, call: Made)
+fn add<A: Allocator>(rt: &impl Abort, calls: &mut Calls<A>, call: Made)
     ensures { calls.new.items ≡ calls.old.items ++ call ∷ [] }
 {
     calls.push(call).expect(rt, "memory");
@@ -51,9 +49,9 @@ fn said<R: Abort + AllocGlobal>(rt: &R, answer: &mut Answer<u64, u64, Pairs>) ->
 
 // Of the calls behind so many, as far as they were made. Nobody is handed out, and the pairs that
 // were received go to the list.
-fn expect_answers<R: Abort + AllocGlobal>(
+fn expect_answers<R: Abort + AllocGlobal, A: Allocator>(
     rt: &R,
-    mut done: Done<'_>,
+    mut done: Done<A>,
     wanted: &[&str],
     behind: usize,
     received: &mut Vec<Pair>,
@@ -69,14 +67,14 @@ fn expect_answers<R: Abort + AllocGlobal>(
     }
 }
 
-fn expect_nobody(rt: &impl Abort, response: &Response<u64, u64, u64, Pairs, Memory<'_>>) {
+fn expect_nobody<A: Allocator>(rt: &impl Abort, response: &Response<u64, u64, u64, Pairs, A>) {
     let counts = (response.room_waiters.len(), response.message_waiters.len());
     expect_equal(rt, counts, (0, 0));
 }
 
 // The channel behind its four calls.
-fn run_four<'a, R: Abort + AllocGlobal>(rt: &R, alloc: Memory<'a>) -> Core<'a> {
-    let made: Result<Core<'a>, AllocError> = Core::bounded_reserved(alloc, 2);
+fn run_four<R: Abort + AllocGlobal, A: Allocator + Copy>(rt: &R, alloc: A) -> Core<A> {
+    let made: Result<Core<A>, AllocError> = Core::bounded_reserved(alloc, 2);
     let mut core = made.expect(rt, "a channel");
     let mut calls = Vec::new(alloc);
     add(rt, &mut calls, Call::TrySend(1, 5));
@@ -95,16 +93,19 @@ fn run_four<'a, R: Abort + AllocGlobal>(rt: &R, alloc: Memory<'a>) -> Core<'a> {
     core
 }
 
+fn run_none<A: Allocator + Copy>(rt: &impl Abort, alloc: A, mut core: Core<A>) {
+    let none: Calls<A> = Vec::new(alloc);
+    let Ran { done, left } = core.run(none);
+    expect_equal(rt, (done.len(), left.len()), (0, 0));
+    let told = (core.is_closed(), core.len(), core.capacity());
+    expect_equal(rt, told, (true, 0, Some(2)));
+    expect_equal(rt, (core.sender_count(), core.receiver_count()), (1, 1));
+}
+
 #[test]
 fn a_run_of_four_calls_and_a_run_of_none(rt: HostRuntime) {
-    let alloc = Refusing::new(rt.alloc());
-    let mut core = run_four(&rt, &alloc);
-    let none: Calls<'_> = Vec::new(&alloc);
-    let Ran { done, left } = core.run(none);
-    expect_equal(&rt, (done.len(), left.len()), (0, 0));
-    let told = (core.is_closed(), core.len(), core.capacity());
-    expect_equal(&rt, told, (true, 0, Some(2)));
-    expect_equal(&rt, (core.sender_count(), core.receiver_count()), (1, 1));
+    let alloc = rt.alloc();
+    run_none(&rt, alloc, run_four(&rt, alloc));
 }
 
 const EIGHT: [&str; 8] = [
@@ -121,9 +122,10 @@ const EIGHT: [&str; 8] = [
 // Makes the eight calls, of which each answers as is said until the nth request for memory. Then
 // it runs those that are left, or receives what is pending: so each pair that was accepted has come
 // out in the end. Tells how many were left, or None where the channel was refused its memory.
-fn run_eight<R: Abort + AllocGlobal>(
+fn run_eight<R: Abort + AllocGlobal, A: Allocator + Copy>(
     rt: &R,
-    alloc: &Refusing<Global>,
+    memory: &Refusing<Global>,
+    alloc: A,
     n: u64,
     goes_on: bool,
 ) -> Option<usize> {
@@ -140,8 +142,8 @@ fn run_eight<R: Abort + AllocGlobal>(
     add(rt, &mut calls, Call::TryRecv);
     add(rt, &mut calls, Call::TryRecv);
     add(rt, &mut calls, Call::TryRecv);
-    alloc.refuse_nth(n);
-    let made: Result<Core<'_>, AllocError> = Core::bounded_reserved(alloc, 2);
+    memory.refuse_nth(n);
+    let made: Result<Core<A>, AllocError> = Core::bounded_reserved(alloc, 2);
     let Ok(mut core) = made else {
         return None;
     };
@@ -161,7 +163,7 @@ fn run_eight<R: Abort + AllocGlobal>(
     Some(rest)
 }
 
-fn receive_all(rt: &impl Abort, core: &mut Core<'_>, came: &mut Vec<Pair>) {
+fn receive_all<A: Allocator + Copy>(rt: &impl Abort, core: &mut Core<A>, came: &mut Vec<Pair>) {
     for _ in 0..core.len() {
         let (received, wakes) = core.try_recv();
         let (_room, _message) = wakes.into_lists();
@@ -182,12 +184,12 @@ fn expect_came(rt: &impl Abort, n: u64, is_sent: bool, came: &[Pair]) {
 
 // Each request for memory is refused in turn.
 fn expect_rounds<R: Abort + AllocGlobal>(rt: &R, goes_on: bool) {
-    let alloc = Refusing::new(rt.alloc());
+    let memory = Refusing::new(rt.alloc());
     let mut growths = 0u64;
-    for round in alloc.rounds() {
+    for round in memory.rounds() {
         let n = round.expect(rt, "a request");
-        let left = run_eight(rt, &alloc, n, goes_on);
-        let met_none = alloc.refuse_none();
+        let left = run_eight(rt, &memory, &memory, n, goes_on);
+        let met_none = memory.refuse_none();
         expect_equal_at(rt, (n, left), met_none, left == Some(0));
         if left.unwrap_or(0) > 0 {
             growths = growths.wrapping_add(1);
@@ -199,8 +201,9 @@ fn expect_rounds<R: Abort + AllocGlobal>(rt: &R, goes_on: bool) {
 #[test]
 fn runs_of_eight_calls(rt: HostRuntime) {
     // a run of eight calls
-    let alloc = Refusing::new(rt.alloc());
-    expect_equal(&rt, run_eight(&rt, &alloc, 0, true), Some(0));
+    let memory = Refusing::new(rt.alloc());
+    let left = run_eight(&rt, &memory, &memory, 0, true);
+    expect_equal(&rt, left, Some(0));
     // a run stops where a reply is refused memory
     expect_rounds(&rt, true);
     // what a run accepted comes out whichever request is refused
@@ -229,31 +232,34 @@ const EACH: [&str; 19] = [
     "GiveUp",
 ];
 
+fn run_each<R: Abort + AllocGlobal, A: Allocator + Copy>(rt: &R, alloc: A) {
+    let mut calls = Vec::new(alloc);
+    add(rt, &mut calls, Call::TrySend(7, 1));
+    add(rt, &mut calls, Call::TrySendv(bulk(rt, &[])));
+    add(rt, &mut calls, Call::TryRecv);
+    add(rt, &mut calls, Call::Close);
+    add(rt, &mut calls, Call::IsClosed);
+    add(rt, &mut calls, Call::IsEmpty);
+    add(rt, &mut calls, Call::IsFull);
+    add(rt, &mut calls, Call::Len);
+    add(rt, &mut calls, Call::Capacity);
+    add(rt, &mut calls, Call::SenderCount);
+    add(rt, &mut calls, Call::ReceiverCount);
+    add(rt, &mut calls, Call::CloneSender);
+    add(rt, &mut calls, Call::CloneReceiver);
+    add(rt, &mut calls, Call::DropSender);
+    add(rt, &mut calls, Call::DropReceiver);
+    add(rt, &mut calls, Call::PollSend(7, 1, None, 7));
+    add(rt, &mut calls, Call::PollSendv(bulk(rt, &[]), None, 7));
+    add(rt, &mut calls, Call::PollRecv(None, 7));
+    add(rt, &mut calls, Call::GiveUp(0));
+    let mut core: Core<A> = Core::bounded(alloc, 1);
+    let Ran { done, left } = core.run(calls);
+    expect_equal(rt, (done.len(), left.len()), (19, 0));
+    expect_answers(rt, done, &EACH, 0, &mut Vec::new(rt.alloc()));
+}
+
 #[test]
 fn a_run_has_each_call(rt: HostRuntime) {
-    let alloc = Refusing::new(rt.alloc());
-    let mut calls = Vec::new(&alloc);
-    add(&rt, &mut calls, Call::TrySend(7, 1));
-    add(&rt, &mut calls, Call::TrySendv(bulk(&rt, &[])));
-    add(&rt, &mut calls, Call::TryRecv);
-    add(&rt, &mut calls, Call::Close);
-    add(&rt, &mut calls, Call::IsClosed);
-    add(&rt, &mut calls, Call::IsEmpty);
-    add(&rt, &mut calls, Call::IsFull);
-    add(&rt, &mut calls, Call::Len);
-    add(&rt, &mut calls, Call::Capacity);
-    add(&rt, &mut calls, Call::SenderCount);
-    add(&rt, &mut calls, Call::ReceiverCount);
-    add(&rt, &mut calls, Call::CloneSender);
-    add(&rt, &mut calls, Call::CloneReceiver);
-    add(&rt, &mut calls, Call::DropSender);
-    add(&rt, &mut calls, Call::DropReceiver);
-    add(&rt, &mut calls, Call::PollSend(7, 1, None, 7));
-    add(&rt, &mut calls, Call::PollSendv(bulk(&rt, &[]), None, 7));
-    add(&rt, &mut calls, Call::PollRecv(None, 7));
-    add(&rt, &mut calls, Call::GiveUp(0));
-    let mut core: Core<'_> = Core::bounded(&alloc, 1);
-    let Ran { done, left } = core.run(calls);
-    expect_equal(&rt, (done.len(), left.len()), (19, 0));
-    expect_answers(&rt, done, &EACH, 0, &mut Vec::new(rt.alloc()));
+    run_each(&rt, rt.alloc());
 }

@@ -19,7 +19,8 @@
 //! - `refuse_next`, `refuse_all` and `refuse_none` are for the channel's requests for memory.
 use super::{Host, expect_true};
 use refusing::Refusing;
-use std::alloc::Global;
+use std::alloc::{Allocator, Global};
+use std::sync::Wait;
 
 mod answers;
 mod asking;
@@ -45,27 +46,28 @@ pub enum Ground {
 }
 
 #[derive(Drop)]
-enum Stage<'a, R: Host> {
-    Core(CoreStage<'a>),
-    Handles(HandleStage<'a, R>),
+enum Stage<'a, W: Wait + Clone, A: Allocator + Copy> {
+    Core(CoreStage<A>),
+    Handles(HandleStage<'a, W, A>),
 }
 
-impl<'a, R: Host> Stage<'a, R> {
-    fn new(permission: &'a Asking<'a, R>, ground: Ground) -> Self {
-        match ground {
-            Ground::Core => Stage::Core(CoreStage::new(permission.rt, permission.alloc)),
-            Ground::Handles => Stage::Handles(HandleStage::new(permission, Way::AtOnce)),
-            Ground::Futures => Stage::Handles(HandleStage::new(permission, Way::AsFuture)),
-        }
+impl<'a, W: Wait + Clone, A: Allocator + Copy> Stage<'a, W, A> {
+    fn new<R: Host>(rt: &R, permission: &'a W, alloc: A, ground: Ground) -> Self {
+        let way = match ground {
+            Ground::Core => return Stage::Core(CoreStage::new(rt, alloc)),
+            Ground::Handles => Way::AtOnce,
+            Ground::Futures => Way::AsFuture,
+        };
+        Stage::Handles(HandleStage::new(rt, permission, alloc, way))
     }
 
     // What comes of one call.
-    fn make(&mut self, rt: &R, alloc: &Refusing<Global>, call: &[Text]) -> String {
+    fn make<R: Host>(&mut self, rt: &R, memory: &Refusing<Global>, call: &[Text]) -> String {
         match call {
-            ["refuse_next"] => alloc.refuse_nth(1),
-            ["refuse_all"] => alloc.refuse_all(),
+            ["refuse_next"] => memory.refuse_nth(1),
+            ["refuse_all"] => memory.refuse_all(),
             ["refuse_none"] => {
-                alloc.refuse_none();
+                memory.refuse_none();
             }
             _ => {
                 return match self {
@@ -78,12 +80,17 @@ impl<'a, R: Host> Stage<'a, R> {
     }
 
     // Makes the calls of a line, and tells the first answer that is not as it says.
-    fn find_other(&mut self, rt: &R, alloc: &Refusing<Global>, line: Text) -> Option<String> {
+    fn find_other<R: Host>(
+        &mut self,
+        rt: &R,
+        memory: &Refusing<Global>,
+        line: Text,
+    ) -> Option<String> {
         let (call, wanted) = line.split_once(" = ").unwrap_or((line, ""));
         let words = split(rt, call);
         let (count, call) = times(rt, words.as_slice());
         for _ in 0..count {
-            let got = self.make(rt, alloc, call);
+            let got = self.make(rt, memory, call);
             if !is_wanted(got.as_str(), wanted.trim()) {
                 return Some(got);
             }
@@ -93,15 +100,15 @@ impl<'a, R: Host> Stage<'a, R> {
 
     // Ends at the first call that is refused memory, where that may be, and tells whether there
     // was one.
-    fn play(
+    fn play<R: Host>(
         &mut self,
         rt: &R,
-        alloc: &Refusing<Global>,
+        memory: &Refusing<Global>,
         (title, calls): (Text, Text),
         is_scarce: bool,
     ) -> bool {
         for line in calls.lines() {
-            if let Some(got) = self.find_other(rt, alloc, line) {
+            if let Some(got) = self.find_other(rt, memory, line) {
                 let is_refusal = got.as_str() == "AllocError" || got.contains("Memory");
                 assert!(rt;
                     is_scarce && is_refusal,
@@ -114,7 +121,7 @@ impl<'a, R: Host> Stage<'a, R> {
     }
 
     // What was accepted is received, and what was not has come back.
-    fn settle(&mut self, rt: &R) {
+    fn settle<R: Host>(&mut self, rt: &R) {
         match self {
             Stage::Core(stage) => stage.settle(rt),
             Stage::Handles(stage) => stage.settle(rt),
@@ -130,10 +137,20 @@ fn is_wanted(got: &str, wanted: &str) -> bool {
 pub fn play<R: Host>(rt: &R, ground: Ground, script: Text) {
     for example in script.split("# ") {
         let example = example.split_once('\n').unwrap_or((example, ""));
-        let alloc = Refusing::new(rt.alloc());
-        let permission = Asking { rt, alloc: &alloc };
-        Stage::new(&permission, ground).play(rt, &alloc, example, false);
+        let memory = Refusing::new(rt.alloc());
+        let permission = Asking { rt, alloc: &memory };
+        play_example(rt, &memory, (&permission, &memory), ground, example);
     }
+}
+
+fn play_example<R: Host, W: Wait + Clone, A: Allocator + Copy>(
+    rt: &R,
+    memory: &Refusing<Global>,
+    (permission, alloc): (&W, A),
+    ground: Ground,
+    example: (Text, Text),
+) {
+    Stage::new(rt, permission, alloc, ground).play(rt, memory, example, false);
 }
 
 /// Plays one example again and again, each time with another request for memory refused, until none
@@ -142,15 +159,34 @@ pub fn play<R: Host>(rt: &R, ground: Ground, script: Text) {
 pub fn play_refused<R: Host>(rt: &R, ground: Ground, script: Text, title: Text) {
     let (_, behind) = script.split_once(title).expect(rt, title);
     let (calls, _) = behind.split_once("# ").unwrap_or((behind, ""));
-    let alloc = Refusing::new(rt.alloc());
-    let permission = Asking { rt, alloc: &alloc };
-    for round in alloc.rounds() {
+    let memory = Refusing::new(rt.alloc());
+    let permission = Asking { rt, alloc: &memory };
+    for round in memory.rounds() {
         let n = round.expect(rt, "a request");
-        let mut stage = Stage::new(&permission, ground);
-        alloc.refuse_nth(n);
-        let was_refused = stage.play(rt, &alloc, (title, calls), true);
-        let met_none = alloc.refuse_none();
-        expect_true(rt, was_refused != met_none, title);
-        stage.settle(rt);
+        play_refusal(
+            rt,
+            &memory,
+            (&permission, &memory),
+            ground,
+            (title, calls),
+            n,
+        );
     }
+}
+
+// Plays an example of which the nth request for memory is refused.
+fn play_refusal<R: Host, W: Wait + Clone, A: Allocator + Copy>(
+    rt: &R,
+    memory: &Refusing<Global>,
+    (permission, alloc): (&W, A),
+    ground: Ground,
+    example: (Text, Text),
+    n: u64,
+) {
+    let mut stage = Stage::new(rt, permission, alloc, ground);
+    memory.refuse_nth(n);
+    let was_refused = stage.play(rt, memory, example, true);
+    let met_none = memory.refuse_none();
+    expect_true(rt, was_refused != met_none, example.0);
+    stage.settle(rt);
 }

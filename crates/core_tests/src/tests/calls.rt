@@ -8,8 +8,7 @@ use priority_channel_core::awaitable_atomics::Wakes;
 use priority_channel_core::calls::CorePoll;
 use priority_channel_core::channel::PriorityQueueChannel;
 use priority_channel_core::errors::{SendFault, TrySendError};
-use refusing::Refusing;
-use std::alloc::{AllocError, AllocGlobal, Allocator, Global};
+use std::alloc::{AllocError, AllocGlobal, Allocator};
 use std::fmt;
 use std::fmt::Debug;
 use std::iter::Peekable;
@@ -20,7 +19,7 @@ pub type Pair = (char, u64);
 
 pub type Pairs = Peekable<IntoIter<Pair>>;
 
-pub type Core<'a> = PriorityQueueChannel<char, u64, Numbered<'a>, &'a Refusing<Global>>;
+pub type Core<A> = PriorityQueueChannel<char, u64, Numbered<A>, A>;
 
 pub fn number(word: &str) -> u64 {
     word.parse().unwrap_or(0)
@@ -50,14 +49,14 @@ pub fn pairs<R: Abort + AllocGlobal>(rt: &R, words: &[&str]) -> Vec<Pair> {
 
 /// A waker with a number, whose clone asks for memory.
 #[derive(Drop)]
-pub struct Numbered<'a> {
+pub struct Numbered<A: Allocator + Copy> {
     number: u64,
-    alloc: &'a Refusing<Global>,
-    _memory: Option<Box<u64, &'a Refusing<Global>>>,
+    alloc: A,
+    _memory: Option<Box<u64, A>>,
 }
 
-impl<'a> Numbered<'a> {
-    pub fn of(word: &str, alloc: &'a Refusing<Global>) -> Self {
+impl<A: Allocator + Copy> Numbered<A> {
+    pub fn of(word: &str, alloc: A) -> Self {
         Numbered {
             number: number(word),
             alloc,
@@ -66,8 +65,8 @@ impl<'a> Numbered<'a> {
     }
 }
 
-impl<'a> Clone for Numbered<'a> {
-    fn clone(&self) -> Result<Numbered<'a>, AllocError> {
+impl<A: Allocator + Copy> Clone for Numbered<A> {
+    fn clone(&self) -> Result<Numbered<A>, AllocError> {
         Ok(Numbered {
             number: self.number,
             alloc: self.alloc,
@@ -76,7 +75,7 @@ impl<'a> Clone for Numbered<'a> {
     }
 }
 
-impl Debug for Numbered<'_> {
+impl<A: Allocator + Copy> Debug for Numbered<A> {
     fn fmt<W: fmt::Write>(&self, f: &mut fmt::Formatter<W>) -> fmt::Result {
         write!(f, "{}", self.number)
     }
@@ -143,17 +142,21 @@ pub fn said_to<R: Abort + AllocGlobal, W: Debug + Drop, A: Allocator>(
     said.expect(rt, "memory")
 }
 
-fn told<'a, R: Abort + AllocGlobal>(
+fn told<R: Abort + AllocGlobal, A: Allocator + Copy>(
     rt: &R,
     answer: impl Debug + Drop,
-    wakes: Wakes<Numbered<'a>, &'a Refusing<Global>>,
+    wakes: Wakes<Numbered<A>, A>,
 ) -> String {
     let (room, message) = wakes.into_lists();
     said_to(rt, said(rt, answer), room, message)
 }
 
 /// Makes a call that does not wait, and tells what came of it.
-pub fn ask<R: Abort + AllocGlobal>(rt: &R, core: &mut Core<'_>, words: &[&str]) -> String {
+pub fn ask<R: Abort + AllocGlobal, A: Allocator + Copy>(
+    rt: &R,
+    core: &mut Core<A>,
+    words: &[&str],
+) -> String {
     match words {
         ["try_send", word] => {
             let (msg, priority) = pair(*word);
@@ -185,7 +188,11 @@ pub fn ask<R: Abort + AllocGlobal>(rt: &R, core: &mut Core<'_>, words: &[&str]) 
     }
 }
 
-fn ask_to_receive<R: Abort + AllocGlobal>(rt: &R, core: &mut Core<'_>, words: &[&str]) -> String {
+fn ask_to_receive<R: Abort + AllocGlobal, A: Allocator + Copy>(
+    rt: &R,
+    core: &mut Core<A>,
+    words: &[&str],
+) -> String {
     match words {
         ["try_recv"] => {
             let (received, wakes) = core.try_recv();
@@ -223,10 +230,10 @@ fn ask_to_receive<R: Abort + AllocGlobal>(rt: &R, core: &mut Core<'_>, words: &[
 }
 
 /// The same of a poll, and of the end of a wait.
-pub fn ask_to_wait<'a, R: Abort + AllocGlobal>(
+pub fn ask_to_wait<R: Abort + AllocGlobal, A: Allocator + Copy>(
     rt: &R,
-    alloc: &'a Refusing<Global>,
-    core: &mut Core<'a>,
+    alloc: A,
+    core: &mut Core<A>,
     words: &[&str],
 ) -> String {
     match words {

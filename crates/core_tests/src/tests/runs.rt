@@ -8,9 +8,9 @@ use refusing::Refusing;
 use std::alloc::{AllocGlobal, Allocator, Global};
 use std::process::Abort;
 
-type Core<'a> = PriorityQueueChannel<char, u64, u64, &'a Refusing<Global>>;
+type Core<A> = PriorityQueueChannel<char, u64, u64, A>;
 
-type Calls<'a> = Vec<Call<char, u64, u64, Pairs>, &'a Refusing<Global>>;
+type Calls<A> = Vec<Call<char, u64, u64, Pairs>, A>;
 
 fn is_b(msg: &char, _: &u64) -> bool {
     *msg == 'b'
@@ -54,10 +54,15 @@ fn expect_answer<R: Abort + AllocGlobal, A: Allocator>(
 }
 
 // No call takes memory. The calls that are left are then run with memory.
-fn run_refused<R: Abort + AllocGlobal>(rt: &R, alloc: &Refusing<Global>, n: u64) {
-    let made: Result<Core<'_>, _> = Core::bounded_reserved(alloc, 2);
+fn run_refused<R: Abort + AllocGlobal, A: Allocator + Copy>(
+    rt: &R,
+    memory: &Refusing<Global>,
+    alloc: A,
+    n: u64,
+) {
+    let made: Result<Core<A>, _> = Core::bounded_reserved(alloc, 2);
     let mut core = made.expect(rt, "a channel");
-    let calls: Result<Calls<'_>, _> = vec![in alloc;
+    let calls: Result<Calls<A>, _> = vec![in alloc;
         Call::TrySendv(pairs(rt, &["a4", "b6", "c5"]).into_iter().peekable()),
         Call::ChangePriority(is_b, 3),
         Call::TakeWhere(is_b),
@@ -72,9 +77,9 @@ fn run_refused<R: Abort + AllocGlobal>(rt: &R, alloc: &Refusing<Global>, n: u64)
         Call::TryRecv,
     ];
     let calls = calls.expect(rt, "calls");
-    alloc.refuse_nth(n);
+    memory.refuse_nth(n);
     let Ran { done, left } = core.run(calls);
-    let met_none = alloc.refuse_none();
+    let met_none = memory.refuse_none();
     let made = done.len();
     let told = (n, left.is_empty(), made.wrapping_add(left.len()));
     expect_equal(rt, told, (n, met_none, ANSWERS.len()));
@@ -87,8 +92,8 @@ fn run_refused<R: Abort + AllocGlobal>(rt: &R, alloc: &Refusing<Global>, n: u64)
 // Each growth of the answers is refused in turn.
 #[test]
 fn a_run_stops_before_the_call_whose_answer_has_no_place(rt: HostRuntime) {
-    let alloc = Refusing::new(rt.alloc());
-    for round in alloc.rounds() {
-        run_refused(&rt, &alloc, round.expect(&rt, "a request"));
+    let memory = Refusing::new(rt.alloc());
+    for round in memory.rounds() {
+        run_refused(&rt, &memory, &memory, round.expect(&rt, "a request"));
     }
 }

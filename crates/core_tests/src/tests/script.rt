@@ -8,20 +8,29 @@ ghost use Rattle.std.specs.Prelude.{◌<◌, ◌≤◌};
 
 use super::calls::{Core, ask, ask_to_wait, number, said};
 use refusing::Refusing;
-use std::alloc::{AllocError, AllocGlobal, Global};
+use std::alloc::{AllocError, AllocGlobal, Allocator, Global};
 use std::process::Abort;
 
 // The largest capacity of a reserved channel.
 const MOST: u64 = 9223372036854775807;
 
-/// A core, and what refuses its requests for memory.
+/// A core, its allocator, and what refuses its requests for memory.
 #[derive(Drop)]
-struct Stage<'a> {
-    alloc: &'a Refusing<Global>,
-    core: Core<'a>,
+struct Stage<'m, A: Allocator + Copy> {
+    memory: &'m Refusing<Global>,
+    alloc: A,
+    core: Core<A>,
 }
 
-impl Stage<'_> {
+impl<'m, A: Allocator + Copy> Stage<'m, A> {
+    fn new(memory: &'m Refusing<Global>, alloc: A) -> Self {
+        Stage {
+            memory,
+            alloc,
+            core: Core::unbounded(alloc),
+        }
+    }
+
     // Makes a call, and tells what came of it.
     fn make<R: Abort + AllocGlobal>(&mut self, rt: &R, call: &str) -> String {
         let words: Vec<&str> = call
@@ -30,7 +39,7 @@ impl Stage<'_> {
             .expect(rt, "memory");
         match words.as_slice() {
             ["unbounded" | "bounded" | "reserved", ..] => self.open(rt, words.as_slice()),
-            ["refuse", nth] => refuse(rt, self.alloc, *nth),
+            ["refuse", nth] => refuse(rt, self.memory, *nth),
             ["poll_send" | "poll_sendv" | "poll_recv" | "give_up", ..] => {
                 ask_to_wait(rt, self.alloc, &mut self.core, words.as_slice())
             }
@@ -88,11 +97,11 @@ fn capacity(rt: &impl Abort, word: &str, most: u64) -> u64
 }
 
 // `none` tells whether the request that was named is still to come.
-fn refuse<R: Abort + AllocGlobal>(rt: &R, alloc: &Refusing<Global>, nth: &str) -> String {
+fn refuse<R: Abort + AllocGlobal>(rt: &R, memory: &Refusing<Global>, nth: &str) -> String {
     match nth {
-        "none" => return said(rt, alloc.refuse_none()),
-        "all" => alloc.refuse_all(),
-        nth => alloc.refuse_nth(number(nth)),
+        "none" => return said(rt, memory.refuse_none()),
+        "all" => memory.refuse_all(),
+        nth => memory.refuse_nth(number(nth)),
     }
     said(rt, ())
 }
@@ -110,9 +119,15 @@ fn asked(call: &str) -> &str {
 
 /// Plays a script, and fails at the first call of which something else comes.
 pub fn play<R: Abort + AllocGlobal>(rt: &R, script: &str) {
-    let alloc = &Refusing::new(rt.alloc());
-    let core = Core::unbounded(alloc);
-    let mut stage = Stage { alloc, core };
+    let memory = Refusing::new(rt.alloc());
+    play_on(rt, Stage::new(&memory, &memory), script);
+}
+
+fn play_on<R: Abort + AllocGlobal, A: Allocator + Copy>(
+    rt: &R,
+    mut stage: Stage<'_, A>,
+    script: &str,
+) {
     for line in script.lines() {
         let (line, _comment) = line.split_once('#').unwrap_or((line, ""));
         for call in line.split(';') {
@@ -131,10 +146,10 @@ pub fn play<R: Abort + AllocGlobal>(rt: &R, script: &str) {
 /// says until the refusal, and there `Memory`; in the end each of these messages has come out once,
 /// or has come back once.
 pub fn play_refused<R: Abort + AllocGlobal>(rt: &R, script: &str, messages: &str) {
-    let alloc = Refusing::new(rt.alloc());
-    for round in alloc.rounds() {
+    let memory = Refusing::new(rt.alloc());
+    for round in memory.rounds() {
         let n = round.expect(rt, "a request");
-        let told = tell_refused(rt, &alloc, n, script);
+        let told = tell_refused(rt, Stage::new(&memory, &memory), n, script);
         for msg in messages.chars() {
             let quoted = said(rt, msg);
             let seen = told.matches(quoted.as_str()).count();
@@ -144,18 +159,16 @@ pub fn play_refused<R: Abort + AllocGlobal>(rt: &R, script: &str, messages: &str
 }
 
 // All answers of one round, and of receives until nothing is pending.
-fn tell_refused<R: Abort + AllocGlobal>(
+fn tell_refused<R: Abort + AllocGlobal, A: Allocator + Copy>(
     rt: &R,
-    alloc: &Refusing<Global>,
+    mut stage: Stage<'_, A>,
     n: u64,
     script: &str,
 ) -> String {
-    let core = Core::unbounded(alloc);
-    let mut stage = Stage { alloc, core };
     let mut told = String::new(rt.alloc());
-    alloc.refuse_nth(n);
+    stage.memory.refuse_nth(n);
     let is_as_said = stage.tell_calls(rt, n, script, &mut told);
-    let met_none = alloc.refuse_none();
+    let met_none = stage.memory.refuse_none();
     assert!(rt; is_as_said == met_none, "at {n}: {told}");
     for _ in 0..stage.core.len() {
         tell(rt, &mut told, stage.make(rt, "try_recv"));

@@ -35,3 +35,15 @@ fn messages_may_have_no_size_or_a_large_one(rt: HostRuntime) {
         expect_equal(&rt, rx.try_recv(), Ok(([number; 200], number % 3)));
     }
 }
+
+// Also what comes after the loop has begun, until nothing is pending.
+#[test]
+fn a_loop_that_does_not_wait_brings_what_is_pending_then(rt: HostRuntime) {
+    let (tx, rx) = unbounded(&rt, rt.alloc()).expect(&rt, "a channel");
+    let mut pending = rx.try_iter();
+    for msg in ['a', 'b'] {
+        expect_equal(&rt, tx.try_send(msg, 0u64), Ok(()));
+        expect_equal(&rt, pending.next(), Some((msg, 0)));
+    }
+    expect_equal(&rt, pending.next(), None);
+}

@@ -70,5 +70,9 @@ fn the_test_is_dropped_once_the_lock_is_free(rt: HostRuntime) {
     expect_equal(&rt, received, Ok(Some(('c', 1))));
     let other = another(&rt, &rx);
     let taken = rx.take_where(move |_, _| owns(&other));
-    expect_equal(&rt, (taken, rx.receiver_count()), (Some(('b', 0)), 1));
+    expect_equal(&rt, taken, Some(('b', 0)));
+    // A look at nothing does not use up its function.
+    let other = another(&rt, &rx);
+    let looked = rx.peek_with(move |_, _| owns(&other));
+    expect_equal(&rt, (looked, rx.receiver_count()), (None, 1));
 }

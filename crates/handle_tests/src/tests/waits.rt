@@ -93,6 +93,18 @@ fn others_stay_listed_amid_those_that_go(rt: HostRuntime) {
         stay poll home = Pending; rest go; rx try_recv = Ok(('d', 4)); woken = home; drop s; drop v
         rx try_recv = Err(Empty); tx try_send x 9; stay poll home = Pending; rest go
         rx try_recv = Ok(('x', 9)); woken = home; stay poll home; rx try_recv = Ok(('b', 2))
+        -- a reserve that waits is dropped, and a lease
+        channel 1; tx try_send x 9
+        lend tx
+        p by tx reserve; stay by tx reserve; p poll go = Pending; stay poll home = Pending
+        p poll go = Pending; stay poll home = Pending; drop p; rest go; rx try_recv = Ok(('x', 9))
+        woken = home; stay poll home = Ok(Permit { .. })
+        --
+        channel 1
+        lend rx
+        l by rx lease; stay by rx lease; l poll go = Pending; stay poll home = Pending
+        l poll go = Pending; stay poll home = Pending; drop l; rest go; tx try_send x 1
+        woken = home; stay poll home = Ok(Lease { .. })
         -- waits for the close that were not polled, that wait, or that were woken are dropped
         channel 1
         lend tx

@@ -24,15 +24,13 @@ mod tasks;
 mod threads;
 mod waits;
 
-pub type Alloc<'a> = &'a Refusing<Global>;
-
 pub type Channel<J, A> = Witnessed<u64, u64, Waiter<A>, J, A>;
 
 pub type Caller<J, A> = Pass<u64, u64, Waiter<A>, J>;
 
 pub type Passes<J, A> = Vec<Caller<J, A>, A>;
 
-type Core<'a> = PriorityQueueChannel<u64, u64, Waiter<Alloc<'a>>, Alloc<'a>>;
+type Core<A> = PriorityQueueChannel<u64, u64, Waiter<A>, A>;
 
 /// What is played on such a channel.
 #[derive(Clone, Copy)]
@@ -53,11 +51,12 @@ pub fn play<R: Host>(rt: &R, scene: Scene, cap: u64, passes: usize, parts: usize
     requires fits { cap < 2 ^ 63 }
     requires passes { passes ≤ parts }
 {
-    let alloc = Refusing::new(rt.alloc());
-    let core = PriorityQueueChannel::bounded_reserved(&alloc, cap).expect(rt, "a core");
-    play_as::<Brand, R>(
+    let memory = Refusing::new(rt.alloc());
+    let core = Core::bounded_reserved(&memory, cap).expect(rt, "a core");
+    play_as::<Brand, _, R>(
         rt,
-        &alloc,
+        &memory,
+        &memory,
         scene,
         core,
         Fresh::new(cap, true, parts),
@@ -65,12 +64,13 @@ pub fn play<R: Host>(rt: &R, scene: Scene, cap: u64, passes: usize, parts: usize
     )
 }
 
-fn play_as<'a, J: Recording + Send + Sync, R: Host>(
+fn play_as<J: Recording + Send + Sync, A: Allocator + Copy + Send + Sync, R: Host>(
     rt: &R,
-    alloc: Alloc<'a>,
+    memory: &Refusing<Global>,
+    alloc: A,
     scene: Scene,
-    core: Core<'a>,
-    fresh: Fresh<u64, u64, Waiter<Alloc<'a>>>,
+    core: Core<A>,
+    fresh: Fresh<u64, u64, Waiter<A>>,
     passes: usize,
 ) -> u64
     requires opens { core.state ≡ opening fresh.capacity fresh.is_reserved }
@@ -78,29 +78,30 @@ fn play_as<'a, J: Recording + Send + Sync, R: Host>(
     requires passes { passes ≤ fresh.passes }
 {
     let parts = fresh.passes();
-    let made = Channel::<J, Alloc<'a>>::new(alloc, fresh, core, passes);
+    let made = Channel::<J, A>::new(alloc, fresh, core, passes);
     let (channel, mut passes) = made.expect(rt, "a channel");
     within(
         rt,
         "the end of a scene",
-        || act(rt, alloc, scene, &channel, &mut passes),
+        || act(rt, memory, alloc, scene, &channel, &mut passes),
     );
     end(rt, channel, passes, parts)
 }
 
 // Gives the passes back that it takes, or as many others.
-fn act<'a, J: Recording + Send + Sync, R: Host>(
+fn act<J: Recording + Send + Sync, A: Allocator + Copy + Send + Sync, R: Host>(
     rt: &R,
-    alloc: Alloc<'a>,
+    memory: &Refusing<Global>,
+    alloc: A,
     scene: Scene,
-    channel: &Channel<J, Alloc<'a>>,
-    passes: &mut Passes<J, Alloc<'a>>,
+    channel: &Channel<J, A>,
+    passes: &mut Passes<J, A>,
 ) {
     match scene {
         Scene::Guests => come_and_go(rt, channel, passes),
-        Scene::Futures => poll_futures(rt, alloc, channel, passes),
-        Scene::Limits => end_in_time(rt, alloc, channel, passes),
-        Scene::LateMessage => receive_late(rt, alloc, channel, passes),
+        Scene::Futures => poll_futures(rt, memory, alloc, channel, passes),
+        Scene::Limits => end_in_time(rt, memory, alloc, channel, passes),
+        Scene::LateMessage => receive_late(rt, memory, channel, passes),
         Scene::LastMoment => receive_at_the_end(rt, channel, passes),
         Scene::Threads => call_on_four_threads(rt, alloc, channel, passes),
         Scene::MixedThreads => explain_four_threads(rt, alloc, channel, passes),
@@ -109,10 +110,10 @@ fn act<'a, J: Recording + Send + Sync, R: Host>(
 
 // Ends a channel with parts for so many passes, and tells how many pairs are left. While a pass is
 // out it does not end.
-fn end<'a, J: Recording, R: Host>(
+fn end<J: Recording, A: Allocator + Copy, R: Host>(
     rt: &R,
-    channel: Channel<J, Alloc<'a>>,
-    mut passes: Passes<J, Alloc<'a>>,
+    channel: Channel<J, A>,
+    mut passes: Passes<J, A>,
     parts: usize,
 ) -> u64
     requires { parts ≡ J.parts }

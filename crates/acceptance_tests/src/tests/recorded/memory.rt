@@ -27,13 +27,14 @@ fn expect_received<R: Host>(rt: &R, n: u64, entries: &[Made]) {
 // answers are those of ample memory. Then what was accepted is received. Tells how many recorders
 // were refused, and how many calls.
 fn refuse_in_turn<R: Host>(rt: &R, entries: usize) -> (u64, u64) {
-    let alloc = Refusing::new(rt.alloc());
+    let memory = Refusing::new(rt.alloc());
     let (mut recorders, mut calls) = (0u64, 0u64);
-    for round in alloc.rounds() {
+    let scene = Scene::UntilRefused(&SEVEN);
+    for round in memory.rounds() {
         let n = round.expect(rt, "a request");
-        alloc.refuse_nth(n);
-        let told = record(rt, &alloc, Scene::UntilRefused(&SEVEN), 2, entries, 1);
-        let met_none = alloc.refuse_none();
+        memory.refuse_nth(n);
+        let told = record(rt, (&memory, &memory), scene, 2, entries, 1);
+        let met_none = memory.refuse_none();
         match told {
             Ok((history, refused)) => {
                 expect_equal_at(rt, n, refused == 0, met_none);

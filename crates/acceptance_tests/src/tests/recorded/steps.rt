@@ -4,11 +4,12 @@ ghost use Rattle.std.specs.Ordering.{nat_cmp};
 ghost use Rattle.priority_channel_recorded.specs.History.{entry};
 ghost use Rattle.priority_channel_recorded.specs.Passes.{IsTold};
 
-use super::{Alloc, Caller, Kept, Made, Passes, Recorder, Scene, call_and_keep, record};
+use super::{Caller, Kept, Made, Passes, Recorder, Scene, call_and_keep, record};
 use crate::tests::{Host, expect_equal};
 use async_priority_channel::TrySendError;
 use async_priority_channel::recorded::{Book, Call, Entry, NoPlace, Recording, Reply};
 use refusing::Refusing;
+use std::alloc::{Allocator, Global};
 use std::thread;
 
 /// One step of an example.
@@ -79,11 +80,11 @@ const CALLED_AGAIN: [Step; 2] = [
 
 // Plays the steps. The answers are those that they name. Where memory is scarce, a call may be
 // refused its entry, which leaves the count. Then what is pending is received.
-pub(super) fn play<'a, J: Recording + Send + Sync, R: Host>(
+pub(super) fn play<J: Recording + Send + Sync, R: Host, A: Allocator + Copy + Send + Sync>(
     rt: &R,
-    alloc: Alloc<'a>,
-    recorder: &Recorder<'a, J>,
-    passes: &mut Passes<'a, J>,
+    memory: &Refusing<Global>,
+    recorder: &Recorder<J, A>,
+    passes: &mut Passes<J, A>,
     kept: &mut Kept,
     steps: &[Step],
     is_scarce: bool,
@@ -106,11 +107,11 @@ pub(super) fn play<'a, J: Recording + Send + Sync, R: Host>(
             }
             Step::Again(_, call, wanted, count) => {
                 let pass = passes.get_mut(0).expect(rt, "a pass");
-                let told = call_again(rt, alloc, recorder, pass, kept, call);
+                let told = call_again(rt, memory, recorder, pass, kept, call);
                 expect_equal(rt, (told, pass.count()), (wanted, count));
             }
             Step::Meet => meet(rt, recorder, passes),
-            Step::RefuseNext => alloc.refuse_nth(1),
+            Step::RefuseNext => memory.refuse_nth(1),
         }
     }
     if is_scarce {
@@ -118,7 +119,11 @@ pub(super) fn play<'a, J: Recording + Send + Sync, R: Host>(
     }
 }
 
-fn meet<'a, J: Recording, R: Host>(rt: &R, recorder: &Recorder<'a, J>, passes: &mut Passes<'a, J>) {
+fn meet<J: Recording, R: Host, A: Allocator + Copy>(
+    rt: &R,
+    recorder: &Recorder<J, A>,
+    passes: &mut Passes<J, A>,
+) {
     let mut second = passes.pop().expect(rt, "a pass");
     let mut first = passes.pop().expect(rt, "a pass");
     let counts = (first.count(), second.count());
@@ -130,10 +135,10 @@ fn meet<'a, J: Recording, R: Host>(rt: &R, recorder: &Recorder<'a, J>, passes: &
 }
 
 // The last pass calls on a thread, which gives it back with its answer.
-fn call_on_thread<'a, J: Recording + Send + Sync, R: Host>(
+fn call_on_thread<J: Recording + Send + Sync, R: Host, A: Allocator + Copy + Send + Sync>(
     rt: &R,
-    recorder: &Recorder<'a, J>,
-    passes: &mut Passes<'a, J>,
+    recorder: &Recorder<J, A>,
+    passes: &mut Passes<J, A>,
     kept: &mut Kept,
     call: Call<u64, u64>,
 ) -> (Result<Reply<u64, u64>, NoPlace>, u64) {
@@ -153,10 +158,10 @@ fn call_on_thread<'a, J: Recording + Send + Sync, R: Host>(
 
 // Makes a call that is refused its entry, and then again. What the pass has seen afterwards is what
 // it had seen before both, what others did meanwhile, and this one entry.
-fn call_again<'a, J: Recording, R: Host>(
+fn call_again<J: Recording, R: Host, A: Allocator + Copy>(
     rt: &R,
-    alloc: Alloc<'a>,
-    recorder: &Recorder<'a, J>,
+    memory: &Refusing<Global>,
+    recorder: &Recorder<J, A>,
     pass: &mut Caller<J>,
     kept: &mut Kept,
     call: Call<u64, u64>,
@@ -164,17 +169,17 @@ fn call_again<'a, J: Recording, R: Host>(
     ensures { IfOk result (λ reply. IsTold nat_cmp J.capacity pass.old
         (entry pass.old.number call reply) pass.new) }
 {
-    alloc.refuse_nth(1);
+    memory.refuse_nth(1);
     let Err(NoPlace) = call_and_keep(rt, recorder, pass, kept, call) else {
         panic!(rt; "a call was made without memory");
     };
     call_and_keep(rt, recorder, pass, kept, call)
 }
 
-fn receive_rest<'a, J: Recording, R: Host>(
+fn receive_rest<J: Recording, R: Host, A: Allocator + Copy>(
     rt: &R,
-    recorder: &Recorder<'a, J>,
-    passes: &mut Passes<'a, J>,
+    recorder: &Recorder<J, A>,
+    passes: &mut Passes<J, A>,
     kept: &mut Kept,
 ) {
     let pass = passes.get_mut(0).expect(rt, "a pass");
@@ -216,8 +221,9 @@ pub fn expect_history<R: Host>(
     requires positive { 0 < cap }
     requires fits { cap < 2 ^ 63 }
 {
-    let alloc = Refusing::new(rt.alloc());
-    let told = record(rt, &alloc, Scene::Steps(steps), cap, entries, passes);
+    let memory = Refusing::new(rt.alloc());
+    let scene = Scene::Steps(steps);
+    let told = record(rt, (&memory, &memory), scene, cap, entries, passes);
     let (history, told) = told.expect(rt, "a recorder");
     let wanted = entries_of(rt, steps);
     expect_equal(rt, history.entries(), wanted.as_slice());

@@ -1,10 +1,11 @@
 //! Threads with a pass each, which call at once.
-use super::{Alloc, Caller, Kept, Made, Passes, Recorder, Scene, call_and_keep, record};
+use super::{Caller, Kept, Made, Passes, Recorder, Scene, call_and_keep, record};
 use crate::tests::plain_list::ask_list;
 use crate::tests::watch::arrive;
 use crate::tests::{Host, expect_equal};
 use async_priority_channel::recorded::{Call, Recording, Reply};
 use refusing::Refusing;
+use std::alloc::Allocator;
 use std::sync::atomic::AtomicUsize;
 use std::{mem, thread};
 
@@ -32,9 +33,9 @@ fn ith_call(work: Work, who: u64, i: u64) -> Call<u64, u64> {
 }
 
 // The calls of one thread, and what it kept of them. There is memory for all entries.
-fn call_often<'a, J: Recording, R: Host>(
+fn call_often<J: Recording, R: Host, A: Allocator + Copy>(
     rt: &R,
-    recorder: &Recorder<'a, J>,
+    recorder: &Recorder<J, A>,
     mut pass: Caller<J>,
     work: Work,
 ) -> (Caller<J>, Kept) {
@@ -56,11 +57,15 @@ fn call_often<'a, J: Recording, R: Host>(
 }
 
 /// Each pass calls on a thread of its own.
-pub(super) fn call_on_threads<'a, J: Recording + Send + Sync, R: Host>(
+pub(super) fn call_on_threads<
+    J: Recording + Send + Sync,
+    R: Host,
+    A: Allocator + Copy + Send + Sync,
+>(
     rt: &R,
-    alloc: Alloc<'a>,
-    recorder: &Recorder<'a, J>,
-    passes: &mut Passes<'a, J>,
+    alloc: A,
+    recorder: &Recorder<J, A>,
+    passes: &mut Passes<J, A>,
     kept: &mut Kept,
     work: Work,
 ) {
@@ -83,8 +88,9 @@ pub(super) fn call_on_threads<'a, J: Recording + Send + Sync, R: Host>(
 
 #[test]
 fn four_threads_record_a_thousand_calls_each(rt: HostRuntime) {
-    let alloc = Refusing::new(rt.alloc());
-    let told = record(&rt, &alloc, Scene::Threads(Work::Mixed), CAPACITY, 4000, 4);
+    let memory = Refusing::new(rt.alloc());
+    let (memory, scene) = ((&memory, rt.alloc()), Scene::Threads(Work::Mixed));
+    let told = record(&rt, memory, scene, CAPACITY, 4000, 4);
     let (history, _) = told.expect(&rt, "a recorder");
     let entries = history.entries();
     expect_equal(&rt, entries.len(), 4000);
@@ -104,8 +110,9 @@ fn count_replies(entries: &[Made], was_open: bool) -> usize {
 
 #[test]
 fn sixteen_threads_close_a_recorded_channel(rt: HostRuntime) {
-    let alloc = Refusing::new(rt.alloc());
-    let told = record(&rt, &alloc, Scene::Threads(Work::Close), 1, 16, 16);
+    let memory = Refusing::new(rt.alloc());
+    let (memory, scene) = ((&memory, rt.alloc()), Scene::Threads(Work::Close));
+    let told = record(&rt, memory, scene, 1, 16, 16);
     let (history, _) = told.expect(&rt, "a recorder");
     let entries = history.entries();
     let (closes, others) = (count_replies(entries, true), count_replies(entries, false));

@@ -7,23 +7,22 @@ use super::ledger::Ledger;
 use super::states::State;
 use super::words::{MOST_RESERVED, Text, capacity, number, ticket, waker};
 use priority_channel_core::channel::{CorePoll, PriorityQueueChannel};
-use refusing::Refusing;
-use std::alloc::{AllocError, AllocGlobal, Global};
+use std::alloc::{AllocError, AllocGlobal, Allocator};
 use std::process::Abort;
 
-pub type Core<'a> = PriorityQueueChannel<Text, u64, u64, &'a Refusing<Global>>;
+pub type Core<A> = PriorityQueueChannel<Text, u64, u64, A>;
 
 /// A core, and the states that are polled on it.
 #[derive(Drop)]
-pub struct CoreStage<'a> {
-    alloc: &'a Refusing<Global>,
-    core: Core<'a>,
+pub struct CoreStage<A: Allocator + Copy> {
+    alloc: A,
+    core: Core<A>,
     states: Vec<(Text, State)>,
     ledger: Ledger,
 }
 
-impl<'a> CoreStage<'a> {
-    pub fn new<R: AllocGlobal>(rt: &R, alloc: &'a Refusing<Global>) -> Self {
+impl<A: Allocator + Copy> CoreStage<A> {
+    pub fn new<R: AllocGlobal>(rt: &R, alloc: A) -> Self {
         CoreStage {
             alloc,
             core: Core::unbounded(alloc),
@@ -43,7 +42,7 @@ impl<'a> CoreStage<'a> {
 
     // Makes a channel in place of the one before.
     fn open<R: Abort + AllocGlobal>(&mut self, rt: &R, call: &[Text]) -> String {
-        let made: Result<Core<'a>, AllocError> = match call {
+        let made: Result<Core<A>, AllocError> = match call {
             ["bounded", word] => Ok(Core::bounded(self.alloc, capacity(rt, *word, u64::MAX))),
             ["bounded_reserved", word] => {
                 Core::bounded_reserved(self.alloc, capacity(rt, *word, MOST_RESERVED))
@@ -90,10 +89,10 @@ impl<'a> CoreStage<'a> {
     }
 }
 
-fn ask<R: Abort + AllocGlobal>(
+fn ask<R: Abort + AllocGlobal, A: Allocator + Copy>(
     rt: &R,
     ledger: &mut Ledger,
-    core: &mut Core<'_>,
+    core: &mut Core<A>,
     name: Text,
     arguments: &[Text],
 ) -> String {
@@ -126,7 +125,11 @@ fn ask<R: Abort + AllocGlobal>(
     }
 }
 
-fn ask_itself<R: Abort + AllocGlobal>(rt: &R, core: &mut Core<'_>, call: Text) -> String {
+fn ask_itself<R: Abort + AllocGlobal, A: Allocator + Copy>(
+    rt: &R,
+    core: &mut Core<A>,
+    call: Text,
+) -> String {
     match call {
         "close" => {
             let (was_open, wakes) = core.close();
@@ -146,7 +149,11 @@ fn ask_itself<R: Abort + AllocGlobal>(rt: &R, core: &mut Core<'_>, call: Text) -
     }
 }
 
-fn look_at<R: Abort + AllocGlobal>(rt: &R, core: &Core<'_>, call: Text) -> String {
+fn look_at<R: Abort + AllocGlobal, A: Allocator + Copy>(
+    rt: &R,
+    core: &Core<A>,
+    call: Text,
+) -> String {
     match call {
         "is_closed" => told(rt, core.is_closed()),
         "is_empty" => told(rt, core.is_empty()),
@@ -159,10 +166,10 @@ fn look_at<R: Abort + AllocGlobal>(rt: &R, core: &Core<'_>, call: Text) -> Strin
     }
 }
 
-fn poll_send<R: Abort + AllocGlobal>(
+fn poll_send<R: Abort + AllocGlobal, A: Allocator + Copy>(
     rt: &R,
     ledger: &mut Ledger,
-    core: &mut Core<'_>,
+    core: &mut Core<A>,
     word: Text,
     given: Text,
     by: Text,
@@ -179,10 +186,10 @@ fn poll_send<R: Abort + AllocGlobal>(
     handed(rt, told, wakes)
 }
 
-fn poll_sendv<R: Abort + AllocGlobal>(
+fn poll_sendv<R: Abort + AllocGlobal, A: Allocator + Copy>(
     rt: &R,
     ledger: &mut Ledger,
-    core: &mut Core<'_>,
+    core: &mut Core<A>,
     words: &[Text],
     given: Text,
     by: Text,
@@ -199,10 +206,10 @@ fn poll_sendv<R: Abort + AllocGlobal>(
     handed(rt, told, wakes)
 }
 
-fn poll_recv<R: Abort + AllocGlobal>(
+fn poll_recv<R: Abort + AllocGlobal, A: Allocator + Copy>(
     rt: &R,
     ledger: &mut Ledger,
-    core: &mut Core<'_>,
+    core: &mut Core<A>,
     given: Text,
     by: Text,
 ) -> String {

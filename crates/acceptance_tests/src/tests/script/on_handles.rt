@@ -2,7 +2,6 @@
 use super::answers::{
     ready_sent, ready_sent_many, text, told, told_received, told_sent, told_sent_many,
 };
-use super::asking::Asking;
 use super::ledger::Ledger;
 use super::words::{Bulk, MOST_RESERVED, Text, capacity};
 use crate::tests::{Host, expect_equal, wait_for};
@@ -11,8 +10,8 @@ use async_priority_channel::{
     End, Ends, Receiver, Role, Sender, TrySendError, bounded, bounded_reserved, unbounded,
 };
 use futures::future::{Future, poll_immediate};
-use refusing::Refusing;
-use std::alloc::{AllocError, Global};
+use std::alloc::{AllocError, AllocGlobal, Allocator};
+use std::sync::Wait;
 
 /// How `send` and `recv` are made.
 #[derive(Clone, Copy)]
@@ -21,32 +20,29 @@ pub enum Way {
     AsFuture,
 }
 
-type Memory<'a> = &'a Refusing<Global>;
+type Handle<S, W, A> = End<S, Text, u64, W, A>;
 
-type Handle<'a, S, R> = End<S, Text, u64, Asking<'a, R>, Memory<'a>>;
+type Tx<W, A> = Sender<Text, u64, W, A>;
 
-type Tx<'a, R> = Sender<Text, u64, Asking<'a, R>, Memory<'a>>;
-
-type Rx<'a, R> = Receiver<Text, u64, Asking<'a, R>, Memory<'a>>;
+type Rx<W, A> = Receiver<Text, u64, W, A>;
 
 /// The handles of one channel, of which the last of either kind makes the calls.
 #[derive(Drop)]
-pub struct HandleStage<'a, R: Host> {
-    permission: &'a Asking<'a, R>,
-    alloc: Memory<'a>,
+pub struct HandleStage<'a, W: Wait + Clone, A: Allocator + Copy> {
+    permission: &'a W,
+    alloc: A,
     way: Way,
-    senders: Vec<Tx<'a, R>>,
-    receivers: Vec<Rx<'a, R>>,
+    senders: Vec<Tx<W, A>>,
+    receivers: Vec<Rx<W, A>>,
     ledger: Ledger,
 }
 
-impl<'a, R: Host> HandleStage<'a, R> {
+impl<'a, W: Wait + Clone, A: Allocator + Copy> HandleStage<'a, W, A> {
     /// Without a channel as yet.
-    pub fn new(permission: &'a Asking<'a, R>, way: Way) -> Self {
-        let rt = permission.rt;
+    pub fn new<R: AllocGlobal>(rt: &R, permission: &'a W, alloc: A, way: Way) -> Self {
         HandleStage {
             permission,
-            alloc: permission.alloc,
+            alloc,
             way,
             senders: Vec::new(rt.alloc()),
             receivers: Vec::new(rt.alloc()),
@@ -54,7 +50,7 @@ impl<'a, R: Host> HandleStage<'a, R> {
         }
     }
 
-    pub fn make(&mut self, rt: &R, call: &[Text]) -> String {
+    pub fn make<R: Host>(&mut self, rt: &R, call: &[Text]) -> String {
         match call {
             ["unbounded" | "bounded" | "bounded_reserved", ..] => self.open(rt, call),
             ["clone_sender"] => clone_last(rt, &mut self.senders),
@@ -78,8 +74,8 @@ impl<'a, R: Host> HandleStage<'a, R> {
     }
 
     // Makes a channel in place of the one before.
-    fn open(&mut self, rt: &R, call: &[Text]) -> String {
-        let made: Result<Ends<Text, u64, Asking<'a, R>, Memory<'a>>, AllocError> = match call {
+    fn open<R: Host>(&mut self, rt: &R, call: &[Text]) -> String {
+        let made: Result<Ends<Text, u64, W, A>, AllocError> = match call {
             ["bounded", word] => {
                 bounded(self.permission, self.alloc, capacity(rt, *word, u64::MAX))
             }
@@ -104,7 +100,7 @@ impl<'a, R: Host> HandleStage<'a, R> {
 
     /// Receives what is pending, so that each pair has come out or back. The channel counts the
     /// handles that there are.
-    pub fn settle(&mut self, rt: &R) {
+    pub fn settle<R: Host>(&mut self, rt: &R) {
         if let Some(rx) = self.receivers.last() {
             for _ in 0..rx.len() {
                 receive(rt, &mut self.ledger, rx, false);
@@ -120,7 +116,10 @@ fn last<'a, R: Host, H>(rt: &R, handles: &'a Vec<H>) -> &'a H {
     handles.last().expect(rt, "a handle")
 }
 
-fn clone_last<'a, S: Role, R: Host>(rt: &R, handles: &mut Vec<Handle<'a, S, R>>) -> String {
+fn clone_last<S: Role, R: Host, W: Wait + Clone, A: Allocator + Copy>(
+    rt: &R,
+    handles: &mut Vec<Handle<S, W, A>>,
+) -> String {
     match last(rt, handles).clone() {
         Ok(other) => {
             handles.push(other).expect(rt, "memory");
@@ -135,19 +134,24 @@ fn drop_last<R: Host, H: Drop>(rt: &R, handles: &mut Vec<H>) -> String {
     text(rt, "")
 }
 
-fn receive<'a, R: Host>(rt: &R, ledger: &mut Ledger, rx: &Rx<'a, R>, is_future: bool) -> String {
+fn receive<R: Host, W: Wait + Clone, A: Allocator + Copy>(
+    rt: &R,
+    ledger: &mut Ledger,
+    rx: &Rx<W, A>,
+    is_future: bool,
+) -> String {
     if is_future {
-        let future: Recv<'_, Text, u64, Asking<'a, R>, Memory<'a>> = rx.recv();
+        let future: Recv<'_, Text, u64, W, A> = rx.recv();
         told_received(rt, ledger, wait_for(rt, future))
     } else {
         told_received(rt, ledger, rx.try_recv())
     }
 }
 
-fn send<'a, R: Host>(
+fn send<R: Host, W: Wait + Clone, A: Allocator + Copy>(
     rt: &R,
     ledger: &mut Ledger,
-    tx: &Tx<'a, R>,
+    tx: &Tx<W, A>,
     call: &[Text],
     way: Way,
 ) -> String {
@@ -170,15 +174,15 @@ fn send<'a, R: Host>(
 }
 
 // The future is waited for, or it is polled once and dropped.
-fn send_by_future<'a, R: Host>(
+fn send_by_future<R: Host, W: Wait + Clone, A: Allocator + Copy>(
     rt: &R,
     ledger: &mut Ledger,
-    tx: &Tx<'a, R>,
+    tx: &Tx<W, A>,
     word: Text,
     is_once: bool,
 ) -> String {
     let (msg, priority) = ledger.submit(rt, word);
-    let future: Send<'_, Text, u64, Asking<'a, R>, Memory<'a>> = tx.send(msg, priority);
+    let future: Send<'_, Text, u64, W, A> = tx.send(msg, priority);
     match answer_of(rt, future, is_once) {
         Some(sent) if is_once => ready_sent(rt, ledger, sent),
         Some(sent) => told_sent(rt, ledger, sent.map_err(TrySendError::from)),
@@ -197,14 +201,14 @@ fn answer_of<F: Future>(rt: &impl Host, future: F, is_once: bool) -> Option<F::O
     }
 }
 
-fn poll_sendv_once<'a, R: Host>(
+fn poll_sendv_once<R: Host, W: Wait + Clone, A: Allocator + Copy>(
     rt: &R,
     ledger: &mut Ledger,
-    tx: &Tx<'a, R>,
+    tx: &Tx<W, A>,
     words: &[Text],
 ) -> String {
     let msgs = ledger.submit_many(rt, words);
-    let future: Sendv<'_, Text, u64, Bulk, Asking<'a, R>, Memory<'a>> = tx.sendv(msgs);
+    let future: Sendv<'_, Text, u64, Bulk, W, A> = tx.sendv(msgs);
     match answer_of(rt, future, true) {
         Some(sent) => ready_sent_many(rt, ledger, sent),
         None => text(rt, "Pending"),
@@ -212,7 +216,11 @@ fn poll_sendv_once<'a, R: Host>(
 }
 
 // What a sender and a receiver have both.
-fn ask_either<'a, S: Role, R: Host>(rt: &R, end: &Handle<'a, S, R>, call: Text) -> String {
+fn ask_either<S: Role, R: Host, W: Wait + Clone, A: Allocator + Copy>(
+    rt: &R,
+    end: &Handle<S, W, A>,
+    call: Text,
+) -> String {
     match call {
         "close" => told(rt, end.close()),
         "is_closed" => told(rt, end.is_closed()),

@@ -2,7 +2,7 @@
 use super::handles::Handle;
 use super::words::{Bulk, Host, Text, letter, number, pairs, told};
 use async_priority_channel::{
-    Closed, IntoStream, Recv, RecvMany, RecvStream, Send, Sending, Sendv,
+    Closed, IntoStream, LeaseNext, Recv, RecvMany, RecvStream, Reserve, Send, Sending, Sendv,
 };
 use futures::StreamExt;
 use futures::task::Poll;
@@ -15,7 +15,9 @@ use std::fmt::Debug;
 pub enum Lasting<'a, R: Host, A: Allocator + Copy> {
     Send(Send<'a, char, u64, R, A>),
     Sendv(Sendv<'a, char, u64, Bulk, R, A>),
+    Reserve(Reserve<'a, char, u64, R, A>),
     Recv(Recv<'a, char, u64, R, A>),
+    Lease(LeaseNext<'a, char, u64, R, A>),
     RecvMany(RecvMany<'a, char, u64, Global, R, A>),
     Stream(RecvStream<'a, char, u64, R, A>),
     IntoStream(IntoStream<char, u64, R, A>),
@@ -33,8 +35,10 @@ pub fn begin<'a, R: Host, A: Allocator + Copy>(
             Lasting::Send(tx.send(letter(rt, *msg), number(rt, *priority)))
         }
         (Handle::Sender(tx), ["sendv", msgs @ ..]) => Lasting::Sendv(tx.sendv(pairs(rt, msgs))),
+        (Handle::Sender(tx), ["reserve"]) => Lasting::Reserve(tx.reserve()),
         (Handle::Sender(tx), ["closed"]) => Lasting::Closed(tx.closed()),
         (Handle::Receiver(rx), ["recv"]) => Lasting::Recv(rx.recv()),
+        (Handle::Receiver(rx), ["lease"]) => Lasting::Lease(rx.lease()),
         (Handle::Receiver(rx), ["recv_many", limit]) => {
             let batch = batch.take().expect(rt, "the first such call");
             Lasting::RecvMany(rx.recv_many(batch, number(rt, *limit) as usize))
@@ -88,6 +92,9 @@ pub fn poll<R: Host, A: Allocator + Copy>(
     match lasting {
         Lasting::Send(send) => told_polled(rt, task.poll(send)),
         Lasting::Sendv(sendv) => poll_sendv(rt, sendv, task),
+        // A permit or a lease goes as it is told.
+        Lasting::Reserve(reserve) => told_polled(rt, task.poll(reserve)),
+        Lasting::Lease(lease) => told_polled(rt, task.poll(lease)),
         Lasting::Recv(recv) => told_polled(rt, task.poll(recv)),
         Lasting::RecvMany(recv_many) => told_polled(rt, task.poll(recv_many)),
         Lasting::Stream(stream) => poll_stream(rt, stream, task),

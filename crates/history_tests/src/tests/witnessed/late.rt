@@ -1,6 +1,6 @@
 //! Messages that come after the first try of a receive: of one that is refused memory to wait, and
 //! of one whose time is over.
-use super::{Alloc, Caller, Channel, Passes, Scene, play};
+use super::{Caller, Channel, Passes, Scene, play};
 use crate::tests::{Host, expect_equal, wait_for};
 use priority_channel_witnessed::{Recording, wake_all};
 use refusing::Refusing;
@@ -13,32 +13,32 @@ use std::{io, thread};
 /// The last try finds it.
 pub(super) fn receive_late<J: Recording + Send + Sync, A: Allocator + Copy + Send + Sync, R: Host>(
     rt: &R,
-    alloc: &Refusing<Global>,
+    memory: &Refusing<Global>,
     channel: &Channel<J, A>,
     passes: &mut Passes<J, A>,
 ) {
     let receiver = passes.pop().expect(rt, "a pass");
     let mut sender = passes.pop().expect(rt, "a pass");
-    alloc.refuse_nth(1);
-    alloc.hold_nth(1);
+    memory.refuse_nth(1);
+    memory.hold_nth(1);
     let ((received, receiver), sent) = thread::join(
         rt,
         || wait_for(rt, channel.recv(rt, receiver)),
         || {
             for _ in 0..u64::MAX {
-                if alloc.is_holding() {
+                if memory.is_holding() {
                     break;
                 }
                 thread::yield_now();
             }
             let (sent, wakes) = channel.try_send(rt, &mut sender, 1, 5);
             wake_all(rt, wakes);
-            alloc.let_go();
+            memory.let_go();
             sent
         },
     );
     expect_equal(rt, (sent, received), (Ok(()), Ok((1, 5))));
-    expect_equal(rt, alloc.refuse_none(), false);
+    expect_equal(rt, memory.refuse_none(), false);
     passes.push(sender).expect(rt, "its own place");
     passes.push(receiver).expect(rt, "its own place");
 }
@@ -55,16 +55,16 @@ fn limit() -> Duration {
 /// A clock. At its third reading, the one after a wait is listed, a pass sends, and the time is
 /// over.
 #[derive(Drop)]
-struct Bringing<'x, 'a, J: Recording, R> {
+struct Bringing<'x, J: Recording, A: Allocator + Copy, R> {
     rt: &'x R,
     readings: Cell<u64>,
-    channel: &'x Channel<J, Alloc<'a>>,
-    sender: RefCell<Caller<J, Alloc<'a>>>,
+    channel: &'x Channel<J, A>,
+    sender: RefCell<Caller<J, A>>,
 }
 
-impl<J: Recording, R: Wait> Wait for Bringing<'_, '_, J, R> {}
+impl<J: Recording, A: Allocator + Copy, R: Wait> Wait for Bringing<'_, J, A, R> {}
 
-impl<J: Recording, R: Host> Clock for Bringing<'_, '_, J, R> {
+impl<J: Recording, A: Allocator + Copy, R: Host> Clock for Bringing<'_, J, A, R> {
     fn monotonic(&self) -> io::Result<Duration> {
         self.readings.set(self.readings.get().wrapping_add(1));
         let now = self.rt.monotonic()?;
@@ -84,10 +84,10 @@ impl<J: Recording, R: Host> Clock for Bringing<'_, '_, J, R> {
 }
 
 /// The last look finds it.
-pub(super) fn receive_at_the_end<'a, J: Recording, R: Host>(
+pub(super) fn receive_at_the_end<J: Recording, A: Allocator + Copy, R: Host>(
     rt: &R,
-    channel: &Channel<J, Alloc<'a>>,
-    passes: &mut Passes<J, Alloc<'a>>,
+    channel: &Channel<J, A>,
+    passes: &mut Passes<J, A>,
 ) {
     let mut receiver = passes.pop().expect(rt, "a pass");
     let sender = passes.pop().expect(rt, "a pass");

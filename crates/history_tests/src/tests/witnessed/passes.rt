@@ -1,14 +1,15 @@
 //! Passes that come and go.
-use super::{Alloc, Channel, Passes, Scene, count, play};
+use super::{Channel, Passes, Scene, count, play};
 use crate::tests::{Host, expect_equal};
 use priority_channel_witnessed::Recording;
+use std::alloc::Allocator;
 
 /// To a channel of four parts, with one pass, two can come at a time. The first that came sends,
 /// and goes before the last is asked for.
-pub(super) fn come_and_go<'a, J: Recording, R: Host>(
+pub(super) fn come_and_go<J: Recording, A: Allocator + Copy, R: Host>(
     rt: &R,
-    channel: &Channel<J, Alloc<'a>>,
-    passes: &mut Passes<J, Alloc<'a>>,
+    channel: &Channel<J, A>,
+    passes: &mut Passes<J, A>,
 ) {
     let own = passes.pop().expect(rt, "a pass");
     let mut one = channel.fork(rt, &own).expect(rt, "a pass to fork");

@@ -1,8 +1,10 @@
 //! Futures, which hold their pass until they answer.
-use super::{Alloc, Caller, Channel, Passes, Scene, count, play};
+use super::{Caller, Channel, Passes, Scene, count, play};
 use crate::tests::{Host, expect_equal, wait_for};
 use futures::future::{Future, poll_immediate};
 use priority_channel_witnessed::Recording;
+use refusing::Refusing;
+use std::alloc::{Allocator, Global};
 
 /// A future that is dropped before it has answered.
 #[derive(Clone, Copy, Debug, Drop, PartialEq)]
@@ -32,10 +34,10 @@ fn drop_future<F: Future<Output: Drop>>(rt: &impl Host, future: F, waits: bool)
     }
 }
 
-fn drop_with_guest<'a, J: Recording, R: Host>(
+fn drop_with_guest<J: Recording, A: Allocator + Copy, R: Host>(
     rt: &R,
-    alloc: Alloc<'a>,
-    channel: &Channel<J, Alloc<'a>>,
+    alloc: A,
+    channel: &Channel<J, A>,
     (gone, waits): (Gone, bool),
 ) {
     let guest = channel.admit(rt).expect(rt, "a pass to admit");
@@ -50,10 +52,10 @@ fn drop_with_guest<'a, J: Recording, R: Host>(
     }
 }
 
-fn send_one<'a, J: Recording, R: Host>(
+fn send_one<J: Recording, A: Allocator + Copy, R: Host>(
     rt: &R,
-    channel: &Channel<J, Alloc<'a>>,
-    own: &mut Caller<J, Alloc<'a>>,
+    channel: &Channel<J, A>,
+    own: &mut Caller<J, A>,
     row: (Gone, bool),
 ) {
     let (sent, wakes) = channel.try_send(rt, own, 7, 1);
@@ -61,11 +63,11 @@ fn send_one<'a, J: Recording, R: Host>(
 }
 
 // What it waited for wakes nobody, and it has sent and received nothing.
-fn expect_gone<'a, J: Recording, R: Host>(
+fn expect_gone<J: Recording, A: Allocator + Copy, R: Host>(
     rt: &R,
-    alloc: Alloc<'a>,
-    channel: &Channel<J, Alloc<'a>>,
-    own: &mut Caller<J, Alloc<'a>>,
+    alloc: A,
+    channel: &Channel<J, A>,
+    own: &mut Caller<J, A>,
     row: (Gone, bool),
 ) {
     let waits_for_room = row.0 != Gone::Recv;
@@ -82,11 +84,11 @@ fn expect_gone<'a, J: Recording, R: Host>(
 }
 
 // Receives with a guest, which is polled twice before the own pass sends.
-fn poll_twice<'a, J: Recording, R: Host>(
+fn poll_twice<J: Recording, A: Allocator + Copy, R: Host>(
     rt: &R,
-    channel: &Channel<J, Alloc<'a>>,
-    own: &mut Caller<J, Alloc<'a>>,
-    guest: Caller<J, Alloc<'a>>,
+    channel: &Channel<J, A>,
+    own: &mut Caller<J, A>,
+    guest: Caller<J, A>,
 ) {
     let mut receiving = channel.recv(rt, guest);
     for _ in 0..2u64 {
@@ -103,11 +105,12 @@ fn poll_twice<'a, J: Recording, R: Host>(
 /// Futures are dropped, each with a pass that comes where the one before has left. A receive that
 /// is polled twice in vain is listed once. Those that need not wait ask for no memory: the request
 /// that is to be refused never comes.
-pub(super) fn poll_futures<'a, J: Recording, R: Host>(
+pub(super) fn poll_futures<J: Recording, A: Allocator + Copy, R: Host>(
     rt: &R,
-    alloc: Alloc<'a>,
-    channel: &Channel<J, Alloc<'a>>,
-    passes: &mut Passes<J, Alloc<'a>>,
+    memory: &Refusing<Global>,
+    alloc: A,
+    channel: &Channel<J, A>,
+    passes: &mut Passes<J, A>,
 ) {
     let mut own = passes.pop().expect(rt, "a pass");
     for row in GONE {
@@ -116,11 +119,11 @@ pub(super) fn poll_futures<'a, J: Recording, R: Host>(
     let guest = channel.fork(rt, &own).expect(rt, "a pass to fork");
     expect_equal(rt, guest.number(), 7);
     poll_twice(rt, channel, &mut own, guest);
-    alloc.refuse_nth(1);
+    memory.refuse_nth(1);
     let (sent, own) = wait_for(rt, channel.send(rt, own, 9, 3));
     let (received, own) = wait_for(rt, channel.recv(rt, own));
     expect_equal(rt, (sent, received), (Ok(()), Ok((9, 3))));
-    expect_equal(rt, alloc.refuse_none(), true);
+    expect_equal(rt, memory.refuse_none(), true);
     passes.push(own).expect(rt, "its own place");
 }
 

@@ -1,8 +1,10 @@
 //! Waits on a thread that end with their time, and what an ended wait leaves.
-use super::{Alloc, Caller, Channel, Passes, Scene, count, play};
+use super::{Caller, Channel, Passes, Scene, count, play};
 use crate::tests::{Host, expect_equal};
 use priority_channel_waiting::timeouts::{RecvTimeoutError, SendTimeoutError};
 use priority_channel_witnessed::Recording;
+use refusing::Refusing;
+use std::alloc::{Allocator, Global};
 use std::cell::Cell;
 use std::io;
 use std::sync::{Wait, WaitMethods};
@@ -45,29 +47,30 @@ fn expect_past<R: Host>(rt: &R, deadline: Instant) {
 
 /// Waits that end with their time, and then calls without time. A waiter whose time has passed is
 /// listed no more.
-pub(super) fn end_in_time<'a, J: Recording, R: Host>(
+pub(super) fn end_in_time<J: Recording, A: Allocator + Copy, R: Host>(
     rt: &R,
-    alloc: Alloc<'a>,
-    channel: &Channel<J, Alloc<'a>>,
-    passes: &mut Passes<J, Alloc<'a>>,
+    memory: &Refusing<Global>,
+    alloc: A,
+    channel: &Channel<J, A>,
+    passes: &mut Passes<J, A>,
 ) {
     let mut pass = passes.pop().expect(rt, "a pass");
     let begun = Instant::now(rt).expect(rt, "a clock");
     receive_in_time(rt, channel, &mut pass, begun);
     send_in_time(rt, channel, &mut pass);
     // Each is a try, which asks for no memory, so the request that is to be refused never comes.
-    alloc.refuse_nth(1);
+    memory.refuse_nth(1);
     call_without_time(rt, channel, &mut pass, begun);
-    expect_equal(rt, alloc.refuse_none(), true);
+    expect_equal(rt, memory.refuse_none(), true);
     send_three_in_time(rt, alloc, channel, &mut pass);
     passes.push(pass).expect(rt, "its own place");
 }
 
 // From an empty channel: neither ends before its limit or its deadline.
-fn receive_in_time<'a, J: Recording, R: Host>(
+fn receive_in_time<J: Recording, A: Allocator + Copy, R: Host>(
     rt: &R,
-    channel: &Channel<J, Alloc<'a>>,
-    pass: &mut Caller<J, Alloc<'a>>,
+    channel: &Channel<J, A>,
+    pass: &mut Caller<J, A>,
     begun: Instant,
 ) {
     let counting = Counting {
@@ -87,10 +90,10 @@ fn receive_in_time<'a, J: Recording, R: Host>(
 }
 
 // Into a channel that is full with a pair, which is received then.
-fn send_in_time<'a, J: Recording, R: Host>(
+fn send_in_time<J: Recording, A: Allocator + Copy, R: Host>(
     rt: &R,
-    channel: &Channel<J, Alloc<'a>>,
-    pass: &mut Caller<J, Alloc<'a>>,
+    channel: &Channel<J, A>,
+    pass: &mut Caller<J, A>,
 ) {
     let (_, wakes) = channel.try_send(rt, pass, 1, 5);
     expect_equal(rt, count(wakes), 0);
@@ -106,10 +109,10 @@ fn send_in_time<'a, J: Recording, R: Host>(
     expect_equal(rt, count(wakes), 0);
 }
 
-fn call_without_time<'a, J: Recording, R: Host>(
+fn call_without_time<J: Recording, A: Allocator + Copy, R: Host>(
     rt: &R,
-    channel: &Channel<J, Alloc<'a>>,
-    pass: &mut Caller<J, Alloc<'a>>,
+    channel: &Channel<J, A>,
+    pass: &mut Caller<J, A>,
     begun: Instant,
 ) {
     let late = channel.recv_timeout(rt, pass, Duration::ZERO);
@@ -127,11 +130,11 @@ fn call_without_time<'a, J: Recording, R: Host>(
 }
 
 // Of three pairs by one call one is sent in the end.
-fn send_three_in_time<'a, J: Recording, R: Host>(
+fn send_three_in_time<J: Recording, A: Allocator + Copy, R: Host>(
     rt: &R,
-    alloc: Alloc<'a>,
-    channel: &Channel<J, Alloc<'a>>,
-    pass: &mut Caller<J, Alloc<'a>>,
+    alloc: A,
+    channel: &Channel<J, A>,
+    pass: &mut Caller<J, A>,
 ) {
     let pairs = Vec::from_array(alloc, [(7u64, 1u64), (8, 1), (9, 1)]).expect(rt, "memory");
     let end = deadline(rt);
