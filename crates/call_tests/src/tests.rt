@@ -1,7 +1,8 @@
 //! All calls by their names, on one thread and beside other threads.
 use futures::task::Poll;
 use futures::test::MockTask;
-use std::alloc::AllocGlobal;
+use refusing::Refusing;
+use std::alloc::{AllocGlobal, Global};
 use std::fmt::Debug;
 use std::process::Abort;
 use std::random::RandomSource;
@@ -17,6 +18,9 @@ mod threads;
 pub trait Host: Abort + Wait + Clone + Clock + RandomSource + AllocGlobal {}
 
 impl<R: Abort + Wait + Clone + Clock + RandomSource + AllocGlobal> Host for R {}
+
+/// What is asked to refuse requests or to hold them, and the allocator of a channel, a `&` to it.
+type Memory<'m, A> = (&'m Refusing<Global>, A);
 
 /// `assert_eq!`, proved once: each one in place takes seconds of the check. It tells the round of a
 /// table, or what was looked at.

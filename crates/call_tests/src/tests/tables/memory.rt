@@ -5,7 +5,7 @@ use crate::tests::driver::all::ALL;
 use crate::tests::driver::calls::{Call, Input, Side, Way};
 use crate::tests::driver::model::Model;
 use crate::tests::driver::reply::{Outcome, Reply};
-use crate::tests::{Host, expect_equal_at, expect_true};
+use crate::tests::{Host, Memory, expect_equal_at, expect_true};
 use async_priority_channel::{End, Ends, Role, bounded, bounded_reserved, unbounded};
 use refusing::Refusing;
 use refusing::watch::Watch;
@@ -55,10 +55,10 @@ fn expect_refused<R: Host>(rt: &R, model: &mut Model, round: Round, reply: Reply
 }
 
 // Tells whether the request of that number never came.
-fn refuse<'a, R: Host>(
+fn refuse<R: Host, A: Allocator + Copy>(
     rt: &R,
-    alloc: &'a Refusing<Global>,
-    ends: Ends<u64, u64, R, &'a Refusing<Global>>,
+    (memory, alloc): Memory<'_, A>,
+    ends: Ends<u64, u64, R, A>,
     round: Round,
 ) -> bool {
     let (pending, is_closed, call, n) = round;
@@ -74,9 +74,9 @@ fn refuse<'a, R: Host>(
     if mirrored.model.waits(call, of_call) {
         return true;
     }
-    alloc.refuse_nth(n);
+    memory.refuse_nth(n);
     let reply = mirrored.handles.make(rt, call, of_call);
-    let met_none = alloc.refuse_none();
+    let met_none = memory.refuse_none();
     if reply.outcome == Outcome::Memory {
         expect_equal_at(rt, round, met_none, false);
         expect_refused(rt, &mut mirrored.model, round, reply, of_call);
@@ -100,16 +100,16 @@ fn refuse<'a, R: Host>(
 
 #[test]
 fn no_call_loses_what_is_refused_memory(rt: HostRuntime) {
-    let alloc = Refusing::new(rt.alloc());
+    let memory = Refusing::new(rt.alloc());
     let watch = Watch::new(None);
     watch_rounds(&rt, &watch, || {
         for pending in PENDING {
             for call in ALL {
                 for n in 1..MOST {
-                    let ends = bounded(&rt, &alloc, CAPACITY).expect(&rt, "a channel");
+                    let ends = bounded(&rt, &memory, CAPACITY).expect(&rt, "a channel");
                     let round = (pending, false, call, n);
                     watch.begin(&rt, Some(round));
-                    if refuse(&rt, &alloc, ends, round) {
+                    if refuse(&rt, (&memory, &memory), ends, round) {
                         break;
                     }
                     expect_equal_at(&rt, call, n < MOST - 1, true);
@@ -132,17 +132,21 @@ fn is_blocked(call: Call, pending: u64, is_closed: bool) -> bool {
 // Without a request nothing is refused, so the first round is the last.
 #[test]
 fn a_reserved_channel_takes_memory_for_waiting_alone(rt: HostRuntime) {
-    let alloc = Refusing::new(rt.alloc());
+    let memory = Refusing::new(rt.alloc());
     let watch = Watch::new(None);
     watch_rounds(&rt, &watch, || {
         for pending in PENDING {
             for is_closed in [false, true] {
                 for call in ALL {
                     if takes_none(call, is_blocked(call, pending, is_closed)) {
-                        let ends = bounded_reserved(&rt, &alloc, CAPACITY).expect(&rt, "a channel");
+                        let ends = bounded_reserved(&rt, &memory, CAPACITY).expect(
+                            &rt,
+                            "a channel",
+                        );
                         let round = (pending, is_closed, call, 1);
                         watch.begin(&rt, Some(round));
-                        expect_equal_at(&rt, round, refuse(&rt, &alloc, ends, round), true);
+                        let met_none = refuse(&rt, (&memory, &memory), ends, round);
+                        expect_equal_at(&rt, round, met_none, true);
                     }
                 }
             }
@@ -150,19 +154,23 @@ fn a_reserved_channel_takes_memory_for_waiting_alone(rt: HostRuntime) {
     });
 }
 
+fn refuse_constructors<R: Host, A: Allocator + Copy>(rt: &R, (memory, alloc): Memory<'_, A>) {
+    memory.refuse_all();
+    let bounded_made = bounded::<u64, u64, _, _>(rt, alloc, 1).is_ok();
+    let unbounded_made = unbounded::<u64, u64, _, _>(rt, alloc).is_ok();
+    let made = (bounded_made, unbounded_made);
+    expect_equal_at(rt, "made", made, (false, false));
+    for n in 1..=2u64 {
+        memory.refuse_nth(n);
+        let made = bounded_reserved::<u64, u64, _, _>(rt, alloc, 1);
+        expect_equal_at(rt, n, made.is_err(), true);
+    }
+}
+
 #[test]
 fn a_constructor_may_be_refused(rt: HostRuntime) {
-    let alloc = Refusing::new(rt.alloc());
-    alloc.refuse_all();
-    let bounded_made = bounded::<u64, u64, _, _>(&rt, &alloc, 1).is_ok();
-    let unbounded_made = unbounded::<u64, u64, _, _>(&rt, &alloc).is_ok();
-    let made = (bounded_made, unbounded_made);
-    expect_equal_at(&rt, "made", made, (false, false));
-    for n in 1..=2u64 {
-        alloc.refuse_nth(n);
-        let made = bounded_reserved::<u64, u64, _, _>(&rt, &alloc, 1);
-        expect_equal_at(&rt, n, made.is_err(), true);
-    }
+    let memory = Refusing::new(rt.alloc());
+    refuse_constructors(&rt, (&memory, &memory));
 }
 
 /// A permission to wait that takes memory, so that each handle asks for some.
@@ -185,27 +193,37 @@ impl<'a, R: Clone> Clone for Asking<'a, R> {
 // No handle is made, and none is counted.
 fn refuse_handles<S: Role, R: Wait + Clone, A: Allocator + Copy>(
     rt: &impl Host,
-    alloc: &Refusing<Global>,
+    memory: &Refusing<Global>,
     end: &End<S, u64, u64, R, A>,
 ) {
     let weak = end.downgrade().expect(rt, "a weak handle");
-    alloc.refuse_all();
+    memory.refuse_all();
     let are_strong_made = (end.clone().is_ok(), weak.upgrade().is_some());
     let are_weak_made = (end.downgrade().is_ok(), weak.clone().is_ok());
-    alloc.refuse_none();
+    memory.refuse_none();
     let counts = (end.sender_count(), end.receiver_count());
     let got = (are_strong_made, are_weak_made, counts);
     expect_equal_at(rt, "handles", got, ((false, false), (false, false), (1, 1)));
 }
 
+fn refuse_handles_of_both<R: Wait + Clone, A: Allocator + Copy>(
+    rt: &impl Host,
+    permission: &R,
+    (memory, alloc): Memory<'_, A>,
+) {
+    let (tx, rx) = bounded::<u64, u64, _, _>(permission, alloc, 2).expect(rt, "a channel");
+    refuse_handles(rt, memory, &tx);
+    refuse_handles(rt, memory, &rx);
+    drop(tx);
+    expect_true(rt, rx.is_closed(), "the last sender is gone");
+}
+
 #[test]
 fn a_refused_handle_is_not_counted(rt: HostRuntime) {
-    let alloc = Refusing::new(rt.alloc());
-    let (host, alloc) = (&rt, &alloc);
-    let permission = Asking { rt: host, alloc };
-    let (tx, rx) = bounded::<u64, u64, _, _>(&permission, alloc, 2).expect(&rt, "a channel");
-    refuse_handles(&rt, alloc, &tx);
-    refuse_handles(&rt, alloc, &rx);
-    drop(tx);
-    expect_true(&rt, rx.is_closed(), "the last sender is gone");
+    let memory = Refusing::new(rt.alloc());
+    let permission = Asking {
+        rt: &rt,
+        alloc: &memory,
+    };
+    refuse_handles_of_both(&rt, &permission, (&memory, &memory));
 }

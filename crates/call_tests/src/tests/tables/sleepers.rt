@@ -1,6 +1,7 @@
 //! What each call does to a thread that waits for a message with a condition: whether it wakes it,
 //! and that it sleeps on otherwise.
 use super::{Mirrored, input};
+use crate::tests::Memory;
 use crate::tests::driver::all::ALL;
 use crate::tests::driver::calls::{Call, Input, Side, Way};
 use crate::tests::driver::receive::receive;
@@ -8,6 +9,7 @@ use crate::tests::threads::watch::beside;
 use crate::tests::threads::{Threaded, wait_until};
 use async_priority_channel::bounded;
 use refusing::Refusing;
+use std::alloc::Allocator;
 
 const CAPACITY: u64 = 3;
 
@@ -42,26 +44,29 @@ fn is_played(call: Call) -> bool {
 }
 
 // Where the call does not end the wait, a close does once nothing is pending.
-fn wake<R: Threaded>(rt: &R, round: Round) {
+fn wake<R: Threaded, A: Allocator + Copy + Send + Sync>(
+    rt: &R,
+    (memory, alloc): Memory<'_, A>,
+    round: Round,
+) {
     let (waiting, (first, count), call, of_call) = round;
     let of_wait = input(0, 0, 1);
-    let alloc = Refusing::new(rt.alloc());
-    let (tx, rx) = bounded(rt, &alloc, CAPACITY).expect(rt, "a channel");
+    let (tx, rx) = bounded(rt, alloc, CAPACITY).expect(rt, "a channel");
     let other = rx.clone().expect(rt, "a receiver");
-    let mut mirrored = Mirrored::new(rt, &alloc, (tx, other), CAPACITY, (1, 2));
+    let mut mirrored = Mirrored::new(rt, alloc, (tx, other), CAPACITY, (1, 2));
     mirrored.agree(rt, round, Call::Sendv(Way::Try), input(first, count, 0));
     if mirrored.model.waits(call, of_call) || !mirrored.model.waits(waiting, of_wait) {
         return;
     }
     // The last of three requests lists the thread.
-    let asked = alloc.count().wrapping_add(3);
+    let asked = memory.count().wrapping_add(3);
     let all = input(0, 0, 9);
     let (reply, ()) = beside(
         rt,
         round,
-        || receive(rt, &alloc, &rx, waiting, of_wait),
+        || receive(rt, alloc, &rx, waiting, of_wait),
         || {
-            wait_until(rt, || alloc.count() >= asked);
+            wait_until(rt, || memory.count() >= asked);
             mirrored.agree(rt, round, call, of_call);
             if mirrored.model.waits(waiting, of_wait) {
                 mirrored.agree(rt, round, Call::Look(Side::Receiver), all);
@@ -81,7 +86,9 @@ fn a_thread_is_woken_by_what_it_waits_for(rt: HostRuntime) {
             for call in ALL {
                 for input in inputs() {
                     if is_played(call) {
-                        wake(&rt, (waiting, pending, call, input));
+                        let memory = Refusing::new(rt.alloc());
+                        let round = (waiting, pending, call, input);
+                        wake(&rt, (&memory, &memory), round);
                     }
                 }
             }

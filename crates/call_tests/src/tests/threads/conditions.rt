@@ -6,13 +6,13 @@ use super::{Threaded, let_others_wait, wait_until};
 use crate::tests::driver::calls::{Call, Input, Pairs, Way};
 use crate::tests::driver::receive::receive;
 use crate::tests::driver::reply::{Outcome, Reply};
-use crate::tests::{Host, expect_equal_at, expect_true};
+use crate::tests::{Host, Memory, expect_equal_at, expect_true};
 use async_priority_channel::{Due, Ends, Receiver, bounded, bounded_reserved};
 use cases::{ANY, BOTH, Case, FIRST};
 use delays::{after, now};
 use hands::Hands;
 use refusing::Refusing;
-use std::alloc::Global;
+use std::alloc::{Allocator, Global};
 use std::fmt::Debug;
 use std::sync::atomic::{AtomicBool, AtomicU64, Ordering};
 use std::thread;
@@ -46,12 +46,12 @@ where
     X: Send,
     requires { F.pre wait × G.pre then }
 {
-    let (alloc, requests) = asks;
-    let asked = alloc.count().wrapping_add(requests);
+    let (memory, requests) = asks;
+    let asked = memory.count().wrapping_add(requests);
     let once_asleep = move ||
         requires { G.pre then }
     {
-        wait_until(rt, || alloc.count() >= asked);
+        wait_until(rt, || memory.count() >= asked);
         then()
     };
     beside(rt, what, wait, once_asleep)
@@ -67,19 +67,16 @@ fn input(limit: Duration) -> Input {
     }
 }
 
-// The ends of one channel, whose allocator can be asked how often it was.
-type Asked<'a, R> = Ends<u64, u64, R, &'a Refusing<Global>>;
-
 fn wait_through<R: Threaded>(rt: &R, call: Call, case: Case) {
-    let alloc = Refusing::new(rt.alloc());
-    let ends = bounded_reserved(rt, &alloc, 4).expect(rt, "a channel");
-    wait_with(rt, &alloc, &ends, call, case);
+    let memory = Refusing::new(rt.alloc());
+    let ends = bounded_reserved(rt, &memory, 4).expect(rt, "a channel");
+    wait_with(rt, (&memory, &memory), &ends, call, case);
 }
 
-fn wait_with<R: Threaded>(
+fn wait_with<R: Threaded, A: Allocator + Copy + Send + Sync>(
     rt: &R,
-    alloc: &Refusing<Global>,
-    ends: &Asked<'_, R>,
+    (memory, alloc): Memory<'_, A>,
+    ends: &Ends<u64, u64, R, A>,
     call: Call,
     case: Case,
 ) {
@@ -93,7 +90,7 @@ fn wait_with<R: Threaded>(
     let (reply, sleeps_on) = while_asleep(
         rt,
         ("a wait with a condition", call, case),
-        (alloc, REQUESTS),
+        (memory, REQUESTS),
         || {
             let reply = receive(rt, alloc, rx, call, input(long()));
             has_answered.store(true, Ordering::SeqCst);
@@ -127,31 +124,39 @@ fn what_changes_wakes_one_that_waits_with_a_condition(rt: HostRuntime) {
     }
 }
 
+fn change_priorities<R: Threaded, A: Allocator + Copy + Send + Sync>(
+    rt: &R,
+    (memory, alloc): Memory<'_, A>,
+    looks_at_first: bool,
+) {
+    let (tx, rx) = bounded_reserved(rt, alloc, 2).expect(rt, "a channel");
+    let could = tx.try_send(7u64, 5u64).is_ok() && tx.try_send(8, 1).is_ok();
+    let got = while_asleep(
+        rt,
+        ("a priority above 5", looks_at_first),
+        (memory, REQUESTS),
+        || {
+            if looks_at_first {
+                rx.recv_when_blocking(|_, priority| due_if(*priority > 5))
+            } else {
+                rx.recv_where_blocking(|_, priority| *priority > 5)
+            }
+        },
+        || {
+            let lower = tx.change_priority(|msg, _| *msg == 7, 4);
+            (lower, tx.change_priority(|msg, _| *msg == 8, 9))
+        },
+    );
+    let wanted = (Ok((8, 9)), (Some(5), Some(1)));
+    expect_equal_at(rt, looks_at_first, (could, got), (true, wanted));
+}
+
 // A priority that meets a condition of the priority.
 #[test]
 fn a_change_of_the_priority_that_is_waited_for_wakes(rt: HostRuntime) {
     for looks_at_first in [false, true] {
-        let alloc = Refusing::new(rt.alloc());
-        let (tx, rx) = bounded_reserved(&rt, &alloc, 2).expect(&rt, "a channel");
-        let could = tx.try_send(7u64, 5u64).is_ok() && tx.try_send(8, 1).is_ok();
-        let got = while_asleep(
-            &rt,
-            ("a priority above 5", looks_at_first),
-            (&alloc, REQUESTS),
-            || {
-                if looks_at_first {
-                    rx.recv_when_blocking(|_, priority| due_if(*priority > 5))
-                } else {
-                    rx.recv_where_blocking(|_, priority| *priority > 5)
-                }
-            },
-            || {
-                let lower = tx.change_priority(|msg, _| *msg == 7, 4);
-                (lower, tx.change_priority(|msg, _| *msg == 8, 9))
-            },
-        );
-        let wanted = (Ok((8, 9)), (Some(5), Some(1)));
-        expect_equal_at(&rt, looks_at_first, (could, got), (true, wanted));
+        let memory = Refusing::new(rt.alloc());
+        change_priorities(&rt, (&memory, &memory), looks_at_first);
     }
 }
 
@@ -159,12 +164,12 @@ fn due_if(is_due: bool) -> Due {
     if is_due { Due::Now } else { Due::Never }
 }
 
-// The next message is due already.
-#[test]
-fn a_first_message_that_goes_before_its_instant_wakes(rt: HostRuntime) {
-    let alloc = Refusing::new(rt.alloc());
-    let (tx, rx) = bounded_reserved(&rt, &alloc, 2).expect(&rt, "a channel");
-    let later = after(&rt, now(&rt), long());
+fn receive_before_its_instant<R: Threaded, A: Allocator + Copy + Send + Sync>(
+    rt: &R,
+    (memory, alloc): Memory<'_, A>,
+) {
+    let (tx, rx) = bounded_reserved(rt, alloc, 2).expect(rt, "a channel");
+    let later = after(rt, now(rt), long());
     let could = tx.try_send('a', 2u64).is_ok() && tx.try_send('b', 1).is_ok();
     let when = |msg: &char, _: &u64| {
         if *msg == 'a' {
@@ -174,18 +179,21 @@ fn a_first_message_that_goes_before_its_instant_wakes(rt: HostRuntime) {
         }
     };
     let got = while_asleep(
-        &rt,
+        rt,
         "the message behind one that is not due",
-        (&alloc, REQUESTS),
+        (memory, REQUESTS),
         || rx.recv_when_blocking(when),
         || rx.try_recv(),
     );
-    expect_equal_at(
-        &rt,
-        "got",
-        (could, got),
-        (true, (Ok(('b', 1)), Ok(('a', 2)))),
-    );
+    let wanted = (Ok(('b', 1)), Ok(('a', 2)));
+    expect_equal_at(rt, "got", (could, got), (true, wanted));
+}
+
+// The next message is due already.
+#[test]
+fn a_first_message_that_goes_before_its_instant_wakes(rt: HostRuntime) {
+    let memory = Refusing::new(rt.alloc());
+    receive_before_its_instant(&rt, (&memory, &memory));
 }
 
 // A message that is never due, or for nobody, stays in a closed channel too.
@@ -210,67 +218,84 @@ fn a_limit_ends_a_wait_that_nothing_else_ends(rt: HostRuntime) {
     }
 }
 
+fn wait_for_short_limits<R: Threaded, A: Allocator + Copy + Send + Sync>(
+    rt: &R,
+    (memory, alloc): Memory<'_, A>,
+    call: Call,
+) {
+    let (tx, rx) = bounded_reserved(rt, alloc, 3).expect(rt, "a channel");
+    expect_true(rt, tx.try_send(3, 9).is_ok(), "there is room");
+    let begun = memory.count();
+    for round in 0..200u64 {
+        let limit = Duration::from_millis(if round == 0 { 100 } else { 1 });
+        let reply = within(rt, ("the end of a limit", (call, round)), || {
+            receive(rt, alloc, &rx, call, input(limit))
+        });
+        expect_equal_at(rt, (call, round), reply.outcome, Outcome::Timeout);
+    }
+    let asked = memory.count().saturating_sub(begun);
+    expect_equal_at(rt, (call, asked), asked <= 202, true);
+    // The lists and the room for an entry are there.
+    let (reply, sent) = while_asleep(
+        rt,
+        ("a wait after others that have ended", call),
+        (memory, 1),
+        || receive(rt, alloc, &rx, call, input(long())),
+        || {
+            let_others_wait(rt);
+            tx.try_send(4, 10).is_ok()
+        },
+    );
+    let wanted = Reply::found(rt, Some((4, 10)), Outcome::Closed);
+    expect_equal_at(rt, call, (reply, sent), (wanted, true));
+}
+
 // Each wait but the first asks for its waiter alone, since those that have ended have left the
 // list; and one whose time is over before it would be listed for nothing.
 #[test]
 fn many_short_limits_leave_nothing_behind(rt: HostRuntime) {
     for call in [Call::RecvWhen(Way::Timeout), Call::RecvWhere(Way::Timeout)] {
-        let alloc = Refusing::new(rt.alloc());
-        let (tx, rx) = bounded_reserved(&rt, &alloc, 3).expect(&rt, "a channel");
-        expect_true(&rt, tx.try_send(3, 9).is_ok(), "there is room");
-        let begun = alloc.count();
-        for round in 0..200u64 {
-            let limit = Duration::from_millis(if round == 0 { 100 } else { 1 });
-            let reply = within(&rt, ("the end of a limit", (call, round)), || {
-                receive(&rt, &alloc, &rx, call, input(limit))
-            });
-            expect_equal_at(&rt, (call, round), reply.outcome, Outcome::Timeout);
-        }
-        let asked = alloc.count().saturating_sub(begun);
-        expect_equal_at(&rt, (call, asked), asked <= 202, true);
-        // The lists and the room for an entry are there.
-        let (reply, sent) = while_asleep(
-            &rt,
-            ("a wait after others that have ended", call),
-            (&alloc, 1),
-            || receive(&rt, &alloc, &rx, call, input(long())),
-            || {
-                let_others_wait(&rt);
-                tx.try_send(4, 10).is_ok()
-            },
-        );
-        let wanted = Reply::found(&rt, Some((4, 10)), Outcome::Closed);
-        expect_equal_at(&rt, call, (reply, sent), (wanted, true));
+        let memory = Refusing::new(rt.alloc());
+        wait_for_short_limits(&rt, (&memory, &memory), call);
     }
 }
 
 // A refused request, and how many the next wait makes: the lists are made once.
 const REFUSED: [(u64, u64); 3] = [(1, 3), (2, 3), (3, 2)];
 
+fn wait_after_a_refusal<R: Threaded, A: Allocator + Copy + Send + Sync>(
+    rt: &R,
+    (memory, alloc): Memory<'_, A>,
+    call: Call,
+    (n, requests): (u64, u64),
+) {
+    let round = (call, n);
+    let (tx, rx) = bounded_reserved(rt, alloc, 2).expect(rt, "a channel");
+    expect_true(rt, tx.try_send(3, 9).is_ok(), "there is room");
+    memory.refuse_nth(n);
+    let refused = within(rt, ("a wait without memory", round), || {
+        receive(rt, alloc, &rx, call, input(long()))
+    });
+    let got = (refused.outcome, memory.refuse_none(), rx.len());
+    expect_equal_at(rt, round, got, (Outcome::Memory, false, 1));
+    let (reply, sent) = while_asleep(
+        rt,
+        ("the wait after one without memory", round),
+        (memory, requests),
+        || receive(rt, alloc, &rx, call, input(long())),
+        || tx.try_send(4, 10).is_ok(),
+    );
+    let wanted = Reply::found(rt, Some((4, 10)), Outcome::Closed);
+    expect_equal_at(rt, round, (reply, sent), (wanted, true));
+}
+
 #[test]
 fn a_wait_without_memory_leaves_the_message_and_the_next_wait(rt: HostRuntime) {
     for way in WAYS {
         for call in [Call::RecvWhen(way), Call::RecvWhere(way)] {
-            for (n, requests) in REFUSED {
-                let round = (call, n);
-                let alloc = Refusing::new(rt.alloc());
-                let (tx, rx) = bounded_reserved(&rt, &alloc, 2).expect(&rt, "a channel");
-                expect_true(&rt, tx.try_send(3, 9).is_ok(), "there is room");
-                alloc.refuse_nth(n);
-                let refused = within(&rt, ("a wait without memory", round), || {
-                    receive(&rt, &alloc, &rx, call, input(long()))
-                });
-                let got = (refused.outcome, alloc.refuse_none(), rx.len());
-                expect_equal_at(&rt, round, got, (Outcome::Memory, false, 1));
-                let (reply, sent) = while_asleep(
-                    &rt,
-                    ("the wait after one without memory", round),
-                    (&alloc, requests),
-                    || receive(&rt, &alloc, &rx, call, input(long())),
-                    || tx.try_send(4, 10).is_ok(),
-                );
-                let wanted = Reply::found(&rt, Some((4, 10)), Outcome::Closed);
-                expect_equal_at(&rt, round, (reply, sent), (wanted, true));
+            for refused in REFUSED {
+                let memory = Refusing::new(rt.alloc());
+                wait_after_a_refusal(&rt, (&memory, &memory), call, refused);
             }
         }
     }

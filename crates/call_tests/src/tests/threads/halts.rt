@@ -10,7 +10,7 @@ use crate::tests::driver::all::ALL;
 use crate::tests::driver::calls::{Call, Input, Pairs, Way, is_for_close};
 use crate::tests::driver::receive::receive;
 use crate::tests::driver::reply::Outcome;
-use crate::tests::{Host, expect_equal_at, new_task, ready};
+use crate::tests::{Host, Memory, expect_equal_at, new_task, ready};
 use async_priority_channel::bounded_reserved;
 use refusing::Refusing;
 use std::alloc::{Allocator, Global};
@@ -31,14 +31,14 @@ impl Halt<'_> {
     fn is_reached(self) -> bool {
         match self {
             Halt::Reading(times, _) => times.is_reached(),
-            Halt::Request(alloc) => alloc.is_holding(),
+            Halt::Request(memory) => memory.is_holding(),
         }
     }
 
     fn let_go(self) {
         match self {
             Halt::Reading(times, is_late) => times.let_go(is_late),
-            Halt::Request(alloc) => alloc.let_go(),
+            Halt::Request(memory) => memory.let_go(),
         }
     }
 }
@@ -197,41 +197,52 @@ fn a_thread_finds_what_has_come_in_time(rt: HostRuntime) {
     }
 }
 
+fn wait_with_a_request<R: Threaded, A: Allocator + Copy + Send + Sync>(
+    rt: &R,
+    (memory, alloc): Memory<'_, A>,
+    call: Call,
+) {
+    let ends = block(rt, alloc, call);
+    memory.hold_nth(1);
+    let round = (call, Place::First, Coming::Early, 1);
+    let halt = Halt::Request(memory);
+    wait_with_a_halt(rt, round, (rt, alloc), &ends, halt);
+}
+
 // Each call that waits, a future that is polled once among them, finds at its next look what has
 // come since the first.
 #[test]
 fn a_call_that_looks_again_finds_what_has_come(rt: HostRuntime) {
     for call in ALL {
         if call.way() != Way::Try {
-            let alloc = Refusing::new(rt.alloc());
-            let ends = block(&rt, &alloc, call);
-            alloc.hold_nth(1);
-            let round = (call, Place::First, Coming::Early, 1);
-            let halt = Halt::Request(&alloc);
-            wait_with_a_halt(&rt, round, (&rt, &alloc), &ends, halt);
+            let memory = Refusing::new(rt.alloc());
+            wait_with_a_request(&rt, (&memory, &memory), call);
         }
     }
 }
 
 // Two messages come as a batch halts at its second request. The first is for its own memory.
-fn receive_with_a_halt<R: Threaded>(rt: &R, call: Call) {
-    let alloc = Refusing::new(rt.alloc());
-    let (tx, rx) = bounded_reserved(rt, &alloc, 2).expect(rt, "a channel");
+fn receive_with_a_halt<R: Threaded, A: Allocator + Copy + Send + Sync>(
+    rt: &R,
+    (memory, alloc): Memory<'_, A>,
+    call: Call,
+) {
+    let (tx, rx) = bounded_reserved(rt, alloc, 2).expect(rt, "a channel");
     let input = Input {
         pairs: Pairs::new(7, 2, u64::MAX),
         most: 2,
         limit: long(),
         chosen: 7,
     };
-    alloc.hold_nth(2);
+    memory.hold_nth(2);
     let (reply, could) = beside(
         rt,
         ("what comes as a batch halts", call),
-        || receive(rt, &alloc, &rx, call, input),
+        || receive(rt, alloc, &rx, call, input),
         || {
-            wait_until(rt, || alloc.is_holding());
+            wait_until(rt, || memory.is_holding());
             let could = tx.try_send(7, 7).is_ok() && tx.try_send(8, 8).is_ok();
-            alloc.let_go();
+            memory.let_go();
             could
         },
     );
@@ -244,7 +255,8 @@ fn receive_with_a_halt<R: Threaded>(rt: &R, call: Call) {
 fn a_batch_that_looks_again_brings_all_that_has_come(rt: HostRuntime) {
     for call in ALL {
         if matches!(call, Call::RecvMany(_)) && call.way() != Way::Try {
-            receive_with_a_halt(&rt, call);
+            let memory = Refusing::new(rt.alloc());
+            receive_with_a_halt(&rt, (&memory, &memory), call);
         }
     }
 }

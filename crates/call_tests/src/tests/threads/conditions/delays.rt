@@ -2,10 +2,11 @@
 use super::{REQUESTS, WAYS, while_asleep};
 use crate::tests::dice::Dice;
 use crate::tests::driver::calls::Way;
+use crate::tests::threads::Threaded;
 use crate::tests::threads::clocks::{Paced, Plan, Times};
 use crate::tests::threads::either::long;
 use crate::tests::threads::watch::within;
-use crate::tests::{Host, expect_equal_at, expect_true};
+use crate::tests::{Host, Memory, expect_equal_at, expect_true};
 use async_priority_channel::{Due, Receiver, RecvTimeoutError, Sender, unbounded};
 use refusing::Refusing;
 use std::alloc::Allocator;
@@ -40,26 +41,34 @@ fn receive_due<T, R: Host, A: Allocator + Copy>(
     Some((msg, due.0, now(rt)))
 }
 
+fn send_an_earlier_job<R: Threaded, A: Allocator + Copy + Send + Sync>(
+    rt: &R,
+    (memory, alloc): Memory<'_, A>,
+    way: Way,
+) {
+    let (tx, rx) = unbounded(rt, alloc).expect(rt, "a channel");
+    let later = after(rt, now(rt), long());
+    expect_true(rt, tx.try_send('b', Reverse(later)).is_ok(), "it is open");
+    let (came, sent) = while_asleep(
+        rt,
+        ("an earlier job", way),
+        (memory, REQUESTS),
+        || receive_due(rt, &rx, way),
+        || {
+            let soon = after(rt, now(rt), Duration::from_millis(20));
+            tx.try_send('a', Reverse(soon)).is_ok()
+        },
+    );
+    let in_time = came.map(|(job, due, at)| (job, due <= at, at < later));
+    let got = (in_time, sent, rx.len());
+    expect_equal_at(rt, way, got, (Some(('a', true, true)), true, 1));
+}
+
 #[test]
 fn an_earlier_job_wakes_one_that_waits_for_a_later_instant(rt: HostRuntime) {
     for way in WAYS {
-        let alloc = Refusing::new(rt.alloc());
-        let (tx, rx) = unbounded(&rt, &alloc).expect(&rt, "a channel");
-        let later = after(&rt, now(&rt), long());
-        expect_true(&rt, tx.try_send('b', Reverse(later)).is_ok(), "it is open");
-        let (came, sent) = while_asleep(
-            &rt,
-            ("an earlier job", way),
-            (&alloc, REQUESTS),
-            || receive_due(&rt, &rx, way),
-            || {
-                let soon = after(&rt, now(&rt), Duration::from_millis(20));
-                tx.try_send('a', Reverse(soon)).is_ok()
-            },
-        );
-        let in_time = came.map(|(job, due, at)| (job, due <= at, at < later));
-        let got = (in_time, sent, rx.len());
-        expect_equal_at(&rt, way, got, (Some(('a', true, true)), true, 1));
+        let memory = Refusing::new(rt.alloc());
+        send_an_earlier_job(&rt, (&memory, &memory), way);
     }
 }
 
@@ -102,6 +111,24 @@ fn a_limit_ends_a_wait_for_a_later_instant(rt: HostRuntime) {
         let got = (late, over <= now(&rt), rx.len());
         expect_equal_at(&rt, way, got, (Err(RecvTimeoutError::Timeout), true, 1));
     }
+}
+
+// By a clock that stands there, as the time of the wait is over too.
+#[test]
+fn an_instant_that_is_now_has_come(rt: HostRuntime) {
+    let times = Times::new(Plan::HaltsAt(u64::MAX));
+    let paced = Paced::new(&rt, &times);
+    let begun = now(&paced);
+    let due = now(&paced);
+    let (tx, rx) = unbounded(&paced, rt.alloc()).expect(&rt, "a channel");
+    expect_true(&rt, tx.try_send(7u64, Reverse(due)).is_ok(), "it is open");
+    let received = within(
+        &rt,
+        "a message whose instant is now",
+        || rx.recv_when_deadline(|_, due| Due::At(due.0), due),
+    );
+    let msg = received.ok().map(|(msg, _)| msg);
+    expect_equal_at(&rt, "got", (begun < due, msg), (true, Some(7)));
 }
 
 // Nobody can tell when it comes.
