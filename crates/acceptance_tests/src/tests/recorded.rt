@@ -87,8 +87,8 @@ fn record_as<J: Recording + Send + Sync, R: Host, A: Allocator + Copy + Send + S
     requires capacity { fresh.capacity ≡ sizes.0 }
     requires passes { fresh.passes ≡ sizes.2 }
 {
-    let (cap, entries, count) = sizes;
-    let made = Recorder::<J, A>::new(memory.1, fresh, cap, entries, count);
+    let ((memory, alloc), (cap, entries, count)) = (memory, sizes);
+    let made = Recorder::<J, A>::new(alloc, fresh, cap, entries, count);
     let (recorder, mut passes) = made?;
     let mut kept = Kept {
         made: Vec::new(rt.alloc()),
@@ -97,7 +97,14 @@ fn record_as<J: Recording + Send + Sync, R: Host, A: Allocator + Copy + Send + S
     within(
         rt,
         "the end of a scene",
-        || act(rt, memory, scene, &recorder, &mut passes, &mut kept),
+        || act(
+            rt,
+            (memory, alloc),
+            scene,
+            &recorder,
+            &mut passes,
+            &mut kept,
+        ),
     );
     if passes.len() != count {
         panic!(rt; "a pass is missing");
@@ -110,16 +117,16 @@ fn record_as<J: Recording + Send + Sync, R: Host, A: Allocator + Copy + Send + S
 // Gives the passes back that it takes.
 fn act<J: Recording + Send + Sync, R: Host, A: Allocator + Copy + Send + Sync>(
     rt: &R,
-    memory: Memory<'_, A>,
+    (memory, alloc): Memory<'_, A>,
     scene: Scene<'_>,
     recorder: &Recorder<J, A>,
     passes: &mut Passes<J, A>,
     kept: &mut Kept,
 ) {
     match scene {
-        Scene::Steps(steps) => play(rt, memory.0, recorder, passes, kept, steps, false),
-        Scene::UntilRefused(steps) => play(rt, memory.0, recorder, passes, kept, steps, true),
-        Scene::Threads(work) => call_on_threads(rt, memory.1, recorder, passes, kept, work),
+        Scene::Steps(steps) => play(rt, memory, recorder, passes, kept, steps, false),
+        Scene::UntilRefused(steps) => play(rt, memory, recorder, passes, kept, steps, true),
+        Scene::Threads(work) => call_on_threads(rt, alloc, recorder, passes, kept, work),
     }
 }
 

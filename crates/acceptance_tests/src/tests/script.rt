@@ -47,14 +47,19 @@ pub enum Ground {
 
 #[derive(Drop)]
 enum Stage<'a, W: Wait + Clone, A: Allocator + Copy> {
-    Core(CoreStage<A>),
+    Core(CoreStage<'a>),
     Handles(HandleStage<'a, W, A>),
 }
 
 impl<'a, W: Wait + Clone, A: Allocator + Copy> Stage<'a, W, A> {
-    fn new<R: Host>(rt: &R, permission: &'a W, alloc: A, ground: Ground) -> Self {
+    fn new<R: Host>(
+        rt: &R,
+        memory: &'a Refusing<Global>,
+        (permission, alloc): (&'a W, A),
+        ground: Ground,
+    ) -> Self {
         let way = match ground {
-            Ground::Core => return Stage::Core(CoreStage::new(rt, alloc)),
+            Ground::Core => return Stage::Core(CoreStage::new(rt, memory)),
             Ground::Handles => Way::AtOnce,
             Ground::Futures => Way::AsFuture,
         };
@@ -146,11 +151,11 @@ pub fn play<R: Host>(rt: &R, ground: Ground, script: Text) {
 fn play_example<R: Host, W: Wait + Clone, A: Allocator + Copy>(
     rt: &R,
     memory: &Refusing<Global>,
-    (permission, alloc): (&W, A),
+    handles_of: (&W, A),
     ground: Ground,
     example: (Text, Text),
 ) {
-    Stage::new(rt, permission, alloc, ground).play(rt, memory, example, false);
+    Stage::new(rt, memory, handles_of, ground).play(rt, memory, example, false);
 }
 
 /// Plays one example again and again, each time with another request for memory refused, until none
@@ -178,12 +183,12 @@ pub fn play_refused<R: Host>(rt: &R, ground: Ground, script: Text, title: Text) 
 fn play_refusal<R: Host, W: Wait + Clone, A: Allocator + Copy>(
     rt: &R,
     memory: &Refusing<Global>,
-    (permission, alloc): (&W, A),
+    handles_of: (&W, A),
     ground: Ground,
     example: (Text, Text),
     n: u64,
 ) {
-    let mut stage = Stage::new(rt, permission, alloc, ground);
+    let mut stage = Stage::new(rt, memory, handles_of, ground);
     memory.refuse_nth(n);
     let was_refused = stage.play(rt, memory, example, true);
     let met_none = memory.refuse_none();

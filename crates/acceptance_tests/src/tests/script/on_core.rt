@@ -7,22 +7,23 @@ use super::ledger::Ledger;
 use super::states::State;
 use super::words::{MOST_RESERVED, Text, capacity, number, ticket, waker};
 use priority_channel_core::channel::{CorePoll, PriorityQueueChannel};
-use std::alloc::{AllocError, AllocGlobal, Allocator};
+use refusing::Refusing;
+use std::alloc::{AllocError, AllocGlobal, Global};
 use std::process::Abort;
 
-pub type Core<A> = PriorityQueueChannel<Text, u64, u64, A>;
+pub type Core<'a> = PriorityQueueChannel<Text, u64, u64, &'a Refusing<Global>>;
 
 /// A core, and the states that are polled on it.
 #[derive(Drop)]
-pub struct CoreStage<A: Allocator + Copy> {
-    alloc: A,
-    core: Core<A>,
+pub struct CoreStage<'a> {
+    alloc: &'a Refusing<Global>,
+    core: Core<'a>,
     states: Vec<(Text, State)>,
     ledger: Ledger,
 }
 
-impl<A: Allocator + Copy> CoreStage<A> {
-    pub fn new<R: AllocGlobal>(rt: &R, alloc: A) -> Self {
+impl<'a> CoreStage<'a> {
+    pub fn new<R: AllocGlobal>(rt: &R, alloc: &'a Refusing<Global>) -> Self {
         CoreStage {
             alloc,
             core: Core::unbounded(alloc),
@@ -42,7 +43,7 @@ impl<A: Allocator + Copy> CoreStage<A> {
 
     // Makes a channel in place of the one before.
     fn open<R: Abort + AllocGlobal>(&mut self, rt: &R, call: &[Text]) -> String {
-        let made: Result<Core<A>, AllocError> = match call {
+        let made: Result<Core<'a>, AllocError> = match call {
             ["bounded", word] => Ok(Core::bounded(self.alloc, capacity(rt, *word, u64::MAX))),
             ["bounded_reserved", word] => {
                 Core::bounded_reserved(self.alloc, capacity(rt, *word, MOST_RESERVED))
@@ -89,10 +90,10 @@ impl<A: Allocator + Copy> CoreStage<A> {
     }
 }
 
-fn ask<R: Abort + AllocGlobal, A: Allocator + Copy>(
+fn ask<R: Abort + AllocGlobal>(
     rt: &R,
     ledger: &mut Ledger,
-    core: &mut Core<A>,
+    core: &mut Core<'_>,
     name: Text,
     arguments: &[Text],
 ) -> String {
@@ -125,11 +126,7 @@ fn ask<R: Abort + AllocGlobal, A: Allocator + Copy>(
     }
 }
 
-fn ask_itself<R: Abort + AllocGlobal, A: Allocator + Copy>(
-    rt: &R,
-    core: &mut Core<A>,
-    call: Text,
-) -> String {
+fn ask_itself<R: Abort + AllocGlobal>(rt: &R, core: &mut Core<'_>, call: Text) -> String {
     match call {
         "close" => {
             let (was_open, wakes) = core.close();
@@ -149,11 +146,7 @@ fn ask_itself<R: Abort + AllocGlobal, A: Allocator + Copy>(
     }
 }
 
-fn look_at<R: Abort + AllocGlobal, A: Allocator + Copy>(
-    rt: &R,
-    core: &Core<A>,
-    call: Text,
-) -> String {
+fn look_at<R: Abort + AllocGlobal>(rt: &R, core: &Core<'_>, call: Text) -> String {
     match call {
         "is_closed" => told(rt, core.is_closed()),
         "is_empty" => told(rt, core.is_empty()),
@@ -166,10 +159,10 @@ fn look_at<R: Abort + AllocGlobal, A: Allocator + Copy>(
     }
 }
 
-fn poll_send<R: Abort + AllocGlobal, A: Allocator + Copy>(
+fn poll_send<R: Abort + AllocGlobal>(
     rt: &R,
     ledger: &mut Ledger,
-    core: &mut Core<A>,
+    core: &mut Core<'_>,
     word: Text,
     given: Text,
     by: Text,
@@ -186,10 +179,10 @@ fn poll_send<R: Abort + AllocGlobal, A: Allocator + Copy>(
     handed(rt, told, wakes)
 }
 
-fn poll_sendv<R: Abort + AllocGlobal, A: Allocator + Copy>(
+fn poll_sendv<R: Abort + AllocGlobal>(
     rt: &R,
     ledger: &mut Ledger,
-    core: &mut Core<A>,
+    core: &mut Core<'_>,
     words: &[Text],
     given: Text,
     by: Text,
@@ -206,10 +199,10 @@ fn poll_sendv<R: Abort + AllocGlobal, A: Allocator + Copy>(
     handed(rt, told, wakes)
 }
 
-fn poll_recv<R: Abort + AllocGlobal, A: Allocator + Copy>(
+fn poll_recv<R: Abort + AllocGlobal>(
     rt: &R,
     ledger: &mut Ledger,
-    core: &mut Core<A>,
+    core: &mut Core<'_>,
     given: Text,
     by: Text,
 ) -> String {

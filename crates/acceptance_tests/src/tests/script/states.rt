@@ -7,7 +7,7 @@ use super::on_core::Core;
 use super::words::{Bulk, Text, waker};
 use async_priority_channel::waiting::{RecvState, SendState, SendvState};
 use futures::task::Poll;
-use std::alloc::{AllocGlobal, Allocator};
+use std::alloc::AllocGlobal;
 use std::process::Abort;
 
 #[derive(Drop)]
@@ -46,11 +46,11 @@ impl State {
         }
     }
 
-    pub fn make<R: Abort + AllocGlobal, A: Allocator + Copy>(
+    pub fn make<R: Abort + AllocGlobal>(
         &mut self,
         rt: &R,
         ledger: &mut Ledger,
-        core: &mut Core<A>,
+        core: &mut Core<'_>,
         call: &[Text],
     ) -> String {
         match call {
@@ -62,11 +62,11 @@ impl State {
         }
     }
 
-    fn poll<R: Abort + AllocGlobal, A: Allocator + Copy>(
+    fn poll<R: Abort + AllocGlobal>(
         &mut self,
         rt: &R,
         ledger: &mut Ledger,
-        core: &mut Core<A>,
+        core: &mut Core<'_>,
         waker: u64,
     ) -> String {
         match self {
@@ -76,11 +76,11 @@ impl State {
         }
     }
 
-    fn give_up<R: Abort + AllocGlobal, A: Allocator + Copy>(
+    fn give_up<R: Abort + AllocGlobal>(
         &mut self,
         rt: &R,
         ledger: &mut Ledger,
-        core: &mut Core<A>,
+        core: &mut Core<'_>,
     ) -> String {
         let kept = match self {
             State::Send(send) => {
@@ -106,10 +106,10 @@ impl State {
     }
 }
 
-fn poll_send<R: Abort + AllocGlobal, A: Allocator + Copy>(
+fn poll_send<R: Abort + AllocGlobal>(
     rt: &R,
     ledger: &mut Ledger,
-    core: &mut Core<A>,
+    core: &mut Core<'_>,
     send: &mut SendState<Text, u64>,
     waker: u64,
 ) -> String {
@@ -121,10 +121,10 @@ fn poll_send<R: Abort + AllocGlobal, A: Allocator + Copy>(
     handed(rt, told, wakes)
 }
 
-fn poll_sendv<R: Abort + AllocGlobal, A: Allocator + Copy>(
+fn poll_sendv<R: Abort + AllocGlobal>(
     rt: &R,
     ledger: &mut Ledger,
-    core: &mut Core<A>,
+    core: &mut Core<'_>,
     sendv: &mut SendvState<Bulk>,
     waker: u64,
 ) -> String {
@@ -136,10 +136,10 @@ fn poll_sendv<R: Abort + AllocGlobal, A: Allocator + Copy>(
     handed(rt, told, wakes)
 }
 
-fn poll_recv<R: Abort + AllocGlobal, A: Allocator + Copy>(
+fn poll_recv<R: Abort + AllocGlobal>(
     rt: &R,
     ledger: &mut Ledger,
-    core: &mut Core<A>,
+    core: &mut Core<'_>,
     recv: &mut RecvState,
     waker: u64,
 ) -> String {
