@@ -3,12 +3,64 @@ ghost use Rattle.std.specs.Prelude.{◌≡◌, IfSome};
 
 use super::*;
 
+const FOO: u64 = 1;
+
+const BAR: u64 = 2;
+
+const COMPILE: u64 = 3;
+
+const LINK: u64 = 4;
+
+const TIDY_UP: u64 = 5;
+
+const PUT_OUT_THE_FIRE: u64 = 6;
+
+const CALL_FOR_HELP: u64 = 7;
+
+const FLAKY: u64 = 8;
+
+const STEADY: u64 = 9;
+
+const LUNCH: u64 = 10;
+
+const BREAKFAST: u64 = 11;
+
+const TEST: u64 = 12;
+
+const WATER_THE_PLANTS: u64 = 13;
+
+const FIRST: u64 = 14;
+
+const SECOND: u64 = 15;
+
+const URGENT: u64 = 16;
+
+const BOIL_THE_WATER: u64 = 17;
+
+const PAUSED: u64 = 18;
+
+const REPORT: u64 = 19;
+
+const THUMBNAIL: u64 = 20;
+
+const PAYMENT: u64 = 21;
+
+const DEPLOY: u64 = 22;
+
+const BAZ: u64 = 23;
+
+const REINDEX: u64 = 24;
+
+const PAGE_THE_ADMIN: u64 = 25;
+
+const TEA: u64 = 26;
+
 #[test]
 fn example_of_receiver_recv_blocking(rt: HostRuntime) {
     let (tx, rx) = bounded(&rt, rt.alloc(), 1).expect(&rt, "bounded");
-    let sending = thread::spawn(&rt, move || tx.send_blocking("Foo", 0)).expect(&rt, "spawn");
+    let sending = thread::spawn(&rt, move || tx.send_blocking(FOO, 0)).expect(&rt, "spawn");
     let (job, priority) = rx.recv_blocking().expect(&rt, "recv_blocking");
-    expect_equal(&rt, (job, priority), ("Foo", 0));
+    expect_equal(&rt, (job, priority), (FOO, 0));
     expect_equal(&rt, sending.join(&rt), Ok(()));
     expect_equal(&rt, rx.recv_blocking(), Err(RecvFault::Closed(RecvError)));
 }
@@ -18,8 +70,8 @@ fn example_of_receiver_recv_timeout(rt: HostRuntime) {
     let (tx, rx) = bounded(&rt, rt.alloc(), 1).expect(&rt, "bounded");
     let limit = Duration::from_millis(5);
     expect_equal(&rt, rx.recv_timeout(limit), Err(RecvTimeoutError::Timeout));
-    tx.try_send("Foo", 0).expect(&rt, "try_send");
-    expect_equal(&rt, rx.recv_timeout(limit), Ok(("Foo", 0)));
+    tx.try_send(FOO, 0).expect(&rt, "try_send");
+    expect_equal(&rt, rx.recv_timeout(limit), Ok((FOO, 0)));
     drop(tx);
     expect_equal(&rt, rx.recv_timeout(limit), Err(RecvTimeoutError::Closed));
 }
@@ -27,14 +79,14 @@ fn example_of_receiver_recv_timeout(rt: HostRuntime) {
 #[test]
 fn example_of_receiver_recv_deadline(rt: HostRuntime) {
     let (tx, rx) = bounded(&rt, rt.alloc(), 1).expect(&rt, "bounded");
-    tx.try_send("Foo", 0).expect(&rt, "try_send");
+    tx.try_send(FOO, 0).expect(&rt, "try_send");
     let limit = Duration::from_millis(5);
     let deadline = Instant::now(&rt)
         .expect(&rt, "now")
         .checked_add(limit)
         .ok_or("too late")
         .expect(&rt, "ok_or");
-    expect_equal(&rt, rx.recv_deadline(deadline), Ok(("Foo", 0)));
+    expect_equal(&rt, rx.recv_deadline(deadline), Ok((FOO, 0)));
     expect_equal(
         &rt,
         rx.recv_deadline(deadline),
@@ -46,10 +98,10 @@ fn example_of_receiver_recv_deadline(rt: HostRuntime) {
 #[test]
 fn example_of_sender_send_blocking(rt: HostRuntime) {
     let (tx, rx) = bounded(&rt, rt.alloc(), 1).expect(&rt, "bounded");
-    tx.send_blocking("Foo", 0).expect(&rt, "send_blocking");
-    let sending = thread::spawn(&rt, move || tx.send_blocking("Bar", 2)).expect(&rt, "spawn");
-    expect_equal(&rt, rx.recv_blocking(), Ok(("Foo", 0)));
-    expect_equal(&rt, rx.recv_blocking(), Ok(("Bar", 2)));
+    tx.send_blocking(FOO, 0).expect(&rt, "send_blocking");
+    let sending = thread::spawn(&rt, move || tx.send_blocking(BAR, 2)).expect(&rt, "spawn");
+    expect_equal(&rt, rx.recv_blocking(), Ok((FOO, 0)));
+    expect_equal(&rt, rx.recv_blocking(), Ok((BAR, 2)));
     expect_equal(&rt, sending.join(&rt), Ok(()));
 }
 
@@ -57,12 +109,12 @@ fn example_of_sender_send_blocking(rt: HostRuntime) {
 fn example_of_sender_send_timeout(rt: HostRuntime) {
     let (tx, rx) = bounded(&rt, rt.alloc(), 1).expect(&rt, "bounded");
     let limit = Duration::from_millis(5);
-    tx.send_timeout("Foo", 0, limit).expect(&rt, "send_timeout");
-    let late = tx.send_timeout("Bar", 2, limit);
-    expect_equal(&rt, late, Err(SendTimeoutError::Timeout(("Bar", 2))));
+    tx.send_timeout(FOO, 0, limit).expect(&rt, "send_timeout");
+    let late = tx.send_timeout(BAR, 2, limit);
+    expect_equal(&rt, late, Err(SendTimeoutError::Timeout((BAR, 2))));
     drop(rx);
-    let late = tx.send_timeout("Bar", 2, limit);
-    expect_equal(&rt, late, Err(SendTimeoutError::Closed(("Bar", 2))));
+    let late = tx.send_timeout(BAR, 2, limit);
+    expect_equal(&rt, late, Err(SendTimeoutError::Closed((BAR, 2))));
 }
 
 #[test]
@@ -74,10 +126,10 @@ fn example_of_sender_send_deadline(rt: HostRuntime) {
         .checked_add(limit)
         .ok_or("too late")
         .expect(&rt, "ok_or");
-    tx.send_deadline("Foo", 0, deadline)
+    tx.send_deadline(FOO, 0, deadline)
         .expect(&rt, "send_deadline");
-    let late = tx.send_deadline("Bar", 2, deadline);
-    expect_equal(&rt, late, Err(SendTimeoutError::Timeout(("Bar", 2))));
+    let late = tx.send_deadline(BAR, 2, deadline);
+    expect_equal(&rt, late, Err(SendTimeoutError::Timeout((BAR, 2))));
 }
 
 #[test]
@@ -94,13 +146,13 @@ fn example_of_sender_sendv_blocking(rt: HostRuntime) {
 #[test]
 fn example_of_sender_sendv_timeout(rt: HostRuntime) {
     let (tx, rx) = bounded(&rt, rt.alloc(), 1).expect(&rt, "bounded");
-    let jobs = [("compile", 1), ("link", 2)].into_iter().peekable();
+    let jobs = [(COMPILE, 1), (LINK, 2)].into_iter().peekable();
     if let Err(error) = tx.sendv_timeout(jobs, Duration::from_millis(5)) {
         expect_true(&rt, error.is_timeout());
-        expect_equal(&rt, rx.try_recv(), Ok(("compile", 1)));
+        expect_equal(&rt, rx.try_recv(), Ok((COMPILE, 1)));
         expect_true(&rt, tx.try_sendv(error.into_inner()).is_ok());
     }
-    expect_equal(&rt, rx.try_recv(), Ok(("link", 2)));
+    expect_equal(&rt, rx.try_recv(), Ok((LINK, 2)));
 }
 
 #[test]
@@ -112,12 +164,12 @@ fn example_of_sender_sendv_deadline(rt: HostRuntime) {
         .checked_add(limit)
         .ok_or("too late")
         .expect(&rt, "ok_or");
-    let jobs = [("compile", 1), ("link", 2)].into_iter().peekable();
+    let jobs = [(COMPILE, 1), (LINK, 2)].into_iter().peekable();
     if let Err(error) = tx.sendv_deadline(jobs, deadline) {
         expect_true(&rt, error.is_timeout());
-        expect_equal(&rt, error.into_inner().next(), Some(("link", 2)));
+        expect_equal(&rt, error.into_inner().next(), Some((LINK, 2)));
     }
-    expect_equal(&rt, rx.try_recv(), Ok(("compile", 1)));
+    expect_equal(&rt, rx.try_recv(), Ok((COMPILE, 1)));
 }
 
 fn numbers<R: Wait + Clone>(rt: &R, alloc: Global) -> Result<Ends<u64, u64, R>, AllocError> {
@@ -134,25 +186,25 @@ fn example_of_ends(rt: HostRuntime) {
 #[test]
 fn example_of_bounded(rt: HostRuntime) {
     let (tx, rx) = bounded(&rt, rt.alloc(), 10).expect(&rt, "bounded");
-    tx.try_send("Foo", 0).expect(&rt, "try_send");
-    tx.try_send("Bar", 2).expect(&rt, "try_send");
-    expect_equal(&rt, rx.try_recv(), Ok(("Bar", 2)));
+    tx.try_send(FOO, 0).expect(&rt, "try_send");
+    tx.try_send(BAR, 2).expect(&rt, "try_send");
+    expect_equal(&rt, rx.try_recv(), Ok((BAR, 2)));
 }
 
 #[test]
 fn example_of_bounded_reserved(rt: HostRuntime) {
     let (tx, rx) = bounded_reserved(&rt, rt.alloc(), 1).expect(&rt, "bounded_reserved");
-    tx.try_send("Foo", 0).expect(&rt, "try_send");
+    tx.try_send(FOO, 0).expect(&rt, "try_send");
     expect_true(&rt, tx.is_full());
-    expect_equal(&rt, rx.try_recv(), Ok(("Foo", 0)));
+    expect_equal(&rt, rx.try_recv(), Ok((FOO, 0)));
 }
 
 #[test]
 fn example_of_unbounded(rt: HostRuntime) {
     let (tx, rx) = unbounded(&rt, rt.alloc()).expect(&rt, "unbounded");
-    wait_for(&rt, tx.send("Foo", 0)).expect(&rt, "wait_for");
-    wait_for(&rt, tx.send("Bar", 2)).expect(&rt, "wait_for");
-    expect_equal(&rt, wait_for(&rt, rx.recv()), Ok(("Bar", 2)));
+    wait_for(&rt, tx.send(FOO, 0)).expect(&rt, "wait_for");
+    wait_for(&rt, tx.send(BAR, 2)).expect(&rt, "wait_for");
+    expect_equal(&rt, wait_for(&rt, rx.recv()), Ok((BAR, 2)));
 }
 
 #[test]
@@ -160,15 +212,15 @@ fn example_of_end_close_on_drop(rt: HostRuntime) {
     let (tx, rx) = unbounded(&rt, rt.alloc()).expect(&rt, "unbounded");
     let other = tx.clone().expect(&rt, "clone");
     let guard = tx.close_on_drop();
-    other.try_send("Foo", 0).expect(&rt, "try_send");
+    other.try_send(FOO, 0).expect(&rt, "try_send");
     drop(guard);
     expect_true(&rt, other.is_closed());
-    expect_equal(&rt, rx.try_recv(), Ok(("Foo", 0)));
+    expect_equal(&rt, rx.try_recv(), Ok((FOO, 0)));
 }
 
 #[test]
 fn example_of_end_close_on_drop_2(rt: HostRuntime) {
-    let (answer, answers) = unbounded::<&str, u64, _, _>(&rt, rt.alloc()).expect(&rt, "unbounded");
+    let (answer, answers) = unbounded::<u64, u64, _, _>(&rt, rt.alloc()).expect(&rt, "unbounded");
     let (tx, requests) = unbounded(&rt, rt.alloc()).expect(&rt, "unbounded");
     expect_true(&rt, tx.try_send(answer, 0).is_ok());
     let guard = requests.close_on_drop();
@@ -179,7 +231,7 @@ fn example_of_end_close_on_drop_2(rt: HostRuntime) {
 
 #[test]
 fn example_of_end_closed(rt: HostRuntime) {
-    let (tx, rx) = unbounded::<&str, u64, _, _>(&rt, rt.alloc()).expect(&rt, "unbounded");
+    let (tx, rx) = unbounded::<u64, u64, _, _>(&rt, rt.alloc()).expect(&rt, "unbounded");
     let receiving = thread::spawn(&rt, move || drop(rx)).expect(&rt, "spawn");
     expect_equal(&rt, wait_for(&rt, tx.closed()), Ok(()));
     expect_true(&rt, tx.is_closed());
@@ -195,14 +247,14 @@ fn example_of_end_closed_blocking(rt: HostRuntime) {
     expect_equal(&rt, waited, Ok(()));
     expect_equal(
         &rt,
-        tx.try_send("Foo", 0),
-        Err(TrySendError::Closed(("Foo", 0))),
+        tx.try_send(FOO, 0),
+        Err(TrySendError::Closed((FOO, 0))),
     );
 }
 
 #[test]
 fn example_of_end_closed_timeout(rt: HostRuntime) {
-    let (tx, rx) = unbounded::<&str, u64, _, _>(&rt, rt.alloc()).expect(&rt, "unbounded");
+    let (tx, rx) = unbounded::<u64, u64, _, _>(&rt, rt.alloc()).expect(&rt, "unbounded");
     let limit = Duration::from_millis(5);
     expect_equal(&rt, tx.closed_timeout(limit), Ok(false));
     drop(rx);
@@ -211,7 +263,7 @@ fn example_of_end_closed_timeout(rt: HostRuntime) {
 
 #[test]
 fn example_of_end_closed_deadline(rt: HostRuntime) {
-    let (tx, rx) = unbounded::<&str, u64, _, _>(&rt, rt.alloc()).expect(&rt, "unbounded");
+    let (tx, rx) = unbounded::<u64, u64, _, _>(&rt, rt.alloc()).expect(&rt, "unbounded");
     let limit = Duration::from_millis(5);
     let deadline = Instant::now(&rt)
         .expect(&rt, "now")
@@ -226,7 +278,7 @@ fn example_of_end_closed_deadline(rt: HostRuntime) {
 #[test]
 fn example_of_end(rt: HostRuntime) {
     let (tx, rx) = bounded(&rt, rt.alloc(), 2).expect(&rt, "bounded");
-    tx.try_send("Foo", 0).expect(&rt, "try_send");
+    tx.try_send(FOO, 0).expect(&rt, "try_send");
     expect_equal(&rt, (rx.len(), rx.capacity()), (1, Some(2)));
     expect_true(&rt, !rx.is_empty() && !rx.is_full());
     expect_equal(&rt, (tx.sender_count(), tx.receiver_count()), (1, 1));
@@ -237,23 +289,23 @@ fn example_of_end(rt: HostRuntime) {
 #[test]
 fn example_of_end_close(rt: HostRuntime) {
     let (tx, rx) = unbounded(&rt, rt.alloc()).expect(&rt, "unbounded");
-    tx.try_send("Foo", 0).expect(&rt, "try_send");
+    tx.try_send(FOO, 0).expect(&rt, "try_send");
     expect_true(&rt, tx.close());
     expect_true(&rt, !rx.close());
-    let refused = tx.try_send("Bar", 2);
-    expect_equal(&rt, refused, Err(TrySendError::Closed(("Bar", 2))));
-    expect_equal(&rt, rx.try_recv(), Ok(("Foo", 0)));
+    let refused = tx.try_send(BAR, 2);
+    expect_equal(&rt, refused, Err(TrySendError::Closed((BAR, 2))));
+    expect_equal(&rt, rx.try_recv(), Ok((FOO, 0)));
     expect_equal(&rt, rx.try_recv(), Err(TryRecvError::Closed));
 }
 
 #[test]
 fn example_of_end_close_when_done(rt: HostRuntime) {
     let (tx, rx) = unbounded(&rt, rt.alloc()).expect(&rt, "unbounded");
-    tx.try_send("Foo", 0).expect(&rt, "try_send");
+    tx.try_send(FOO, 0).expect(&rt, "try_send");
     tx.close_when_done();
     let lease = rx.try_lease().expect(&rt, "try_lease");
     expect_true(&rt, !tx.is_closed());
-    tx.try_send("Bar", 2).expect(&rt, "try_send");
+    tx.try_send(BAR, 2).expect(&rt, "try_send");
     lease.finish();
     expect_true(&rt, !tx.is_closed());
     rx.try_lease().expect(&rt, "try_lease").finish();
@@ -265,23 +317,23 @@ fn example_of_end_held(rt: HostRuntime) {
     let (tx, rx) = bounded(&rt, rt.alloc(), 2).expect(&rt, "bounded");
     let permit = tx.try_reserve().expect(&rt, "try_reserve");
     expect_equal(&rt, (rx.held(), rx.len()), (1, 0));
-    permit.send("Foo", 0);
+    permit.send(FOO, 0);
     expect_equal(&rt, (rx.held(), rx.len()), (0, 1));
 }
 
 #[test]
 fn example_of_end_shrink_to_fit(rt: HostRuntime) {
     let (tx, rx) = unbounded(&rt, rt.alloc()).expect(&rt, "unbounded");
-    tx.try_send("Foo", 0).expect(&rt, "try_send");
-    tx.try_send("Bar", 2).expect(&rt, "try_send");
-    expect_equal(&rt, rx.try_recv(), Ok(("Bar", 2)));
+    tx.try_send(FOO, 0).expect(&rt, "try_send");
+    tx.try_send(BAR, 2).expect(&rt, "try_send");
+    expect_equal(&rt, rx.try_recv(), Ok((BAR, 2)));
     rx.shrink_to_fit();
-    expect_equal(&rt, rx.try_recv(), Ok(("Foo", 0)));
+    expect_equal(&rt, rx.try_recv(), Ok((FOO, 0)));
 }
 
 #[test]
 fn example_of_end_same_channel(rt: HostRuntime) {
-    let (tx, _rx) = unbounded::<&str, u64, _, _>(&rt, rt.alloc()).expect(&rt, "unbounded");
+    let (tx, _rx) = unbounded::<u64, u64, _, _>(&rt, rt.alloc()).expect(&rt, "unbounded");
     let (other, _other_rx) = unbounded(&rt, rt.alloc()).expect(&rt, "unbounded");
     expect_true(&rt, tx.same_channel(&tx.clone().expect(&rt, "clone")));
     expect_true(&rt, !tx.same_channel(&other));
@@ -291,7 +343,7 @@ fn example_of_end_same_channel(rt: HostRuntime) {
 fn example_of_clone_for_end(rt: HostRuntime) {
     let (tx, rx) = unbounded(&rt, rt.alloc()).expect(&rt, "unbounded");
     let other = tx.clone().expect(&rt, "clone");
-    let sending = thread::spawn(&rt, move || other.try_send("Foo", 0)).expect(&rt, "spawn");
+    let sending = thread::spawn(&rt, move || other.try_send(FOO, 0)).expect(&rt, "spawn");
     expect_equal(&rt, sending.join(&rt), Ok(()));
     expect_true(&rt, !rx.is_closed());
     drop(tx);
@@ -301,40 +353,40 @@ fn example_of_clone_for_end(rt: HostRuntime) {
 #[test]
 fn example_of_receiver_iter(rt: HostRuntime) {
     let (tx, rx) = unbounded(&rt, rt.alloc()).expect(&rt, "unbounded");
-    tx.try_send("tidy up", 1).expect(&rt, "try_send");
-    tx.try_send("put out the fire", 9).expect(&rt, "try_send");
+    tx.try_send(TIDY_UP, 1).expect(&rt, "try_send");
+    tx.try_send(PUT_OUT_THE_FIRE, 9).expect(&rt, "try_send");
     drop(tx);
     let mut jobs = rx.iter().map(|(job, _)| job);
-    expect_equal(&rt, jobs.next(), Some("put out the fire"));
-    expect_equal(&rt, jobs.next(), Some("tidy up"));
+    expect_equal(&rt, jobs.next(), Some(PUT_OUT_THE_FIRE));
+    expect_equal(&rt, jobs.next(), Some(TIDY_UP));
     expect_equal(&rt, jobs.next(), None);
 }
 
 #[test]
 fn example_of_receiver_try_iter(rt: HostRuntime) {
     let (tx, rx) = unbounded(&rt, rt.alloc()).expect(&rt, "unbounded");
-    tx.try_send("tidy up", 1).expect(&rt, "try_send");
-    tx.try_send("put out the fire", 9).expect(&rt, "try_send");
+    tx.try_send(TIDY_UP, 1).expect(&rt, "try_send");
+    tx.try_send(PUT_OUT_THE_FIRE, 9).expect(&rt, "try_send");
     let mut jobs = rx.try_iter();
-    expect_equal(&rt, jobs.next(), Some(("put out the fire", 9)));
-    expect_equal(&rt, jobs.next(), Some(("tidy up", 1)));
+    expect_equal(&rt, jobs.next(), Some((PUT_OUT_THE_FIRE, 9)));
+    expect_equal(&rt, jobs.next(), Some((TIDY_UP, 1)));
     expect_equal(&rt, jobs.next(), None);
-    tx.try_send("call for help", 9).expect(&rt, "try_send");
+    tx.try_send(CALL_FOR_HELP, 9).expect(&rt, "try_send");
     expect_equal(&rt, jobs.next(), None);
 }
 
 #[test]
 fn example_of_lease(rt: HostRuntime) {
     let (tx, rx) = bounded(&rt, rt.alloc(), 1).expect(&rt, "bounded");
-    tx.try_send("compile", 2).expect(&rt, "try_send");
+    tx.try_send(COMPILE, 2).expect(&rt, "try_send");
     let lease = rx.try_lease().expect(&rt, "try_lease");
-    expect_equal(&rt, (*lease.message(), *lease.priority()), ("compile", 2));
+    expect_equal(&rt, (*lease.message(), *lease.priority()), (COMPILE, 2));
     expect_true(&rt, rx.is_empty() && tx.is_full());
     drop(lease);
     expect_equal(
         &rt,
         rx.try_lease().expect(&rt, "try_lease").finish(),
-        ("compile", 2),
+        (COMPILE, 2),
     );
     expect_true(&rt, rx.is_empty() && !tx.is_full());
 }
@@ -353,43 +405,43 @@ fn example_of_lease_message_mut(rt: HostRuntime) {
 #[test]
 fn example_of_lease_put_back(rt: HostRuntime) {
     let (tx, rx) = unbounded(&rt, rt.alloc()).expect(&rt, "unbounded");
-    tx.try_send("flaky", 5).expect(&rt, "try_send");
-    tx.try_send("steady", 3).expect(&rt, "try_send");
+    tx.try_send(FLAKY, 5).expect(&rt, "try_send");
+    tx.try_send(STEADY, 3).expect(&rt, "try_send");
     rx.try_lease().expect(&rt, "try_lease").put_back(1);
-    expect_equal(&rt, rx.try_recv(), Ok(("steady", 3)));
-    expect_equal(&rt, rx.try_recv(), Ok(("flaky", 1)));
+    expect_equal(&rt, rx.try_recv(), Ok((STEADY, 3)));
+    expect_equal(&rt, rx.try_recv(), Ok((FLAKY, 1)));
 }
 
 #[test]
 fn example_of_lease_into_parts(rt: HostRuntime) {
     let (tx, rx) = bounded(&rt, rt.alloc(), 1).expect(&rt, "bounded");
-    tx.try_send("compile", 2).expect(&rt, "try_send");
+    tx.try_send(COMPILE, 2).expect(&rt, "try_send");
     let (job, priority, permit) = rx.try_lease().expect(&rt, "try_lease").into_parts();
-    expect_equal(&rt, (job, priority), ("compile", 2));
-    permit.send("link", 1);
-    expect_equal(&rt, rx.try_recv(), Ok(("link", 1)));
+    expect_equal(&rt, (job, priority), (COMPILE, 2));
+    permit.send(LINK, 1);
+    expect_equal(&rt, rx.try_recv(), Ok((LINK, 1)));
 }
 
 #[test]
 fn example_of_receiver_try_lease(rt: HostRuntime) {
     let (tx, rx) = bounded(&rt, rt.alloc(), 1).expect(&rt, "bounded");
     expect_true(&rt, rx.try_lease().is_err_and(|error| error.is_empty()));
-    tx.try_send("Foo", 0).expect(&rt, "try_send");
+    tx.try_send(FOO, 0).expect(&rt, "try_send");
     expect_equal(
         &rt,
         rx.try_lease().expect(&rt, "try_lease").finish(),
-        ("Foo", 0),
+        (FOO, 0),
     );
 }
 
 #[test]
 fn example_of_receiver_lease_blocking(rt: HostRuntime) {
     let (tx, rx) = bounded(&rt, rt.alloc(), 1).expect(&rt, "bounded");
-    let sending = thread::spawn(&rt, move || tx.send_blocking("Foo", 0)).expect(&rt, "spawn");
+    let sending = thread::spawn(&rt, move || tx.send_blocking(FOO, 0)).expect(&rt, "spawn");
     expect_equal(
         &rt,
         rx.lease_blocking().expect(&rt, "lease_blocking").finish(),
-        ("Foo", 0),
+        (FOO, 0),
     );
     expect_equal(&rt, sending.join(&rt), Ok(()));
     expect_true(&rt, rx.lease_blocking().is_err());
@@ -404,13 +456,13 @@ fn example_of_receiver_lease_timeout(rt: HostRuntime) {
         rx.lease_timeout(limit)
             .is_err_and(|error| error.is_timeout()),
     );
-    tx.try_send("Foo", 0).expect(&rt, "try_send");
+    tx.try_send(FOO, 0).expect(&rt, "try_send");
     expect_equal(
         &rt,
         rx.lease_timeout(limit)
             .expect(&rt, "lease_timeout")
             .finish(),
-        ("Foo", 0),
+        (FOO, 0),
     );
 }
 
@@ -428,24 +480,24 @@ fn example_of_receiver_lease_deadline(rt: HostRuntime) {
         rx.lease_deadline(deadline)
             .is_err_and(|error| error.is_timeout()),
     );
-    tx.try_send("Foo", 0).expect(&rt, "try_send");
+    tx.try_send(FOO, 0).expect(&rt, "try_send");
     expect_equal(
         &rt,
         rx.lease_deadline(deadline)
             .expect(&rt, "lease_deadline")
             .finish(),
-        ("Foo", 0),
+        (FOO, 0),
     );
 }
 
 #[test]
 fn example_of_receiver_lease(rt: HostRuntime) {
     let (tx, rx) = bounded(&rt, rt.alloc(), 1).expect(&rt, "bounded");
-    let sending = thread::spawn(&rt, move || tx.send_blocking("Foo", 0)).expect(&rt, "spawn");
+    let sending = thread::spawn(&rt, move || tx.send_blocking(FOO, 0)).expect(&rt, "spawn");
     expect_equal(
         &rt,
         wait_for(&rt, rx.lease()).expect(&rt, "wait_for").finish(),
-        ("Foo", 0),
+        (FOO, 0),
     );
     expect_equal(&rt, sending.join(&rt), Ok(()));
 }
@@ -453,11 +505,11 @@ fn example_of_receiver_lease(rt: HostRuntime) {
 #[test]
 fn example_of_receiver_leases(rt: HostRuntime) {
     let (tx, rx) = unbounded(&rt, rt.alloc()).expect(&rt, "unbounded");
-    tx.try_send("compile", 2).expect(&rt, "try_send");
+    tx.try_send(COMPILE, 2).expect(&rt, "try_send");
     tx.close_when_done();
     for lease in rx.leases() {
-        if *lease.message() == "compile" {
-            tx.try_send("link", 1).expect(&rt, "try_send"); // `compile` is still in hand, so the channel is open
+        if *lease.message() == COMPILE {
+            tx.try_send(LINK, 1).expect(&rt, "try_send"); // `compile` is still in hand, so the channel is open
         }
         lease.finish();
     }
@@ -467,21 +519,21 @@ fn example_of_receiver_leases(rt: HostRuntime) {
 #[test]
 fn example_of_order(rt: HostRuntime) {
     let (tx, rx) = unbounded(&rt, rt.alloc()).expect(&rt, "unbounded");
-    let jobs = [("tidy up", 1), ("put out the fire", 9)];
+    let jobs = [(TIDY_UP, 1), (PUT_OUT_THE_FIRE, 9)];
     tx.try_sendv(jobs.into_iter().peekable())
         .expect(&rt, "try_sendv");
-    tx.try_send("call for help", 9).expect(&rt, "try_send");
-    expect_equal(&rt, rx.try_recv(), Ok(("put out the fire", 9)));
-    expect_equal(&rt, rx.try_recv(), Ok(("call for help", 9)));
-    expect_equal(&rt, rx.try_recv(), Ok(("tidy up", 1)));
+    tx.try_send(CALL_FOR_HELP, 9).expect(&rt, "try_send");
+    expect_equal(&rt, rx.try_recv(), Ok((PUT_OUT_THE_FIRE, 9)));
+    expect_equal(&rt, rx.try_recv(), Ok((CALL_FOR_HELP, 9)));
+    expect_equal(&rt, rx.try_recv(), Ok((TIDY_UP, 1)));
 }
 
 #[test]
 fn example_of_order_2(rt: HostRuntime) {
     let (tx, rx) = unbounded(&rt, rt.alloc()).expect(&rt, "unbounded");
-    tx.try_send("lunch", Reverse(12)).expect(&rt, "try_send");
-    tx.try_send("breakfast", Reverse(7)).expect(&rt, "try_send");
-    expect_equal(&rt, rx.try_recv(), Ok(("breakfast", Reverse(7))));
+    tx.try_send(LUNCH, Reverse(12)).expect(&rt, "try_send");
+    tx.try_send(BREAKFAST, Reverse(7)).expect(&rt, "try_send");
+    expect_equal(&rt, rx.try_recv(), Ok((BREAKFAST, Reverse(7))));
 }
 
 #[test]
@@ -512,10 +564,10 @@ fn example_of_sharing_2(rt: HostRuntime) {
 #[test]
 fn example_of_closing(rt: HostRuntime) {
     let (tx, rx) = unbounded(&rt, rt.alloc()).expect(&rt, "unbounded");
-    tx.try_send("Foo", 0).expect(&rt, "try_send");
+    tx.try_send(FOO, 0).expect(&rt, "try_send");
     drop(tx);
     expect_true(&rt, rx.is_closed());
-    expect_equal(&rt, rx.try_recv(), Ok(("Foo", 0)));
+    expect_equal(&rt, rx.try_recv(), Ok((FOO, 0)));
     expect_equal(&rt, rx.try_recv(), Err(TryRecvError::Closed));
 }
 
@@ -540,9 +592,9 @@ fn example_of_time_limits(rt: HostRuntime) {
     let (tx, rx) = bounded(&rt, rt.alloc(), 1).expect(&rt, "bounded");
     let limit = Duration::from_millis(5);
     expect_equal(&rt, rx.recv_timeout(limit), Err(RecvTimeoutError::Timeout));
-    tx.send_timeout("Foo", 0, limit).expect(&rt, "send_timeout");
-    if let Err(late) = tx.send_timeout("Bar", 2, limit) {
-        expect_equal(&rt, late.into_inner(), ("Bar", 2));
+    tx.send_timeout(FOO, 0, limit).expect(&rt, "send_timeout");
+    if let Err(late) = tx.send_timeout(BAR, 2, limit) {
+        expect_equal(&rt, late.into_inner(), (BAR, 2));
     }
 }
 
@@ -550,32 +602,32 @@ fn example_of_time_limits(rt: HostRuntime) {
 fn example_of_conditions(rt: HostRuntime) {
     let (tx, rx) = unbounded(&rt, rt.alloc()).expect(&rt, "unbounded");
     let free = 4;
-    for (job, memory, urgency) in [("compile", 8, 2), ("test", 1, 1)] {
+    for (job, memory, urgency) in [(COMPILE, 8, 2), (TEST, 1, 1)] {
         tx.try_send((job, memory), urgency).expect(&rt, "try_send");
     }
     let (job, _) = rx
         .recv_where_blocking(|(_, memory), _| *memory <= free)
         .expect(&rt, "recv_where_blocking");
-    expect_equal(&rt, job, ("test", 1));
+    expect_equal(&rt, job, (TEST, 1));
 }
 
 #[test]
 fn example_of_iterating(rt: HostRuntime) {
     let mut done = Vec::new(rt.alloc());
     let (tx, rx) = bounded(&rt, rt.alloc(), 1).expect(&rt, "bounded");
-    let sending = thread::spawn(&rt, move || tx.send_blocking("Foo", 0)).expect(&rt, "spawn");
+    let sending = thread::spawn(&rt, move || tx.send_blocking(FOO, 0)).expect(&rt, "spawn");
     for (job, priority) in &rx {
         done.push((job, priority)).expect(&rt, "push");
     }
     expect_equal(&rt, sending.join(&rt), Ok(()));
-    expect_equal(&rt, done.as_slice(), [("Foo", 0)].as_slice());
+    expect_equal(&rt, done.as_slice(), [(FOO, 0)].as_slice());
 }
 
 #[test]
 fn example_of_futures(rt: HostRuntime) {
     let (tx, rx) = bounded(&rt, rt.alloc(), 1).expect(&rt, "bounded");
-    let (received, sent) = wait_for(&rt, join(rx.recv(), tx.send("Foo", 0)));
-    expect_equal(&rt, (received, sent), (Ok(("Foo", 0)), Ok(())));
+    let (received, sent) = wait_for(&rt, join(rx.recv(), tx.send(FOO, 0)));
+    expect_equal(&rt, (received, sent), (Ok((FOO, 0)), Ok(())));
     drop(tx);
     expect_equal(&rt, wait_for(&rt, rx.stream().next()), None);
 }
@@ -584,9 +636,9 @@ fn example_of_futures(rt: HostRuntime) {
 fn example_of_futures_2(rt: HostRuntime) {
     let (tx, jobs) = unbounded(&rt, rt.alloc()).expect(&rt, "unbounded");
     let (_stop, stops) = unbounded::<(), (), _, _>(&rt, rt.alloc()).expect(&rt, "unbounded");
-    tx.try_send("Foo", 0).expect(&rt, "try_send");
+    tx.try_send(FOO, 0).expect(&rt, "try_send");
     let has_come = match wait_for(&rt, select(jobs.recv(), stops.recv())) {
-        Either::Left((job, _)) => job == Ok(("Foo", 0)),
+        Either::Left((job, _)) => job == Ok((FOO, 0)),
         Either::Right(_) => false,
     };
     expect_true(&rt, has_come);
@@ -595,7 +647,7 @@ fn example_of_futures_2(rt: HostRuntime) {
 #[test]
 fn example_of_memory(rt: HostRuntime) {
     let (tx, rx) = bounded_reserved(&rt, rt.alloc(), 100).expect(&rt, "bounded_reserved");
-    match tx.try_send("Foo", 0) {
+    match tx.try_send(FOO, 0) {
         Ok(()) => {}
         Err(TrySendError::Full(unsent) | TrySendError::Closed(unsent)) => drop(unsent),
         Err(TrySendError::Memory(_)) => panic!(rt; "not of a reserved channel"),
@@ -623,26 +675,22 @@ fn example_of_what_is_proved(rt: HostRuntime) {
 #[test]
 fn example_of_receiver_try_recv_many(rt: HostRuntime) {
     let (tx, rx) = unbounded(&rt, rt.alloc()).expect(&rt, "unbounded");
-    let jobs = [("compile", 2), ("link", 1), ("test", 3)];
+    let jobs = [(COMPILE, 2), (LINK, 1), (TEST, 3)];
     tx.try_sendv(jobs.into_iter().peekable())
         .expect(&rt, "try_sendv");
     let mut batch = Vec::new(rt.alloc());
     expect_equal(&rt, rx.try_recv_many(&mut batch, 2), Ok(2));
-    expect_equal(
-        &rt,
-        batch.as_slice(),
-        [("test", 3), ("compile", 2)].as_slice(),
-    );
+    expect_equal(&rt, batch.as_slice(), [(TEST, 3), (COMPILE, 2)].as_slice());
     expect_equal(&rt, rx.len(), 1);
 }
 
 #[test]
 fn example_of_receiver_recv_many_blocking(rt: HostRuntime) {
     let (tx, rx) = bounded(&rt, rt.alloc(), 10).expect(&rt, "bounded");
-    let sending = thread::spawn(&rt, move || tx.send_blocking("Foo", 0)).expect(&rt, "spawn");
+    let sending = thread::spawn(&rt, move || tx.send_blocking(FOO, 0)).expect(&rt, "spawn");
     let mut batch = Vec::new(rt.alloc());
     expect_equal(&rt, rx.recv_many_blocking(&mut batch, 64), Ok(1));
-    expect_equal(&rt, batch.pop(), Some(("Foo", 0)));
+    expect_equal(&rt, batch.pop(), Some((FOO, 0)));
     expect_equal(&rt, sending.join(&rt), Ok(()));
     let ended = rx.recv_many_blocking(&mut batch, 64);
     expect_equal(&rt, ended, Err(RecvFault::Closed(RecvError)));
@@ -655,10 +703,10 @@ fn example_of_receiver_recv_many_timeout(rt: HostRuntime) {
     let mut batch = Vec::new(rt.alloc());
     let late = rx.recv_many_timeout(&mut batch, 8, limit);
     expect_equal(&rt, late, Err(RecvTimeoutError::Timeout));
-    tx.try_send("Foo", 0).expect(&rt, "try_send");
-    tx.try_send("Bar", 2).expect(&rt, "try_send");
+    tx.try_send(FOO, 0).expect(&rt, "try_send");
+    tx.try_send(BAR, 2).expect(&rt, "try_send");
     expect_equal(&rt, rx.recv_many_timeout(&mut batch, 8, limit), Ok(2));
-    expect_equal(&rt, batch.as_slice(), [("Bar", 2), ("Foo", 0)].as_slice());
+    expect_equal(&rt, batch.as_slice(), [(BAR, 2), (FOO, 0)].as_slice());
 }
 
 #[test]
@@ -671,7 +719,7 @@ fn example_of_receiver_recv_many_deadline(rt: HostRuntime) {
         .ok_or("too late")
         .expect(&rt, "ok_or");
     let mut batch = Vec::new(rt.alloc());
-    tx.try_send("Foo", 0).expect(&rt, "try_send");
+    tx.try_send(FOO, 0).expect(&rt, "try_send");
     expect_equal(&rt, rx.recv_many_deadline(&mut batch, 8, deadline), Ok(1));
     let late = rx.recv_many_deadline(&mut batch, 8, deadline);
     expect_equal(&rt, late, Err(RecvTimeoutError::Timeout));
@@ -680,17 +728,17 @@ fn example_of_receiver_recv_many_deadline(rt: HostRuntime) {
 #[test]
 fn example_of_receiver_recv_many(rt: HostRuntime) {
     let (tx, rx) = unbounded(&rt, rt.alloc()).expect(&rt, "unbounded");
-    tx.try_send("Foo", 0).expect(&rt, "try_send");
+    tx.try_send(FOO, 0).expect(&rt, "try_send");
     let mut batch = Vec::new(rt.alloc());
     let count = wait_for(&rt, rx.recv_many(&mut batch, 64)).expect(&rt, "wait_for");
     expect_equal(&rt, count, 1);
-    expect_equal(&rt, batch.first(), Some(&("Foo", 0)));
+    expect_equal(&rt, batch.first(), Some(&(FOO, 0)));
 }
 
 #[test]
 fn example_of_receiver_peek_with(rt: HostRuntime) {
     let (tx, rx) = unbounded(&rt, rt.alloc()).expect(&rt, "unbounded");
-    tx.try_send("water the plants", Reverse(30))
+    tx.try_send(WATER_THE_PLANTS, Reverse(30))
         .expect(&rt, "try_send");
     let now = 20;
     let is_due = rx.peek_with(|_, Reverse(due)| *due <= now);
@@ -702,13 +750,13 @@ fn example_of_receiver_peek_with(rt: HostRuntime) {
 fn example_of_receiver_peek_priority(rt: HostRuntime) {
     let (tx, rx) = unbounded(&rt, rt.alloc()).expect(&rt, "unbounded");
     expect_equal(&rt, rx.peek_priority().expect(&rt, "peek_priority"), None);
-    tx.try_send("Foo", 7).expect(&rt, "try_send");
+    tx.try_send(FOO, 7).expect(&rt, "try_send");
     expect_equal(
         &rt,
         rx.peek_priority().expect(&rt, "peek_priority"),
         Some(7),
     );
-    expect_equal(&rt, rx.try_recv(), Ok(("Foo", 7)));
+    expect_equal(&rt, rx.try_recv(), Ok((FOO, 7)));
 }
 
 #[test]
@@ -717,38 +765,34 @@ fn example_of_permit(rt: HostRuntime) {
     let permit = tx.try_reserve().expect(&rt, "try_reserve");
     expect_true(&rt, tx.is_full());
     tx.close();
-    permit.send("Foo", 0);
-    expect_equal(&rt, rx.try_recv(), Ok(("Foo", 0)));
+    permit.send(FOO, 0);
+    expect_equal(&rt, rx.try_recv(), Ok((FOO, 0)));
 }
 
 #[test]
 fn example_of_sender_try_reserve(rt: HostRuntime) {
     let (tx, rx) = bounded(&rt, rt.alloc(), 1).expect(&rt, "bounded");
     let permit = tx.try_reserve().expect(&rt, "try_reserve");
-    expect_equal(
-        &rt,
-        tx.try_send("Bar", 2),
-        Err(TrySendError::Full(("Bar", 2))),
-    );
+    expect_equal(&rt, tx.try_send(BAR, 2), Err(TrySendError::Full((BAR, 2))));
     drop(permit);
-    expect_equal(&rt, tx.try_send("Bar", 2), Ok(()));
+    expect_equal(&rt, tx.try_send(BAR, 2), Ok(()));
 }
 
 #[test]
 fn example_of_sender_reserve_blocking(rt: HostRuntime) {
     let (tx, rx) = bounded(&rt, rt.alloc(), 1).expect(&rt, "bounded");
-    tx.try_send(3, 0).expect(&rt, "try_send");
+    tx.try_send(FOO, 0).expect(&rt, "try_send");
     let receiving = thread::spawn(&rt, move || (rx.recv_blocking(), rx)).expect(&rt, "spawn");
     let permit = tx.reserve_blocking().expect(&rt, "reserve_blocking");
     let (received, rx) = receiving.join(&rt);
-    expect_equal(&rt, received, Ok((3, 0)));
-    permit.send(4, 2);
-    expect_equal(&rt, rx.try_recv(), Ok((4, 2)));
+    expect_equal(&rt, received, Ok((FOO, 0)));
+    permit.send(BAR, 2);
+    expect_equal(&rt, rx.try_recv(), Ok((BAR, 2)));
 }
 
 #[test]
 fn example_of_sender_reserve_timeout(rt: HostRuntime) {
-    let (tx, _rx) = bounded::<&str, u64, _, _>(&rt, rt.alloc(), 1).expect(&rt, "bounded");
+    let (tx, _rx) = bounded::<u64, u64, _, _>(&rt, rt.alloc(), 1).expect(&rt, "bounded");
     let limit = Duration::from_millis(5);
     let permit = tx.reserve_timeout(limit).expect(&rt, "reserve_timeout");
     let refused = tx.reserve_timeout(limit);
@@ -758,7 +802,7 @@ fn example_of_sender_reserve_timeout(rt: HostRuntime) {
 
 #[test]
 fn example_of_sender_reserve_deadline(rt: HostRuntime) {
-    let (tx, _rx) = bounded::<&str, u64, _, _>(&rt, rt.alloc(), 1).expect(&rt, "bounded");
+    let (tx, _rx) = bounded::<u64, u64, _, _>(&rt, rt.alloc(), 1).expect(&rt, "bounded");
     let limit = Duration::from_millis(5);
     let deadline = Instant::now(&rt)
         .expect(&rt, "now")
@@ -776,30 +820,30 @@ fn example_of_sender_reserve_deadline(rt: HostRuntime) {
 #[test]
 fn example_of_sender_reserve(rt: HostRuntime) {
     let (tx, rx) = bounded(&rt, rt.alloc(), 1).expect(&rt, "bounded");
-    tx.try_send("Foo", 0).expect(&rt, "try_send");
+    tx.try_send(FOO, 0).expect(&rt, "try_send");
     let (reserved, received) = wait_for(&rt, join(tx.reserve(), rx.recv()));
-    expect_equal(&rt, received, Ok(("Foo", 0)));
-    reserved.expect(&rt, "reserve").send("Bar", 2);
-    expect_equal(&rt, rx.try_recv(), Ok(("Bar", 2)));
+    expect_equal(&rt, received, Ok((FOO, 0)));
+    reserved.expect(&rt, "reserve").send(BAR, 2);
+    expect_equal(&rt, rx.try_recv(), Ok((BAR, 2)));
 }
 
 #[test]
 fn example_of_receiver(rt: HostRuntime) {
     let (tx, rx) = unbounded(&rt, rt.alloc()).expect(&rt, "unbounded");
-    tx.try_send("first", 5).expect(&rt, "try_send");
-    tx.try_send("second", 5).expect(&rt, "try_send");
-    tx.try_send("urgent", 9).expect(&rt, "try_send");
-    expect_equal(&rt, rx.try_recv(), Ok(("urgent", 9)));
-    expect_equal(&rt, rx.try_recv(), Ok(("first", 5)));
-    expect_equal(&rt, rx.try_recv(), Ok(("second", 5)));
+    tx.try_send(FIRST, 5).expect(&rt, "try_send");
+    tx.try_send(SECOND, 5).expect(&rt, "try_send");
+    tx.try_send(URGENT, 9).expect(&rt, "try_send");
+    expect_equal(&rt, rx.try_recv(), Ok((URGENT, 9)));
+    expect_equal(&rt, rx.try_recv(), Ok((FIRST, 5)));
+    expect_equal(&rt, rx.try_recv(), Ok((SECOND, 5)));
 }
 
 #[test]
 fn example_of_receiver_recv(rt: HostRuntime) {
     let (tx, rx) = unbounded(&rt, rt.alloc()).expect(&rt, "unbounded");
-    let sending = thread::spawn(&rt, move || tx.try_send("Foo", 0)).expect(&rt, "spawn");
+    let sending = thread::spawn(&rt, move || tx.try_send(FOO, 0)).expect(&rt, "spawn");
     let (job, priority) = wait_for(&rt, rx.recv()).expect(&rt, "wait_for");
-    expect_equal(&rt, (job, priority), ("Foo", 0));
+    expect_equal(&rt, (job, priority), (FOO, 0));
     expect_equal(&rt, sending.join(&rt), Ok(()));
 }
 
@@ -807,9 +851,9 @@ fn example_of_receiver_recv(rt: HostRuntime) {
 fn example_of_receiver_try_recv(rt: HostRuntime) {
     let (tx, rx) = unbounded(&rt, rt.alloc()).expect(&rt, "unbounded");
     expect_equal(&rt, rx.try_recv(), Err(TryRecvError::Empty));
-    tx.try_send("Foo", 0).expect(&rt, "try_send");
+    tx.try_send(FOO, 0).expect(&rt, "try_send");
     drop(tx);
-    expect_equal(&rt, rx.try_recv(), Ok(("Foo", 0)));
+    expect_equal(&rt, rx.try_recv(), Ok((FOO, 0)));
     expect_equal(&rt, rx.try_recv(), Err(TryRecvError::Closed));
 }
 
@@ -821,56 +865,56 @@ fn example_of_receiver_recv_when_blocking(rt: HostRuntime) {
         .checked_add(Duration::from_millis(5))
         .ok_or("too late")
         .expect(&rt, "ok_or");
-    tx.try_send("boil the water", Reverse(soon))
+    tx.try_send(BOIL_THE_WATER, Reverse(soon))
         .expect(&rt, "try_send");
     let (job, _) = rx
         .recv_when_blocking(|_, due| Due::At(due.0))
         .expect(&rt, "recv_when_blocking");
-    expect_equal(&rt, job, "boil the water");
+    expect_equal(&rt, job, BOIL_THE_WATER);
     expect_true(&rt, soon <= Instant::now(&rt).expect(&rt, "now"));
 }
 
 #[test]
 fn example_of_receiver_recv_when_timeout(rt: HostRuntime) {
     let (tx, rx) = unbounded(&rt, rt.alloc()).expect(&rt, "unbounded");
-    tx.try_send("paused", 1).expect(&rt, "try_send");
+    tx.try_send(PAUSED, 1).expect(&rt, "try_send");
     let limit = Duration::from_millis(5);
     let late = rx.recv_when_timeout(|_, _| Due::Never, limit);
     expect_equal(&rt, late, Err(RecvTimeoutError::Timeout));
     expect_equal(
         &rt,
         rx.recv_when_timeout(|_, _| Due::Now, limit),
-        Ok(("paused", 1)),
+        Ok((PAUSED, 1)),
     );
 }
 
 #[test]
 fn example_of_receiver_recv_when_deadline(rt: HostRuntime) {
     let (tx, rx) = unbounded(&rt, rt.alloc()).expect(&rt, "unbounded");
-    tx.try_send("Foo", 0).expect(&rt, "try_send");
+    tx.try_send(FOO, 0).expect(&rt, "try_send");
     let now = Instant::now(&rt).expect(&rt, "now");
     expect_equal(
         &rt,
         rx.recv_when_deadline(|_, _| Due::At(now), now),
-        Ok(("Foo", 0)),
+        Ok((FOO, 0)),
     );
 }
 
 #[test]
 fn example_of_receiver_recv_where_blocking(rt: HostRuntime) {
     let (tx, rx) = unbounded(&rt, rt.alloc()).expect(&rt, "unbounded");
-    tx.try_send("compile", 2).expect(&rt, "try_send");
-    tx.try_send("link", 1).expect(&rt, "try_send");
-    let job = rx.recv_where_blocking(|job, _| *job == "link");
-    expect_equal(&rt, job, Ok(("link", 1)));
+    tx.try_send(COMPILE, 2).expect(&rt, "try_send");
+    tx.try_send(LINK, 1).expect(&rt, "try_send");
+    let job = rx.recv_where_blocking(|job, _| *job == LINK);
+    expect_equal(&rt, job, Ok((LINK, 1)));
 }
 
 #[test]
 fn example_of_receiver_recv_where_timeout(rt: HostRuntime) {
     let (tx, rx) = unbounded(&rt, rt.alloc()).expect(&rt, "unbounded");
-    tx.try_send("compile", 2).expect(&rt, "try_send");
+    tx.try_send(COMPILE, 2).expect(&rt, "try_send");
     let limit = Duration::from_millis(5);
-    let late = rx.recv_where_timeout(|job, _| *job == "link", limit);
+    let late = rx.recv_where_timeout(|job, _| *job == LINK, limit);
     expect_equal(&rt, late, Err(RecvTimeoutError::Timeout));
     expect_equal(&rt, rx.len(), 1);
 }
@@ -878,44 +922,40 @@ fn example_of_receiver_recv_where_timeout(rt: HostRuntime) {
 #[test]
 fn example_of_receiver_recv_where_deadline(rt: HostRuntime) {
     let (tx, rx) = unbounded(&rt, rt.alloc()).expect(&rt, "unbounded");
-    tx.try_send("Foo", 0).expect(&rt, "try_send");
+    tx.try_send(FOO, 0).expect(&rt, "try_send");
     let now = Instant::now(&rt).expect(&rt, "now");
-    expect_equal(
-        &rt,
-        rx.recv_where_deadline(|_, _| true, now),
-        Ok(("Foo", 0)),
-    );
+    expect_equal(&rt, rx.recv_where_deadline(|_, _| true, now), Ok((FOO, 0)));
 }
 
 #[test]
 fn example_of_sender(rt: HostRuntime) {
     let (tx, rx) = unbounded(&rt, rt.alloc()).expect(&rt, "unbounded");
     let other = tx.clone().expect(&rt, "clone");
-    tx.try_send("Foo", 0).expect(&rt, "try_send");
+    tx.try_send(FOO, 0).expect(&rt, "try_send");
     drop(tx);
     expect_true(&rt, !rx.is_closed());
     drop(other);
     expect_true(&rt, rx.is_closed());
-    expect_equal(&rt, rx.try_recv(), Ok(("Foo", 0)));
+    expect_equal(&rt, rx.try_recv(), Ok((FOO, 0)));
 }
 
 #[test]
 fn example_of_sender_try_sendv(rt: HostRuntime) {
     let (tx, rx) = bounded(&rt, rt.alloc(), 2).expect(&rt, "bounded");
-    let jobs = [("compile", 2), ("link", 1), ("test", 0)];
+    let jobs = [(COMPILE, 2), (LINK, 1), (TEST, 0)];
     if let Err(refusal) = tx.try_sendv(jobs.into_iter().peekable()) {
         expect_true(&rt, refusal.is_full());
-        expect_equal(&rt, refusal.into_inner().next(), Some(("test", 0)));
+        expect_equal(&rt, refusal.into_inner().next(), Some((TEST, 0)));
     }
-    expect_equal(&rt, rx.try_recv(), Ok(("compile", 2)));
+    expect_equal(&rt, rx.try_recv(), Ok((COMPILE, 2)));
 }
 
 #[test]
 fn example_of_sender_send(rt: HostRuntime) {
     let (tx, rx) = bounded(&rt, rt.alloc(), 1).expect(&rt, "bounded");
-    wait_for(&rt, tx.send("Foo", 0)).expect(&rt, "wait_for");
-    let (sent, received) = wait_for(&rt, join(tx.send("Bar", 2), rx.recv()));
-    expect_equal(&rt, received, Ok(("Foo", 0)));
+    wait_for(&rt, tx.send(FOO, 0)).expect(&rt, "wait_for");
+    let (sent, received) = wait_for(&rt, join(tx.send(BAR, 2), rx.recv()));
+    expect_equal(&rt, received, Ok((FOO, 0)));
     expect_equal(&rt, sent, Ok(()));
 }
 
@@ -933,45 +973,37 @@ fn example_of_sender_sendv(rt: HostRuntime) {
 #[test]
 fn example_of_sender_try_send(rt: HostRuntime) {
     let (tx, rx) = bounded(&rt, rt.alloc(), 1).expect(&rt, "bounded");
-    tx.try_send("Foo", 0).expect(&rt, "try_send");
-    expect_equal(
-        &rt,
-        tx.try_send("Bar", 2),
-        Err(TrySendError::Full(("Bar", 2))),
-    );
+    tx.try_send(FOO, 0).expect(&rt, "try_send");
+    expect_equal(&rt, tx.try_send(BAR, 2), Err(TrySendError::Full((BAR, 2))));
     drop(rx);
-    let refused = tx.try_send("Bar", 2);
-    expect_equal(&rt, refused, Err(TrySendError::Closed(("Bar", 2))));
+    let refused = tx.try_send(BAR, 2);
+    expect_equal(&rt, refused, Err(TrySendError::Closed((BAR, 2))));
 }
 
 #[test]
 fn example_of_sender_try_send_evicting(rt: HostRuntime) {
     let (tx, rx) = bounded(&rt, rt.alloc(), 2).expect(&rt, "bounded");
-    tx.try_send("report", 1).expect(&rt, "try_send");
-    tx.try_send("thumbnail", 0).expect(&rt, "try_send");
+    tx.try_send(REPORT, 1).expect(&rt, "try_send");
+    tx.try_send(THUMBNAIL, 0).expect(&rt, "try_send");
     expect_equal(
         &rt,
-        tx.try_send_evicting("payment", 9),
-        Ok(Some(("thumbnail", 0))),
+        tx.try_send_evicting(PAYMENT, 9),
+        Ok(Some((THUMBNAIL, 0))),
     );
-    let refused = tx.try_send_evicting("thumbnail", 0);
-    expect_equal(&rt, refused, Err(TrySendError::Full(("thumbnail", 0))));
-    expect_equal(&rt, rx.try_recv(), Ok(("payment", 9)));
+    let refused = tx.try_send_evicting(THUMBNAIL, 0);
+    expect_equal(&rt, refused, Err(TrySendError::Full((THUMBNAIL, 0))));
+    expect_equal(&rt, rx.try_recv(), Ok((PAYMENT, 9)));
 }
 
 #[test]
 fn example_of_receiver_stream(rt: HostRuntime) {
     let (tx, rx) = unbounded(&rt, rt.alloc()).expect(&rt, "unbounded");
-    let jobs = [("compile", 2), ("link", 1), ("test", 3)];
+    let jobs = [(COMPILE, 2), (LINK, 1), (TEST, 3)];
     tx.try_sendv(jobs.into_iter().peekable())
         .expect(&rt, "try_sendv");
     let pairs = wait_for(&rt, rx.stream().take(2).collect(rt.alloc())).expect(&rt, "wait_for");
-    expect_equal(
-        &rt,
-        pairs.as_slice(),
-        [("test", 3), ("compile", 2)].as_slice(),
-    );
-    expect_equal(&rt, rx.try_recv(), Ok(("link", 1)));
+    expect_equal(&rt, pairs.as_slice(), [(TEST, 3), (COMPILE, 2)].as_slice());
+    expect_equal(&rt, rx.try_recv(), Ok((LINK, 1)));
 }
 
 #[test]
@@ -979,8 +1011,8 @@ fn example_of_receiver_into_stream(rt: HostRuntime) {
     let (tx, rx) = bounded(&rt, rt.alloc(), 1).expect(&rt, "bounded");
     let stream = rx.into_stream();
     let counting = thread::spawn(&rt, move || block_on(&rt, stream.count())).expect(&rt, "spawn");
-    tx.send_blocking("Foo", 0).expect(&rt, "send_blocking");
-    tx.send_blocking("Bar", 2).expect(&rt, "send_blocking");
+    tx.send_blocking(FOO, 0).expect(&rt, "send_blocking");
+    tx.send_blocking(BAR, 2).expect(&rt, "send_blocking");
     drop(tx);
     expect_equal(&rt, counting.join(&rt).expect(&rt, "join"), 2);
 }
@@ -988,34 +1020,30 @@ fn example_of_receiver_into_stream(rt: HostRuntime) {
 #[test]
 fn example_of_end_take_where(rt: HostRuntime) {
     let (tx, rx) = unbounded(&rt, rt.alloc()).expect(&rt, "unbounded");
-    let jobs = [("compile", 2), ("link", 1), ("test", 3)];
+    let jobs = [(COMPILE, 2), (LINK, 1), (TEST, 3)];
     tx.try_sendv(jobs.into_iter().peekable())
         .expect(&rt, "try_sendv");
-    expect_equal(
-        &rt,
-        rx.take_where(|job, _| *job == "link"),
-        Some(("link", 1)),
-    );
-    expect_equal(&rt, rx.take_where(|job, _| *job == "link"), None);
-    expect_equal(&rt, rx.try_recv(), Ok(("test", 3)));
+    expect_equal(&rt, rx.take_where(|job, _| *job == LINK), Some((LINK, 1)));
+    expect_equal(&rt, rx.take_where(|job, _| *job == LINK), None);
+    expect_equal(&rt, rx.try_recv(), Ok((TEST, 3)));
 }
 
 #[test]
 fn example_of_end_change_priority(rt: HostRuntime) {
     let (tx, rx) = unbounded(&rt, rt.alloc()).expect(&rt, "unbounded");
-    let jobs = [("compile", 2), ("link", 1), ("test", 3)];
+    let jobs = [(COMPILE, 2), (LINK, 1), (TEST, 3)];
     tx.try_sendv(jobs.into_iter().peekable())
         .expect(&rt, "try_sendv");
-    expect_equal(&rt, rx.change_priority(|job, _| *job == "link", 3), Some(1));
-    expect_equal(&rt, rx.change_priority(|job, _| *job == "deploy", 9), None);
-    expect_equal(&rt, rx.try_recv(), Ok(("link", 3)));
-    expect_equal(&rt, rx.try_recv(), Ok(("test", 3)));
+    expect_equal(&rt, rx.change_priority(|job, _| *job == LINK, 3), Some(1));
+    expect_equal(&rt, rx.change_priority(|job, _| *job == DEPLOY, 9), None);
+    expect_equal(&rt, rx.try_recv(), Ok((LINK, 3)));
+    expect_equal(&rt, rx.try_recv(), Ok((TEST, 3)));
 }
 
 #[test]
 fn example_of_end_count_where(rt: HostRuntime) {
     let (tx, rx) = unbounded(&rt, rt.alloc()).expect(&rt, "unbounded");
-    tx.try_sendv([("Foo", 0), ("Bar", 2), ("Baz", 5)].into_iter().peekable())
+    tx.try_sendv([(FOO, 0), (BAR, 2), (BAZ, 5)].into_iter().peekable())
         .expect(&rt, "try_sendv");
     expect_equal(&rt, rx.count_where(|_, priority| *priority > 1), 2);
 }
@@ -1023,7 +1051,7 @@ fn example_of_end_count_where(rt: HostRuntime) {
 #[test]
 fn example_of_end_fold_pending(rt: HostRuntime) {
     let (tx, rx) = unbounded(&rt, rt.alloc()).expect(&rt, "unbounded");
-    tx.try_sendv([("Foo", 0), ("Bar", 2), ("Baz", 5)].into_iter().peekable())
+    tx.try_sendv([(FOO, 0), (BAR, 2), (BAZ, 5)].into_iter().peekable())
         .expect(&rt, "try_sendv");
     let most = rx.fold_pending(0, |most: u64, _, priority| most.max(*priority));
     expect_equal(&rt, most, 5);
@@ -1032,41 +1060,41 @@ fn example_of_end_fold_pending(rt: HostRuntime) {
 #[test]
 fn example_of_end_retain(rt: HostRuntime) {
     let (tx, rx) = unbounded(&rt, rt.alloc()).expect(&rt, "unbounded");
-    let jobs = [("compile", 2), ("link", 1), ("test", 3)];
+    let jobs = [(COMPILE, 2), (LINK, 1), (TEST, 3)];
     tx.try_sendv(jobs.into_iter().peekable())
         .expect(&rt, "try_sendv");
-    let cancelled = rx.retain(|job, _| *job != "link").expect(&rt, "retain");
-    expect_equal(&rt, cancelled.as_slice(), [("link", 1)].as_slice());
-    expect_equal(&rt, rx.try_recv(), Ok(("test", 3)));
+    let cancelled = rx.retain(|job, _| *job != LINK).expect(&rt, "retain");
+    expect_equal(&rt, cancelled.as_slice(), [(LINK, 1)].as_slice());
+    expect_equal(&rt, rx.try_recv(), Ok((TEST, 3)));
     expect_equal(&rt, rx.len(), 1);
 }
 
 #[test]
 fn example_of_receiver_try_recv_where(rt: HostRuntime) {
     let (tx, rx) = unbounded(&rt, rt.alloc()).expect(&rt, "unbounded");
-    let jobs = [("compile", 2), ("link", 1), ("test", 3)];
+    let jobs = [(COMPILE, 2), (LINK, 1), (TEST, 3)];
     tx.try_sendv(jobs.into_iter().peekable())
         .expect(&rt, "try_sendv");
-    let short = rx.try_recv_where(|job, _| job.len() < 5);
-    expect_equal(&rt, short, Ok(Some(("test", 3))));
-    expect_equal(&rt, rx.try_recv_where(|job, _| *job == "deploy"), Ok(None));
+    let short = rx.try_recv_where(|job, _| *job != COMPILE);
+    expect_equal(&rt, short, Ok(Some((TEST, 3))));
+    expect_equal(&rt, rx.try_recv_where(|job, _| *job == DEPLOY), Ok(None));
     expect_equal(&rt, rx.len(), 2);
 }
 
 #[test]
 fn example_of_receiver_try_recv_if(rt: HostRuntime) {
     let (tx, rx) = unbounded(&rt, rt.alloc()).expect(&rt, "unbounded");
-    tx.try_send("reindex", 1).expect(&rt, "try_send");
+    tx.try_send(REINDEX, 1).expect(&rt, "try_send");
     expect_equal(&rt, rx.try_recv_if(|_, priority| *priority > 5), Ok(None));
-    tx.try_send("page the admin", 9).expect(&rt, "try_send");
+    tx.try_send(PAGE_THE_ADMIN, 9).expect(&rt, "try_send");
     let urgent = rx.try_recv_if(|_, priority| *priority > 5);
-    expect_equal(&rt, urgent, Ok(Some(("page the admin", 9))));
+    expect_equal(&rt, urgent, Ok(Some((PAGE_THE_ADMIN, 9))));
     expect_equal(&rt, rx.len(), 1);
 }
 
 #[test]
 fn example_of_weak_upgrade(rt: HostRuntime) {
-    let (tx, rx) = unbounded::<&str, u64, _, _>(&rt, rt.alloc()).expect(&rt, "unbounded");
+    let (tx, rx) = unbounded::<u64, u64, _, _>(&rt, rt.alloc()).expect(&rt, "unbounded");
     let weak = tx.downgrade().expect(&rt, "downgrade");
     expect_true(&rt, weak.upgrade().is_some());
     drop(tx);
@@ -1075,7 +1103,7 @@ fn example_of_weak_upgrade(rt: HostRuntime) {
 
 #[test]
 fn example_of_weak_is_closed(rt: HostRuntime) {
-    let (tx, rx) = unbounded::<&str, u64, _, _>(&rt, rt.alloc()).expect(&rt, "unbounded");
+    let (tx, rx) = unbounded::<u64, u64, _, _>(&rt, rt.alloc()).expect(&rt, "unbounded");
     let weak = rx.downgrade().expect(&rt, "downgrade");
     expect_true(&rt, !weak.is_closed());
     drop(tx);
@@ -1084,7 +1112,7 @@ fn example_of_weak_is_closed(rt: HostRuntime) {
 
 #[test]
 fn example_of_end_downgrade(rt: HostRuntime) {
-    let (tx, rx) = unbounded::<&str, u64, _, _>(&rt, rt.alloc()).expect(&rt, "unbounded");
+    let (tx, rx) = unbounded::<u64, u64, _, _>(&rt, rt.alloc()).expect(&rt, "unbounded");
     let weak = tx.downgrade().expect(&rt, "downgrade");
     expect_equal(&rt, rx.sender_count(), 1);
     drop(tx);
@@ -1094,29 +1122,29 @@ fn example_of_end_downgrade(rt: HostRuntime) {
 #[test]
 fn example_of_due(rt: HostRuntime) {
     let (tx, rx) = unbounded(&rt, rt.alloc()).expect(&rt, "unbounded");
-    tx.try_send("tea", Reverse(Instant::now(&rt).expect(&rt, "now")))
+    tx.try_send(TEA, Reverse(Instant::now(&rt).expect(&rt, "now")))
         .expect(&rt, "try_send");
     let (ready, _) = rx
         .recv_when_blocking(|_, due| Due::At(due.0))
         .expect(&rt, "recv_when_blocking");
-    expect_equal(&rt, ready, "tea");
+    expect_equal(&rt, ready, TEA);
 }
 
 #[test]
 fn example_of_send_timeout_error(rt: HostRuntime) {
     let (tx, rx) = bounded(&rt, rt.alloc(), 1).expect(&rt, "bounded");
     drop(rx);
-    let refused = tx.send_timeout("Foo", 0, Duration::from_millis(5));
+    let refused = tx.send_timeout(FOO, 0, Duration::from_millis(5));
     expect_true(&rt, refused.is_err_and(|error| error.is_closed()));
     expect_true(
         &rt,
-        refused.is_err_and(|error| error.into_inner() == ("Foo", 0)),
+        refused.is_err_and(|error| error.into_inner() == (FOO, 0)),
     );
 }
 
 #[test]
 fn example_of_recv_timeout_error(rt: HostRuntime) {
-    let (_tx, rx) = bounded::<&str, u64, _, _>(&rt, rt.alloc(), 1).expect(&rt, "bounded");
+    let (_tx, rx) = bounded::<u64, u64, _, _>(&rt, rt.alloc(), 1).expect(&rt, "bounded");
     let refused = rx.recv_timeout(Duration::from_millis(5));
     expect_true(&rt, refused.is_err_and(|error| error.is_timeout()));
 }
