@@ -26,21 +26,16 @@ mod wakers;
 mod watch;
 mod word;
 
-/// What a test asks of its runtime.
-trait Host: Abort
-    + Threads
-    + Wait
-    + Clone
-    + Clock
-    + RandomSource
-    + AllocGlobal
-    + Send
-    + Sync
-    + 'static {}
+/// What a test asks of its runtime that waits. A function asks for no more than it needs, since
+/// each bound makes its proof dearer.
+trait Host: Abort + Wait + RandomSource + AllocGlobal {}
 
-impl<
-    R: Abort + Threads + Wait + Clone + Clock + RandomSource + AllocGlobal + Send + Sync + 'static,
-> Host for R {}
+impl<R: Abort + Wait + RandomSource + AllocGlobal> Host for R {}
+
+/// The same of a test that starts threads.
+trait ThreadHost: Host + Threads + Clock + Clone + Send + Sync {}
+
+impl<R: Host + Threads + Clock + Clone + Send + Sync> ThreadHost for R {}
 
 /// `assert_eq!`, proved once: each one in place takes seconds of the check.
 fn expect_equal<X: PartialEq + Debug + Drop>(rt: &impl Abort, got: X, wanted: X) {

@@ -86,22 +86,26 @@ fn debug_texts_that_are_derived(rt: HostRuntime) {
     expect_debug(&rt, TryRecvError::Closed, "Closed");
 }
 
+const TRY_SEND_ERRORS: [(TrySendError<u64>, bool, bool); 3] = [
+    (TrySendError::Full(1), true, false),
+    (TrySendError::Closed(1), false, true),
+    (TrySendError::Memory(1), false, false),
+];
+
+const TRY_RECV_ERRORS: [(TryRecvError, bool, bool); 2] = [
+    (TryRecvError::Empty, true, false),
+    (TryRecvError::Closed, false, true),
+];
+
 #[test]
 fn errors_tell_their_variant(rt: HostRuntime) {
-    for (error, is_full, is_closed) in [
-        (TrySendError::Full(1), true, false),
-        (TrySendError::Closed(1), false, true),
-        (TrySendError::Memory(1), false, false),
-    ] {
+    for (error, is_full, is_closed) in &TRY_SEND_ERRORS {
         let told = (error.is_full(), error.is_closed());
-        expect_equal_at(&rt, error, told, (is_full, is_closed));
+        expect_equal_at(&rt, *error, told, (*is_full, *is_closed));
     }
-    for (error, is_empty, is_closed) in [
-        (TryRecvError::Empty, true, false),
-        (TryRecvError::Closed, false, true),
-    ] {
+    for (error, is_empty, is_closed) in &TRY_RECV_ERRORS {
         let told = (error.is_empty(), error.is_closed());
-        expect_equal_at(&rt, error, told, (is_empty, is_closed));
+        expect_equal_at(&rt, *error, told, (*is_empty, *is_closed));
     }
 }
 
@@ -115,29 +119,29 @@ fn expect_all_differ<X: PartialEq + Clone + Debug + Drop>(rt: &impl Abort, error
     }
 }
 
+const CLOSED_SENDS: [SendError<u64>; 2] = [SendError(1), SendError(2)];
+
+const TRIED_SENDS: [TrySendError<u64>; 6] = [
+    TrySendError::Full(1),
+    TrySendError::Full(2),
+    TrySendError::Closed(1),
+    TrySendError::Closed(2),
+    TrySendError::Memory(1),
+    TrySendError::Memory(2),
+];
+
+const WAITED_SENDS: [SendFault<u64>; 4] = [
+    SendFault::Memory(1),
+    SendFault::Memory(2),
+    SendFault::Closed(SendError(1)),
+    SendFault::Closed(SendError(2)),
+];
+
 #[test]
 fn errors_are_equal_where_variant_and_content_are(rt: HostRuntime) {
-    expect_all_differ(&rt, &[SendError(1), SendError(2)]);
-    expect_all_differ(
-        &rt,
-        &[
-            TrySendError::Full(1),
-            TrySendError::Full(2),
-            TrySendError::Closed(1),
-            TrySendError::Closed(2),
-            TrySendError::Memory(1),
-            TrySendError::Memory(2),
-        ],
-    );
-    expect_all_differ(
-        &rt,
-        &[
-            SendFault::Memory(1),
-            SendFault::Memory(2),
-            SendFault::Closed(SendError(1)),
-            SendFault::Closed(SendError(2)),
-        ],
-    );
+    expect_all_differ(&rt, &CLOSED_SENDS);
+    expect_all_differ(&rt, &TRIED_SENDS);
+    expect_all_differ(&rt, &WAITED_SENDS);
     expect_all_differ(&rt, &[RecvError]);
     expect_all_differ(&rt, &[TryRecvError::Empty, TryRecvError::Closed]);
     expect_all_differ(&rt, &[RecvFault::Closed(RecvError), RecvFault::Memory]);

@@ -84,7 +84,7 @@ const POPS: [(u64, u64); 5] = [(1, 2), (2, 4), (3, 4), (4, 6), (MANY, 22)];
 
 // The binary digits of a length, as many as its halvings to nothing.
 fn digits_of(length: u64) -> u64 {
-    64 - length.leading_zeros() as u64
+    64u64.wrapping_sub(length.leading_zeros() as u64)
 }
 
 fn most_of_push(length: u64) -> u64 {

@@ -1,12 +1,13 @@
 //! How often a bulk send calls its iterator, on the core and on handles.
+use super::expect_equal_at;
 use super::word::unwoken;
-use super::{Host, expect_equal_at};
-use async_priority_channel::{Sender, TrySendError, bounded};
+use async_priority_channel::{TrySendError, bounded};
 use priority_channel_core::channel::PriorityQueueChannel;
+use std::alloc::Allocator;
 use std::cell::Cell;
 use std::iter::Peekable;
-
-type Core = PriorityQueueChannel<u64, u64, u64>;
+use std::process::Abort;
+use std::sync::Wait;
 
 /// How often `next` was called, and whether the last call gave None.
 type Calls = (u64, bool);
@@ -67,9 +68,13 @@ fn tell(sent: Result<(), TrySendError<Pairs<'_>>>) -> Told {
 
 // Sends so many pairs on a core and by a handle, each with room for two. None closes both. The
 // calls are those before the rest is walked.
-fn expect_both<R: Host>(rt: &R, sends: &[Option<(u64, Told, Calls)>]) {
-    let mut core = Core::bounded(rt.alloc(), 2);
-    let (tx, _rx) = bounded(rt, rt.alloc(), 2).expect(rt, "a channel");
+fn expect_both<R: Abort + Wait + Clone, A: Allocator + Copy>(
+    rt: &R,
+    alloc: A,
+    sends: &[Option<(u64, Told, Calls)>],
+) {
+    let mut core: PriorityQueueChannel<u64, u64, u64, A> = PriorityQueueChannel::bounded(alloc, 2);
+    let (tx, _rx) = bounded(rt, alloc, 2).expect(rt, "a channel");
     let calls = Cell::new((0, false));
     for send in sends {
         let Some((count, told, made)) = *send else {
@@ -89,10 +94,11 @@ fn expect_both<R: Host>(rt: &R, sends: &[Option<(u64, Told, Calls)>]) {
 #[test]
 fn how_often_a_bulk_send_calls_its_iterator(rt: HostRuntime) {
     // a bulk send takes no more than there is room for
-    expect_both(&rt, &[Some((5, ("Full", 3), (3, false)))]);
+    expect_both(&rt, rt.alloc(), &[Some((5, ("Full", 3), (3, false)))]);
     // a refused bulk send does not touch its iterator
     expect_both(
         &rt,
+        rt.alloc(),
         &[
             Some((2, ("Ok", 0), (3, true))),
             Some((5, ("Full", 5), (0, false))),
@@ -101,5 +107,5 @@ fn how_often_a_bulk_send_calls_its_iterator(rt: HostRuntime) {
         ],
     );
     // a bulk send that fits asks once more
-    expect_both(&rt, &[Some((2, ("Ok", 0), (3, true)))]);
+    expect_both(&rt, rt.alloc(), &[Some((2, ("Ok", 0), (3, true)))]);
 }

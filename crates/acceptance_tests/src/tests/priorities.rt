@@ -1,86 +1,102 @@
 //! Priorities of other types, on handles at once, by futures, and on the core.
 use super::word::unwoken;
-use super::{Host, expect_equal, expect_true, wait_for};
+use super::{Host, expect_equal, wait_for};
 use async_priority_channel::{Receiver, Sender, unbounded};
 use priority_channel_core::channel::PriorityQueueChannel;
+use std::alloc::Allocator;
 use std::cmp::Reverse;
 use std::fmt::Debug;
+use std::process::Abort;
+use std::sync::Wait;
 
-type Core<T, P> = PriorityQueueChannel<T, P, u64>;
+type Core<T, P, A> = PriorityQueueChannel<T, P, u64, A>;
 
 // Sends these pairs, and receives as many, on the core and by handles.
-fn expect_order<R, T, P>(rt: &R, pairs: &[(T, P)], wanted: &[T])
+fn expect_order<R, T, P, A>(rt: &R, alloc: A, pairs: &[(T, P)], wanted: &[T])
 where
-    R: Host,
+    R: Host + Clone,
     T: Copy + PartialEq + Debug + Drop,
-    P: Copy + Ord + Debug + Drop,
+    P: Copy + Ord + Drop,
+    A: Allocator + Copy,
 {
-    let mut core: Core<T, P> = Core::unbounded(rt.alloc());
+    expect_order_on_core(rt, Core::unbounded(alloc), pairs, wanted);
+    let (tx, rx) = unbounded(rt, alloc).expect(rt, "a channel");
+    expect_order_at_once(rt, (&tx, &rx), pairs, wanted);
+    let (tx, rx) = unbounded(rt, alloc).expect(rt, "a channel");
+    expect_order_by_futures(rt, (&tx, &rx), pairs, wanted);
+}
+
+fn expect_order_on_core<T, P, A>(
+    rt: &impl Abort,
+    mut core: Core<T, P, A>,
+    pairs: &[(T, P)],
+    wanted: &[T],
+)
+where
+    T: Copy + PartialEq + Debug + Drop,
+    P: Copy + Ord + Drop,
+    A: Allocator + Copy,
+{
     for (msg, priority) in pairs {
         expect_equal(rt, unwoken(rt, core.try_send(*msg, *priority)), Ok(()));
     }
     for msg in wanted {
-        let came = unwoken(rt, core.try_recv()).ok();
-        expect_equal(rt, came.map(|pair| pair.0), Some(*msg));
-    }
-    for by_futures in [false, true] {
-        expect_order_on_handles(rt, pairs, wanted, by_futures);
+        let (came, _) = unwoken(rt, core.try_recv()).ok().expect(rt, "a message");
+        expect_equal(rt, came, *msg);
     }
 }
 
-fn expect_order_on_handles<R, T, P>(rt: &R, pairs: &[(T, P)], wanted: &[T], by_futures: bool)
+fn expect_order_at_once<R, T, P, A>(
+    rt: &R,
+    (tx, rx): (&Sender<T, P, R, A>, &Receiver<T, P, R, A>),
+    pairs: &[(T, P)],
+    wanted: &[T],
+)
 where
-    R: Host,
+    R: Abort + Wait + Clone,
     T: Copy + PartialEq + Debug + Drop,
-    P: Copy + Ord + Debug + Drop,
+    P: Copy + Ord + Drop,
+    A: Allocator + Copy,
 {
-    let (tx, rx) = unbounded(rt, rt.alloc()).expect(rt, "a channel");
     for (msg, priority) in pairs {
-        send(rt, &tx, *msg, *priority, by_futures);
+        expect_equal(rt, tx.try_send(*msg, *priority), Ok(()));
     }
     for msg in wanted {
-        expect_equal(rt, receive(rt, &rx, by_futures), Some(*msg));
+        let (came, _) = rx.try_recv().ok().expect(rt, "a message");
+        expect_equal(rt, came, *msg);
     }
 }
 
-fn send<R: Host, T: Drop, P: Ord + Drop>(
+fn expect_order_by_futures<R, T, P, A>(
     rt: &R,
-    tx: &Sender<T, P, R>,
-    msg: T,
-    priority: P,
-    by_futures: bool,
-) {
-    let is_sent = if by_futures {
-        wait_for(rt, tx.send(msg, priority)).is_ok()
-    } else {
-        tx.try_send(msg, priority).is_ok()
-    };
-    expect_true(rt, is_sent, "a send");
-}
-
-fn receive<R: Host, T: Drop, P: Ord + Drop>(
-    rt: &R,
-    rx: &Receiver<T, P, R>,
-    by_futures: bool,
-) -> Option<T> {
-    let received = if by_futures {
-        wait_for(rt, rx.recv()).ok()
-    } else {
-        rx.try_recv().ok()
-    };
-    let (msg, _) = received?;
-    Some(msg)
+    (tx, rx): (&Sender<T, P, R, A>, &Receiver<T, P, R, A>),
+    pairs: &[(T, P)],
+    wanted: &[T],
+)
+where
+    R: Host + Clone,
+    T: Copy + PartialEq + Debug + Drop,
+    P: Copy + Ord + Drop,
+    A: Allocator + Copy,
+{
+    for (msg, priority) in pairs {
+        expect_equal(rt, wait_for(rt, tx.send(*msg, *priority)), Ok(()));
+    }
+    for msg in wanted {
+        let (came, _) = wait_for(rt, rx.recv()).ok().expect(rt, "a message");
+        expect_equal(rt, came, *msg);
+    }
 }
 
 #[test]
 fn priorities_of_other_types(rt: HostRuntime) {
     // reversed priorities
     let pairs = [(1, Reverse(1)), (3, Reverse(3)), (2, Reverse(2))];
-    expect_order(&rt, &pairs, &[1, 2, 3]);
+    expect_order(&rt, rt.alloc(), &pairs, &[1, 2, 3]);
     // priorities that are pairs
     let pairs = [("a", (1, "x")), ("b", (1, "y")), ("c", (0, "z"))];
-    expect_order(&rt, &pairs, &["b", "a", "c"]);
+    expect_order(&rt, rt.alloc(), &pairs, &["b", "a", "c"]);
     // priorities that are all equal
     let pairs = [(1, ()), (2, ()), (3, ())];
-    expect_order(&rt, &pairs, &[1, 2, 3]);
+    expect_order(&rt, rt.alloc(), &pairs, &[1, 2, 3]);
 }

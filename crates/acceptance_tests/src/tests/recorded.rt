@@ -9,13 +9,15 @@ ghost use Rattle.priority_channel_recorded.specs.chronicle.Log.{names};
 ghost use Rattle.priority_channel_recorded.specs.Passes.{IsTold};
 
 use super::watch::within;
-use super::{Host, expect_equal};
+use super::{ThreadHost, expect_equal};
 use async_priority_channel::recorded::{
     Call, Entry, Fresh, History, NoPlace, Pass, Recorded, Recording, Reply,
 };
 use refusing::Refusing;
-use std::alloc::{AllocError, Allocator, Global};
+use std::alloc::{AllocError, AllocGlobal, Allocator, Global};
 use std::marker::Brand;
+use std::process::Abort;
+use std::sync::Wait;
 use steps::play;
 pub use steps::{Step, expect_book, expect_history};
 use threads::{Work, call_on_threads};
@@ -54,12 +56,37 @@ struct Kept {
     refused: u64,
 }
 
+impl Kept {
+    fn new<R: AllocGlobal>(rt: &R) -> Self {
+        Kept {
+            made: Vec::new(rt.alloc()),
+            refused: 0,
+        }
+    }
+
+    fn keep(
+        &mut self,
+        rt: &impl Abort,
+        who: u64,
+        call: Call<u64, u64>,
+        told: Result<Reply<u64, u64>, NoPlace>,
+    ) {
+        match told {
+            Ok(reply) => self
+                .made
+                .push(Entry { who, call, reply })
+                .expect(rt, "memory"),
+            Err(NoPlace) => self.refused = self.refused.wrapping_add(1),
+        }
+    }
+}
+
 /// What a scene left, and how many calls were refused their entry.
 type Told<A> = (History<u64, u64, A>, u64);
 
 // Plays a scene on a recorder for so many pairs, entries and passes. The entries under each number
 // are what its caller kept. The error is that memory was refused for the recorder.
-fn record<R: Host, A: Allocator + Copy + Send + Sync>(
+fn record<R: ThreadHost, A: Allocator + Copy + Send + Sync>(
     rt: &R,
     memory: Memory<'_, A>,
     scene: Scene<'_>,
@@ -74,7 +101,7 @@ fn record<R: Host, A: Allocator + Copy + Send + Sync>(
     record_as::<Brand, R, A>(rt, memory, scene, Fresh::new(cap, passes), sizes)
 }
 
-fn record_as<J: Recording + Send + Sync, R: Host, A: Allocator + Copy + Send + Sync>(
+fn record_as<J: Recording + Send + Sync, R: ThreadHost, A: Allocator + Copy + Send + Sync>(
     rt: &R,
     memory: Memory<'_, A>,
     scene: Scene<'_>,
@@ -90,10 +117,7 @@ fn record_as<J: Recording + Send + Sync, R: Host, A: Allocator + Copy + Send + S
     let ((memory, alloc), (cap, entries, count)) = (memory, sizes);
     let made = Recorder::<J, A>::new(alloc, fresh, cap, entries, count);
     let (recorder, mut passes) = made?;
-    let mut kept = Kept {
-        made: Vec::new(rt.alloc()),
-        refused: 0,
-    };
+    let mut kept = Kept::new(rt);
     within(
         rt,
         "the end of a scene",
@@ -115,7 +139,7 @@ fn record_as<J: Recording + Send + Sync, R: Host, A: Allocator + Copy + Send + S
 }
 
 // Gives the passes back that it takes.
-fn act<J: Recording + Send + Sync, R: Host, A: Allocator + Copy + Send + Sync>(
+fn act<J: Recording + Send + Sync, R: ThreadHost, A: Allocator + Copy + Send + Sync>(
     rt: &R,
     (memory, alloc): Memory<'_, A>,
     scene: Scene<'_>,
@@ -131,7 +155,7 @@ fn act<J: Recording + Send + Sync, R: Host, A: Allocator + Copy + Send + Sync>(
 }
 
 // Makes a call, and keeps what came of it. After a refusal the pass has seen what it had seen.
-fn call_and_keep<J: Recording, R: Host, A: Allocator + Copy>(
+fn call_and_keep<J: Recording, R: Abort + Wait, A: Allocator + Copy>(
     rt: &R,
     recorder: &Recorder<J, A>,
     pass: &mut Caller<J>,
@@ -142,20 +166,13 @@ fn call_and_keep<J: Recording, R: Host, A: Allocator + Copy>(
         (entry pass.old.number call reply) pass.new) }
     ensures refused { OnErr result (pass.new ≡ pass.old) }
 {
-    let who = pass.number();
     let told = recorder.call(rt, pass, call);
-    match told {
-        Ok(reply) => kept
-            .made
-            .push(Entry { who, call, reply })
-            .expect(rt, "memory"),
-        Err(NoPlace) => kept.refused = kept.refused.wrapping_add(1),
-    }
+    kept.keep(rt, pass.number(), call, told);
     told
 }
 
 // What the callers kept are all entries, and those of each caller stand in its order.
-fn expect_kept<R: Host>(rt: &R, passes: usize, made: &[Made], entries: &[Made]) {
+fn expect_kept<R: Abort + AllocGlobal>(rt: &R, passes: usize, made: &[Made], entries: &[Made]) {
     expect_equal(rt, entries.len(), made.len());
     for who in 0..passes as u64 {
         expect_equal(rt, under(rt, entries, who), under(rt, made, who));
@@ -163,7 +180,12 @@ fn expect_kept<R: Host>(rt: &R, passes: usize, made: &[Made], entries: &[Made]) 
 }
 
 // Those under one number, in their order.
-fn under<R: Host>(rt: &R, entries: &[Made], who: u64) -> Vec<Made> {
-    let own = entries.iter().copied().filter(|entry| entry.who == who);
-    own.collect(rt.alloc()).expect(rt, "memory")
+fn under<R: Abort + AllocGlobal>(rt: &R, entries: &[Made], who: u64) -> Vec<Made> {
+    let mut own = Vec::new(rt.alloc());
+    for entry in entries {
+        if entry.who == who {
+            own.push(*entry).expect(rt, "memory");
+        }
+    }
+    own
 }

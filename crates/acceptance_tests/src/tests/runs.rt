@@ -1,6 +1,8 @@
 //! A run makes its calls in order, and stops before the one for whose reply there is no memory.
 ghost use Rattle.std.specs.Prelude.{◌≡◌, ◌++◌, ◌∷◌, []};
 
+use super::script::told;
+use super::word::unwoken;
 use super::{expect_equal, expect_equal_at, expect_true};
 use priority_channel_core::channel::{Answer, Call, CorePoll, PriorityQueueChannel, Ran, Response};
 use priority_channel_core::errors::TrySendError;
@@ -16,9 +18,7 @@ type Pairs = Peekable<IntoIter<Pair>>;
 
 type Core<A> = PriorityQueueChannel<u64, u64, u64, A>;
 
-type Made = Call<u64, u64, u64, Pairs>;
-
-type Calls<A> = Vec<Made, A>;
+type Calls<A> = Vec<Call<u64, u64, u64, Pairs>, A>;
 
 type Done<A> = Vec<Response<u64, u64, u64, Pairs, A>, A>;
 
@@ -31,8 +31,9 @@ fn bulk<R: Abort + AllocGlobal>(rt: &R, pairs: &[Pair]) -> Pairs {
     msgs.into_iter().peekable()
 }
 
-// Calls are listed by this, since an array of them, as `vec!` makes one, is dear to prove.
-fn add<A: Allocator>(rt: &impl Abort, calls: &mut Calls<A>, call: Made)
+// Calls are listed by this, since an array of them, as `vec!` makes one, is dear to prove. It does
+// not name their type for the same reason.
+fn add<T, A: Allocator>(rt: &impl Abort, calls: &mut Vec<T, A>, call: T)
     ensures { calls.new.items ≡ calls.old.items ++ call ∷ [] }
 {
     calls.push(call).expect(rt, "memory");
@@ -40,11 +41,15 @@ fn add<A: Allocator>(rt: &impl Abort, calls: &mut Calls<A>, call: Made)
 
 // An answer as text, with the pairs that came back of a bulk send.
 fn said<R: Abort + AllocGlobal>(rt: &R, answer: &mut Answer<u64, u64, Pairs>) -> String {
-    if let Answer::TrySendv(Err(TrySendError::Full(rest))) = answer {
-        let rest: Vec<Pair> = rest.collect(rt.alloc()).expect(rt, "memory");
-        return format!(in rt.alloc(); "TrySendv(Err(Full({rest:?})))").expect(rt, "memory");
+    match answer {
+        Answer::TrySendv(Err(TrySendError::Full(rest))) => said_rest(rt, rest),
+        answer => told(rt, &*answer),
     }
-    format!(in rt.alloc(); "{answer:?}").expect(rt, "memory")
+}
+
+fn said_rest<R: Abort + AllocGlobal>(rt: &R, rest: &mut Pairs) -> String {
+    let rest: Vec<Pair> = rest.collect(rt.alloc()).expect(rt, "memory");
+    format!(in rt.alloc(); "TrySendv(Err(Full({rest:?})))").expect(rt, "memory")
 }
 
 // Of the calls behind so many, as far as they were made. Nobody is handed out, and the pairs that
@@ -76,7 +81,7 @@ fn expect_nobody<A: Allocator>(rt: &impl Abort, response: &Response<u64, u64, u6
 fn run_four<R: Abort + AllocGlobal, A: Allocator + Copy>(rt: &R, alloc: A) -> Core<A> {
     let made: Result<Core<A>, AllocError> = Core::bounded_reserved(alloc, 2);
     let mut core = made.expect(rt, "a channel");
-    let mut calls = Vec::new(alloc);
+    let mut calls: Calls<A> = Vec::new(alloc);
     add(rt, &mut calls, Call::TrySend(1, 5));
     add(rt, &mut calls, Call::TryRecv);
     add(rt, &mut calls, Call::TryRecv);
@@ -129,7 +134,7 @@ fn run_eight<R: Abort + AllocGlobal, A: Allocator + Copy>(
     n: u64,
     goes_on: bool,
 ) -> Option<usize> {
-    let mut calls = Vec::new(alloc);
+    let mut calls: Calls<A> = Vec::new(alloc);
     add(
         rt,
         &mut calls,
@@ -165,9 +170,9 @@ fn run_eight<R: Abort + AllocGlobal, A: Allocator + Copy>(
 
 fn receive_all<A: Allocator + Copy>(rt: &impl Abort, core: &mut Core<A>, came: &mut Vec<Pair>) {
     for _ in 0..core.len() {
-        let (received, wakes) = core.try_recv();
-        let (_room, _message) = wakes.into_lists();
-        let pair = received.ok().expect(rt, "one that is pending");
+        let pair = unwoken(rt, core.try_recv())
+            .ok()
+            .expect(rt, "one that is pending");
         came.push(pair).expect(rt, "memory");
     }
 }
@@ -233,7 +238,7 @@ const EACH: [&str; 19] = [
 ];
 
 fn run_each<R: Abort + AllocGlobal, A: Allocator + Copy>(rt: &R, alloc: A) {
-    let mut calls = Vec::new(alloc);
+    let mut calls: Calls<A> = Vec::new(alloc);
     add(rt, &mut calls, Call::TrySend(7, 1));
     add(rt, &mut calls, Call::TrySendv(bulk(rt, &[])));
     add(rt, &mut calls, Call::TryRecv);

@@ -31,6 +31,7 @@ mod states;
 mod words;
 
 use answers::text;
+pub use answers::told;
 use asking::Asking;
 use on_core::CoreStage;
 use on_handles::{HandleStage, Way};
@@ -47,19 +48,14 @@ pub enum Ground {
 
 #[derive(Drop)]
 enum Stage<'a, W: Wait + Clone, A: Allocator + Copy> {
-    Core(CoreStage<'a>),
+    Core(CoreStage<A>),
     Handles(HandleStage<'a, W, A>),
 }
 
 impl<'a, W: Wait + Clone, A: Allocator + Copy> Stage<'a, W, A> {
-    fn new<R: Host>(
-        rt: &R,
-        memory: &'a Refusing<Global>,
-        (permission, alloc): (&'a W, A),
-        ground: Ground,
-    ) -> Self {
+    fn new<R: Host>(rt: &R, (permission, alloc): (&'a W, A), ground: Ground) -> Self {
         let way = match ground {
-            Ground::Core => return Stage::Core(CoreStage::new(rt, memory)),
+            Ground::Core => return Stage::Core(CoreStage::new(rt, alloc)),
             Ground::Handles => Way::AtOnce,
             Ground::Futures => Way::AsFuture,
         };
@@ -155,7 +151,7 @@ fn play_example<R: Host, W: Wait + Clone, A: Allocator + Copy>(
     ground: Ground,
     example: (Text, Text),
 ) {
-    Stage::new(rt, memory, handles_of, ground).play(rt, memory, example, false);
+    Stage::new(rt, handles_of, ground).play(rt, memory, example, false);
 }
 
 /// Plays one example again and again, each time with another request for memory refused, until none
@@ -188,7 +184,7 @@ fn play_refusal<R: Host, W: Wait + Clone, A: Allocator + Copy>(
     example: (Text, Text),
     n: u64,
 ) {
-    let mut stage = Stage::new(rt, memory, handles_of, ground);
+    let mut stage = Stage::new(rt, handles_of, ground);
     memory.refuse_nth(n);
     let was_refused = stage.play(rt, memory, example, true);
     let met_none = memory.refuse_none();

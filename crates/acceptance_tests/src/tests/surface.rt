@@ -16,27 +16,32 @@ use priority_channel_core::errors::{
     RecvError, RecvFault, SendError, SendFault, TryRecvError, TrySendError,
 };
 use priority_channel_core::item::Item;
-use std::alloc::AllocError;
+use std::alloc::{AllocError, Allocator};
 use std::cmp::Ordering;
+use std::process::Abort;
 use std::vec::IntoIter;
 
-type Word = AwaitableAtomicCounterAndBit<u64>;
+type Word<A> = AwaitableAtomicCounterAndBit<u64, A>;
+
+fn expect_word<A: Allocator + Copy>(rt: &impl Abort, alloc: A) {
+    let mut word = Word::new(alloc, 1);
+    expect_equal(rt, word.load(), (false, 1));
+    expect_equal(rt, word.listen_incr(None, &7), Some(0));
+    expect_equal(rt, word.listen_decr(None, &8), Some(1));
+    expect_equal(rt, word.listen_decr(None, &9), Some(2));
+    word.unlisten(2);
+    let (before, wakes) = word.incr(1);
+    expect_equal(rt, before, (false, 1));
+    expect_handed(rt, wakes, &[], &[(0, 7)]);
+    let (before, wakes) = word.decr();
+    expect_equal(rt, before, (false, 2));
+    expect_handed(rt, wakes, &[(1, 8)], &[]);
+    expect_equal(rt, unwoken(rt, word.set_bit()), false);
+}
 
 #[test]
 fn awaitable_atomics_has_its_items(rt: HostRuntime) {
-    let mut word = Word::new(rt.alloc(), 1);
-    expect_equal(&rt, word.load(), (false, 1));
-    expect_equal(&rt, word.listen_incr(None, &7), Some(0));
-    expect_equal(&rt, word.listen_decr(None, &8), Some(1));
-    expect_equal(&rt, word.listen_decr(None, &9), Some(2));
-    word.unlisten(2);
-    let (before, wakes) = word.incr(1);
-    expect_equal(&rt, before, (false, 1));
-    expect_handed(&rt, wakes, &[], &[(0, 7)]);
-    let (before, wakes) = word.decr();
-    expect_equal(&rt, before, (false, 2));
-    expect_handed(&rt, wakes, &[(1, 8)], &[]);
-    expect_equal(&rt, unwoken(&rt, word.set_bit()), false);
+    expect_word(&rt, rt.alloc());
 }
 
 // It has a number besides, which tells equal priorities apart.
@@ -48,18 +53,22 @@ fn item(priority: u64) -> Item<char, u64> {
     }
 }
 
+fn expect_bag<A: Allocator + Copy>(rt: &impl Abort, alloc: A) {
+    let made: Result<Bag<u64, u64, A>, AllocError> = Bag::reserved(alloc, 1);
+    expect_equal(rt, made.expect(rt, "a bag").len(), 0);
+    let mut bag: Bag<u64, u64, A> = Bag::new(alloc);
+    bag.make_place().expect(rt, "memory");
+    bag.push(7, 1);
+    expect_equal(rt, (bag.len(), bag.can_push()), (1, true));
+    expect_equal(rt, bag.pop(), Some((7, 1)));
+}
+
 #[test]
 fn item_and_bag_have_their_items(rt: HostRuntime) {
     expect_true(&rt, item(1) == item(1), "they are equal");
     expect_equal(&rt, item(1).cmp(&item(2)), Ordering::Less);
     expect_equal(&rt, item(1).partial_cmp(&item(0)), Some(Ordering::Greater));
-    let made: Result<Bag<u64, u64>, AllocError> = Bag::reserved(rt.alloc(), 1);
-    expect_equal(&rt, made.expect(&rt, "a bag").len(), 0);
-    let mut bag: Bag<u64, u64> = Bag::new(rt.alloc());
-    bag.make_place().expect(&rt, "memory");
-    bag.push(7, 1);
-    expect_equal(&rt, (bag.len(), bag.can_push()), (1, true));
-    expect_equal(&rt, bag.pop(), Some((7, 1)));
+    expect_bag(&rt, rt.alloc());
 }
 
 #[test]

@@ -1,14 +1,23 @@
 //! Handles on many threads.
 use super::watch::{arrive, within};
-use super::{Host, expect_equal, expect_equal_at, expect_true, wait_for};
+use super::{Host, ThreadHost, expect_equal, expect_equal_at, expect_true, wait_for};
 use async_priority_channel::{Ends, Receiver, RecvError, RecvFault, Sender, bounded, unbounded};
+use std::alloc::Allocator;
+use std::process::Abort;
+use std::sync::Wait;
 use std::sync::atomic::AtomicUsize;
 use std::thread;
 use std::time::Duration;
 
+type Tx<R, A> = Sender<u64, u64, R, A>;
+
+type Rx<R, A> = Receiver<u64, u64, R, A>;
+
 // Each of ten threads has a receiver.
-fn close_ten_receivers<R: Host>(rt: &R) {
-    let (tx, rx) = bounded::<u64, u64, _, _>(rt, rt.alloc(), 10).expect(rt, "a channel");
+fn close_ten_receivers<R: ThreadHost, A: Allocator + Copy + Send + Sync>(
+    rt: &R,
+    (tx, rx): Ends<u64, u64, R, A>,
+) {
     let (answers, was_open) = thread::join(
         rt,
         || thread::map_indices(rt, rt.alloc(), 10, &|_| receive_once(rt, &rx)),
@@ -26,18 +35,26 @@ fn close_ten_receivers<R: Host>(rt: &R) {
     }
 }
 
-fn receive_once<R: Host>(rt: &R, rx: &Receiver<u64, u64, R>) -> Result<(u64, u64), RecvFault> {
+fn receive_once<R: Host + Clone, A: Allocator + Copy>(
+    rt: &R,
+    rx: &Rx<R, A>,
+) -> Result<(u64, u64), RecvFault> {
     let own = rx.clone().expect(rt, "a receiver");
     wait_for(rt, own.recv())
 }
 
 #[test]
 fn a_close_ends_ten_receiving_threads(rt: HostRuntime) {
-    within(&rt, "ten receives", || close_ten_receivers(&rt));
+    let ends = bounded(&rt, rt.alloc(), 10).expect(&rt, "a channel");
+    within(&rt, "ten receives", || close_ten_receivers(&rt, ends));
 }
 
 // Gives no numbers, as one that receives does.
-fn send_numbers<R: Host>(rt: &R, tx: &Sender<u64, u64, R>, (first, count): (u64, u64)) -> Vec<u64> {
+fn send_numbers<R: Host + Clone, A: Allocator + Copy>(
+    rt: &R,
+    tx: &Tx<R, A>,
+    (first, count): (u64, u64),
+) -> Vec<u64> {
     let own = tx.clone().expect(rt, "a sender");
     for i in 0..count {
         let number = first.wrapping_add(i);
@@ -47,7 +64,11 @@ fn send_numbers<R: Host>(rt: &R, tx: &Sender<u64, u64, R>, (first, count): (u64,
     Vec::new(rt.alloc())
 }
 
-fn receive_numbers<R: Host>(rt: &R, rx: &Receiver<u64, u64, R>, count: u64) -> Vec<u64> {
+fn receive_numbers<R: Host + Clone, A: Allocator + Copy>(
+    rt: &R,
+    rx: &Rx<R, A>,
+    count: u64,
+) -> Vec<u64> {
     let own = rx.clone().expect(rt, "a receiver");
     let mut numbers = Vec::new(rt.alloc());
     for _ in 0..count {
@@ -62,7 +83,12 @@ fn receive_numbers<R: Host>(rt: &R, rx: &Receiver<u64, u64, R>, count: u64) -> V
 type Crew = (usize, u64);
 
 // Each number comes once.
-fn exchange<R: Host>(rt: &R, ends: Ends<u64, u64, R>, senders: Crew, receivers: Crew) {
+fn exchange<R: ThreadHost, A: Allocator + Copy + Send + Sync>(
+    rt: &R,
+    ends: Ends<u64, u64, R, A>,
+    senders: Crew,
+    receivers: Crew,
+) {
     let (tx, rx) = ends;
     let ((senders, sent), (receivers, received)) = (senders, receivers);
     let take_part = |thread: usize| {
@@ -86,7 +112,7 @@ fn exchange<R: Host>(rt: &R, ends: Ends<u64, u64, R>, senders: Crew, receivers: 
 }
 
 // On a channel with no limit, and on one for ten.
-fn exchange_on_both<R: Host>(rt: &R, senders: Crew, receivers: Crew) {
+fn exchange_on_both<R: ThreadHost>(rt: &R, senders: Crew, receivers: Crew) {
     let ends = unbounded(rt, rt.alloc()).expect(rt, "a channel");
     let go = || exchange(rt, ends, senders, receivers);
     within(rt, "an exchange without a limit", go);
@@ -112,14 +138,20 @@ fn one_sender_and_ten_receivers(rt: HostRuntime) {
 
 const CLOSES: usize = 16;
 
-fn close_by_own<R: Host>(rt: &R, tx: &Sender<u64, u64, R>, arrived: &AtomicUsize) -> bool {
+fn close_by_own<R: Abort + Wait + Clone, A: Allocator + Copy>(
+    rt: &R,
+    tx: &Tx<R, A>,
+    arrived: &AtomicUsize,
+) -> bool {
     let own = tx.clone().expect(rt, "a sender");
     arrive(arrived, CLOSES);
     own.close()
 }
 
-fn close_by_sixteen<R: Host>(rt: &R) {
-    let (tx, rx) = bounded::<u64, u64, _, _>(rt, rt.alloc(), 1).expect(rt, "a channel");
+fn close_by_sixteen<R: ThreadHost, A: Allocator + Copy + Send + Sync>(
+    rt: &R,
+    (tx, rx): Ends<u64, u64, R, A>,
+) {
     let arrived = AtomicUsize::new(0);
     let closes = thread::map_indices(rt, rt.alloc(), CLOSES, &|_| close_by_own(rt, &tx, &arrived));
     let closes = closes.expect(rt, "memory");
@@ -129,7 +161,8 @@ fn close_by_sixteen<R: Host>(rt: &R) {
 
 #[test]
 fn sixteen_threads_close_one_channel(rt: HostRuntime) {
-    within(&rt, "sixteen closes", || close_by_sixteen(&rt));
+    let ends = bounded(&rt, rt.alloc(), 1).expect(&rt, "a channel");
+    within(&rt, "sixteen closes", || close_by_sixteen(&rt, ends));
 }
 
 const NUMBERS: u64 = 10;
@@ -137,7 +170,12 @@ const NUMBERS: u64 = 10;
 // How many tries one of the two sides makes at most.
 const TRIES: u64 = 10_000_000;
 
-fn send<R: Host>(rt: &R, tx: &Sender<u64, u64, R>, number: u64, tries: &mut u64) {
+fn send<R: Abort + Wait + Clone, A: Allocator + Copy>(
+    rt: &R,
+    tx: &Tx<R, A>,
+    number: u64,
+    tries: &mut u64,
+) {
     for _ in *tries..TRIES {
         *tries = tries.wrapping_add(1);
         if tx.try_send(number, number).is_ok() {
@@ -148,7 +186,11 @@ fn send<R: Host>(rt: &R, tx: &Sender<u64, u64, R>, number: u64, tries: &mut u64)
     panic!(rt; "{TRIES} tries, the last to send {number}");
 }
 
-fn receive<R: Host>(rt: &R, rx: &Receiver<u64, u64, R>, tries: &mut u64) -> u64 {
+fn receive<R: Abort + Wait + Clone, A: Allocator + Copy>(
+    rt: &R,
+    rx: &Rx<R, A>,
+    tries: &mut u64,
+) -> u64 {
     for _ in *tries..TRIES {
         *tries = tries.wrapping_add(1);
         if let Ok((number, _)) = rx.try_recv() {
@@ -160,7 +202,7 @@ fn receive<R: Host>(rt: &R, rx: &Receiver<u64, u64, R>, tries: &mut u64) -> u64 
 }
 
 // Sends each number once the one before has come back.
-fn ping<R: Host>(rt: &R, tx: &Sender<u64, u64, R>, rx: &Receiver<u64, u64, R>) {
+fn ping<R: Abort + Wait + Clone, A: Allocator + Copy>(rt: &R, tx: &Tx<R, A>, rx: &Rx<R, A>) {
     let mut tries = 0;
     for i in 1..=NUMBERS {
         send(rt, tx, i, &mut tries);
@@ -169,7 +211,7 @@ fn ping<R: Host>(rt: &R, tx: &Sender<u64, u64, R>, rx: &Receiver<u64, u64, R>) {
 }
 
 // Sends back what it receives.
-fn pong<R: Host>(rt: &R, tx: &Sender<u64, u64, R>, rx: &Receiver<u64, u64, R>) {
+fn pong<R: Abort + Wait + Clone, A: Allocator + Copy>(rt: &R, tx: &Tx<R, A>, rx: &Rx<R, A>) {
     let mut tries = 0;
     for _ in 0..NUMBERS {
         let number = receive(rt, rx, &mut tries);

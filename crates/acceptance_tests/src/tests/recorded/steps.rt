@@ -5,11 +5,13 @@ ghost use Rattle.priority_channel_recorded.specs.History.{entry};
 ghost use Rattle.priority_channel_recorded.specs.Passes.{IsTold};
 
 use super::{Caller, Kept, Made, Passes, Recorder, Scene, call_and_keep, record};
-use crate::tests::{Host, expect_equal};
+use crate::tests::{ThreadHost, expect_equal};
 use async_priority_channel::TrySendError;
 use async_priority_channel::recorded::{Book, Call, Entry, NoPlace, Recording, Reply};
 use refusing::Refusing;
-use std::alloc::{Allocator, Global};
+use std::alloc::{AllocGlobal, Allocator, Global};
+use std::process::Abort;
+use std::sync::Wait;
 use std::thread;
 
 /// One step of an example.
@@ -80,7 +82,7 @@ const CALLED_AGAIN: [Step; 2] = [
 
 // Plays the steps. The answers are those that they name. Where memory is scarce, a call may be
 // refused its entry, which leaves the count. Then what is pending is received.
-pub(super) fn play<J: Recording + Send + Sync, R: Host, A: Allocator + Copy + Send + Sync>(
+pub(super) fn play<J: Recording + Send + Sync, R: ThreadHost, A: Allocator + Copy + Send + Sync>(
     rt: &R,
     memory: &Refusing<Global>,
     recorder: &Recorder<J, A>,
@@ -119,7 +121,7 @@ pub(super) fn play<J: Recording + Send + Sync, R: Host, A: Allocator + Copy + Se
     }
 }
 
-fn meet<J: Recording, R: Host, A: Allocator + Copy>(
+fn meet<J: Recording, R: Abort, A: Allocator + Copy>(
     rt: &R,
     recorder: &Recorder<J, A>,
     passes: &mut Passes<J, A>,
@@ -135,7 +137,7 @@ fn meet<J: Recording, R: Host, A: Allocator + Copy>(
 }
 
 // The last pass calls on a thread, which gives it back with its answer.
-fn call_on_thread<J: Recording + Send + Sync, R: Host, A: Allocator + Copy + Send + Sync>(
+fn call_on_thread<J: Recording + Send + Sync, R: ThreadHost, A: Allocator + Copy + Send + Sync>(
     rt: &R,
     recorder: &Recorder<J, A>,
     passes: &mut Passes<J, A>,
@@ -158,7 +160,7 @@ fn call_on_thread<J: Recording + Send + Sync, R: Host, A: Allocator + Copy + Sen
 
 // Makes a call that is refused its entry, and then again. What the pass has seen afterwards is what
 // it had seen before both, what others did meanwhile, and this one entry.
-fn call_again<J: Recording, R: Host, A: Allocator + Copy>(
+fn call_again<J: Recording, R: Abort + Wait, A: Allocator + Copy>(
     rt: &R,
     memory: &Refusing<Global>,
     recorder: &Recorder<J, A>,
@@ -176,7 +178,7 @@ fn call_again<J: Recording, R: Host, A: Allocator + Copy>(
     call_and_keep(rt, recorder, pass, kept, call)
 }
 
-fn receive_rest<J: Recording, R: Host, A: Allocator + Copy>(
+fn receive_rest<J: Recording, R: Abort + Wait, A: Allocator + Copy>(
     rt: &R,
     recorder: &Recorder<J, A>,
     passes: &mut Passes<J, A>,
@@ -193,24 +195,32 @@ fn receive_rest<J: Recording, R: Host, A: Allocator + Copy>(
     panic!(rt; "it was never empty");
 }
 
+// That of the step's call, unless it is refused.
+fn entry_of(step: &Step) -> Option<Made> {
+    match *step {
+        Step::Call(who, call, told, _)
+        | Step::OnThread(who, call, told, _)
+        | Step::Again(who, call, told, _) => match told {
+            Ok(reply) => Some(Entry { who, call, reply }),
+            Err(NoPlace) => None,
+        },
+        Step::Meet | Step::RefuseNext => None,
+    }
+}
+
 // The entries of the steps' calls.
-fn entries_of<R: Host>(rt: &R, steps: &[Step]) -> Vec<Made> {
+fn entries_of<R: Abort + AllocGlobal>(rt: &R, steps: &[Step]) -> Vec<Made> {
     let mut entries = Vec::new(rt.alloc());
     for step in steps {
-        if let Step::Call(who, call, Ok(reply), _)
-        | Step::OnThread(who, call, Ok(reply), _)
-        | Step::Again(who, call, Ok(reply), _) = *step
-        {
-            entries
-                .push(Entry { who, call, reply })
-                .expect(rt, "memory");
+        if let Some(entry) = entry_of(step) {
+            entries.push(entry).expect(rt, "memory");
         }
     }
     entries
 }
 
 /// Plays the steps, and compares the whole history. What was refused stands nowhere in it.
-pub fn expect_history<R: Host>(
+pub fn expect_history<R: ThreadHost>(
     rt: &R,
     steps: &[Step],
     cap: u64,
@@ -231,7 +241,7 @@ pub fn expect_history<R: Host>(
 }
 
 /// Makes the calls of the steps on a book, and compares its whole history.
-pub fn expect_book<R: Host>(rt: &R, steps: &[Step], cap: u64, entries: usize)
+pub fn expect_book<R: Abort + AllocGlobal>(rt: &R, steps: &[Step], cap: u64, entries: usize)
     requires positive { 0 < cap }
     requires fits { cap < 2 ^ 63 }
 {

@@ -2,10 +2,12 @@
 use super::{Caller, Kept, Made, Passes, Recorder, Scene, call_and_keep, record};
 use crate::tests::plain_list::ask_list;
 use crate::tests::watch::arrive;
-use crate::tests::{Host, expect_equal};
+use crate::tests::{ThreadHost, expect_equal};
 use async_priority_channel::recorded::{Call, Recording, Reply};
 use refusing::Refusing;
-use std::alloc::Allocator;
+use std::alloc::{AllocGlobal, Allocator};
+use std::process::Abort;
+use std::sync::Wait;
 use std::sync::atomic::AtomicUsize;
 use std::{mem, thread};
 
@@ -33,17 +35,14 @@ fn ith_call(work: Work, who: u64, i: u64) -> Call<u64, u64> {
 }
 
 // The calls of one thread, and what it kept of them. There is memory for all entries.
-fn call_often<J: Recording, R: Host, A: Allocator + Copy>(
+fn call_often<J: Recording, R: Abort + Wait + AllocGlobal, A: Allocator + Copy>(
     rt: &R,
     recorder: &Recorder<J, A>,
     mut pass: Caller<J>,
     work: Work,
 ) -> (Caller<J>, Kept) {
     let who = pass.number();
-    let mut kept = Kept {
-        made: Vec::new(rt.alloc()),
-        refused: 0,
-    };
+    let mut kept = Kept::new(rt);
     let calls = match work {
         Work::Mixed => CALLS,
         Work::Close => 1,
@@ -59,7 +58,7 @@ fn call_often<J: Recording, R: Host, A: Allocator + Copy>(
 /// Each pass calls on a thread of its own.
 pub(super) fn call_on_threads<
     J: Recording + Send + Sync,
-    R: Host,
+    R: ThreadHost,
     A: Allocator + Copy + Send + Sync,
 >(
     rt: &R,

@@ -19,7 +19,7 @@ pub fn text<R: Abort + AllocGlobal>(rt: &R, words: &str) -> String {
 /// A pair that has come out or back.
 pub fn told_pair<R: Abort + AllocGlobal>(rt: &R, ledger: &mut Ledger, pair: Pair) -> String {
     ledger.end(rt, pair);
-    let (msg, priority) = pair;
+    let (msg, (_, priority)) = (ledger.message(rt, pair), pair);
     format!(in rt.alloc(); "({msg},{priority})").expect(rt, "memory")
 }
 

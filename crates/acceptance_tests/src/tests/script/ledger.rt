@@ -1,5 +1,5 @@
 //! What became of each pair.
-use super::words::{Bulk, Pair, Text, pair, times};
+use super::words::{Bulk, Pair, Text, message_and_priority, times};
 use crate::tests::expect_equal;
 use std::alloc::AllocGlobal;
 use std::process::Abort;
@@ -7,6 +7,8 @@ use std::process::Abort;
 /// The pairs that were submitted, and those that came out or back.
 #[derive(Drop)]
 pub struct Ledger {
+    // The messages of the script. The pairs have their places for messages.
+    messages: Vec<Text>,
     submitted: Vec<Pair>,
     ended: Vec<Pair>,
     // What came back of the last bulk send that was refused. It may be sent again.
@@ -16,6 +18,7 @@ pub struct Ledger {
 impl Ledger {
     pub fn new<R: AllocGlobal>(rt: &R) -> Self {
         Ledger {
+            messages: Vec::new(rt.alloc()),
             submitted: Vec::new(rt.alloc()),
             ended: Vec::new(rt.alloc()),
             rest: None,
@@ -23,7 +26,9 @@ impl Ledger {
     }
 
     pub fn submit(&mut self, rt: &impl Abort, word: Text) -> Pair {
-        let pair = pair(rt, word);
+        let (msg, priority) = message_and_priority(rt, word);
+        let pair = (self.messages.len() as u64, priority);
+        self.messages.push(msg).expect(rt, "memory");
         self.submitted.push(pair).expect(rt, "memory");
         pair
     }
@@ -42,6 +47,11 @@ impl Ledger {
             }
         }
         pairs.into_iter().peekable()
+    }
+
+    /// What the script calls the message.
+    pub fn message(&self, rt: &impl Abort, (number, _): Pair) -> Text {
+        *self.messages.get(number as usize).expect(rt, "a message")
     }
 
     /// The pair was received, or came back.
@@ -65,10 +75,9 @@ impl Ledger {
         }
     }
 
-    /// Each pair that was submitted has come out or back, as often as it was submitted.
+    /// Each pair that was submitted has come out or back once.
     pub fn expect_settled(&mut self, rt: &impl Abort) {
         self.end_rest(rt);
-        self.submitted.sort().expect(rt, "memory");
         self.ended.sort().expect(rt, "memory");
         expect_equal(rt, self.ended.as_slice(), self.submitted.as_slice());
     }

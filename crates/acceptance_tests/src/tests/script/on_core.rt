@@ -5,25 +5,24 @@ use super::answers::{
 };
 use super::ledger::Ledger;
 use super::states::State;
-use super::words::{MOST_RESERVED, Text, capacity, number, ticket, waker};
+use super::words::{MOST_RESERVED, Text, capacity, no_call, number, ticket, waker};
 use priority_channel_core::channel::{CorePoll, PriorityQueueChannel};
-use refusing::Refusing;
-use std::alloc::{AllocError, AllocGlobal, Global};
+use std::alloc::{AllocError, AllocGlobal, Allocator};
 use std::process::Abort;
 
-pub type Core<'a> = PriorityQueueChannel<Text, u64, u64, &'a Refusing<Global>>;
+pub type Core<A> = PriorityQueueChannel<u64, u64, u64, A>;
 
 /// A core, and the states that are polled on it.
 #[derive(Drop)]
-pub struct CoreStage<'a> {
-    alloc: &'a Refusing<Global>,
-    core: Core<'a>,
+pub struct CoreStage<A: Allocator + Copy> {
+    alloc: A,
+    core: Core<A>,
     states: Vec<(Text, State)>,
     ledger: Ledger,
 }
 
-impl<'a> CoreStage<'a> {
-    pub fn new<R: AllocGlobal>(rt: &R, alloc: &'a Refusing<Global>) -> Self {
+impl<A: Allocator + Copy> CoreStage<A> {
+    pub fn new<R: AllocGlobal>(rt: &R, alloc: A) -> Self {
         CoreStage {
             alloc,
             core: Core::unbounded(alloc),
@@ -36,20 +35,20 @@ impl<'a> CoreStage<'a> {
         match call {
             ["unbounded" | "bounded" | "bounded_reserved", ..] => self.open(rt, call),
             [name, "is", call @ ..] => self.name_state(rt, *name, call),
-            [name, call @ ..] => self.make_by_name(rt, *name, call),
+            [name, arguments @ ..] => self.make_by_name(rt, *name, arguments, call),
             [] => text(rt, ""),
         }
     }
 
     // Makes a channel in place of the one before.
     fn open<R: Abort + AllocGlobal>(&mut self, rt: &R, call: &[Text]) -> String {
-        let made: Result<Core<'a>, AllocError> = match call {
+        let made: Result<_, AllocError> = match call {
             ["bounded", word] => Ok(Core::bounded(self.alloc, capacity(rt, *word, u64::MAX))),
             ["bounded_reserved", word] => {
                 Core::bounded_reserved(self.alloc, capacity(rt, *word, MOST_RESERVED))
             }
             ["unbounded"] => Ok(Core::unbounded(self.alloc)),
-            _ => panic!(rt; "no channel is {call:?}"),
+            _ => return no_call(rt, call),
         };
         match made {
             Ok(core) => {
@@ -71,98 +70,130 @@ impl<'a> CoreStage<'a> {
         &mut self,
         rt: &R,
         name: Text,
+        arguments: &[Text],
         call: &[Text],
     ) -> String {
         for (other, state) in self.states.iter_mut() {
             if *other == name {
-                return state.make(rt, &mut self.ledger, &mut self.core, call);
+                return state.make(rt, &mut self.ledger, &mut self.core, arguments);
             }
         }
-        ask(rt, &mut self.ledger, &mut self.core, name, call)
+        ask(rt, &mut self.ledger, &mut self.core, call)
     }
 
     /// Receives what is pending, so that each pair has come out or back.
     pub fn settle<R: Abort + AllocGlobal>(&mut self, rt: &R) {
         for _ in 0..self.core.len() {
-            ask(rt, &mut self.ledger, &mut self.core, "try_recv", &[]);
+            receive(rt, &mut self.ledger, &mut self.core);
         }
         self.ledger.expect_settled(rt);
     }
 }
 
-fn ask<R: Abort + AllocGlobal>(
+fn ask<R: Abort + AllocGlobal, A: Allocator + Copy>(
     rt: &R,
     ledger: &mut Ledger,
-    core: &mut Core<'_>,
-    name: Text,
-    arguments: &[Text],
+    core: &mut Core<A>,
+    call: &[Text],
 ) -> String {
-    match (name, arguments) {
-        ("send" | "try_send", [word]) => {
-            let (msg, priority) = ledger.submit(rt, *word);
-            let (sent, wakes) = core.try_send(msg, priority);
-            handed(rt, told_sent(rt, ledger, sent), wakes)
-        }
-        ("try_sendv", words) => {
-            let (sent, wakes) = core.try_sendv(ledger.submit_many(rt, words));
-            handed(rt, told_sent_many(rt, ledger, sent), wakes)
-        }
-        ("recv" | "try_recv", []) => {
-            let (received, wakes) = core.try_recv();
-            handed(rt, told_received(rt, ledger, received), wakes)
-        }
-        ("poll_send", [word, given, by]) => poll_send(rt, ledger, core, *word, *given, *by),
-        ("poll_sendv", [given, by, words @ ..]) => {
+    match call {
+        ["send" | "try_send", word] => send(rt, ledger, core, *word),
+        ["try_sendv", words @ ..] => send_many(rt, ledger, core, words),
+        ["recv" | "try_recv"] => receive(rt, ledger, core),
+        ["poll_send", word, given, by] => poll_send(rt, ledger, core, *word, *given, *by),
+        ["poll_sendv", given, by, words @ ..] => {
             poll_sendv(rt, ledger, core, words, *given, *by)
         }
-        ("poll_recv", [given, by]) => poll_recv(rt, ledger, core, *given, *by),
-        ("give_up", [given]) => {
-            core.give_up(number(rt, *given));
-            text(rt, "")
-        }
-        // The core has no handles, so it is asked itself.
-        ("tx" | "rx", [call]) => ask_itself(rt, core, *call),
-        _ => ask_itself(rt, core, name),
+        ["poll_recv", given, by] => poll_recv(rt, ledger, core, *given, *by),
+        _ => ask_itself(rt, core, call),
     }
 }
 
-fn ask_itself<R: Abort + AllocGlobal>(rt: &R, core: &mut Core<'_>, call: Text) -> String {
+fn send<R: Abort + AllocGlobal, A: Allocator + Copy>(
+    rt: &R,
+    ledger: &mut Ledger,
+    core: &mut Core<A>,
+    word: Text,
+) -> String {
+    let (msg, priority) = ledger.submit(rt, word);
+    let (sent, wakes) = core.try_send(msg, priority);
+    handed(rt, told_sent(rt, ledger, sent), wakes)
+}
+
+fn send_many<R: Abort + AllocGlobal, A: Allocator + Copy>(
+    rt: &R,
+    ledger: &mut Ledger,
+    core: &mut Core<A>,
+    words: &[Text],
+) -> String {
+    let (sent, wakes) = core.try_sendv(ledger.submit_many(rt, words));
+    handed(rt, told_sent_many(rt, ledger, sent), wakes)
+}
+
+fn receive<R: Abort + AllocGlobal, A: Allocator + Copy>(
+    rt: &R,
+    ledger: &mut Ledger,
+    core: &mut Core<A>,
+) -> String {
+    let (received, wakes) = core.try_recv();
+    handed(rt, told_received(rt, ledger, received), wakes)
+}
+
+// The core has no handles, so it is asked itself.
+fn ask_itself<R: Abort + AllocGlobal, A: Allocator + Copy>(
+    rt: &R,
+    core: &mut Core<A>,
+    call: &[Text],
+) -> String {
     match call {
-        "close" => {
+        ["close"] | ["tx" | "rx", "close"] => {
             let (was_open, wakes) = core.close();
             handed(rt, told(rt, was_open), wakes)
         }
-        "clone_sender" => told(rt, core.clone_sender()),
-        "clone_receiver" => told(rt, core.clone_receiver()),
-        "drop_sender" => {
-            assert!(rt; core.sender_count() > 0);
+        ["drop_sender"] if core.sender_count() > 0 => {
             handed(rt, text(rt, ""), core.drop_sender())
         }
-        "drop_receiver" => {
-            assert!(rt; core.receiver_count() > 0);
+        ["drop_receiver"] if core.receiver_count() > 0 => {
             handed(rt, text(rt, ""), core.drop_receiver())
         }
-        _ => look_at(rt, core, call),
+        ["give_up", given] => {
+            core.give_up(number(rt, *given));
+            text(rt, "")
+        }
+        ["tx" | "rx", call] | [call] => look_at(rt, core, *call),
+        _ => no_call(rt, call),
     }
 }
 
-fn look_at<R: Abort + AllocGlobal>(rt: &R, core: &Core<'_>, call: Text) -> String {
+fn look_at<R: Abort + AllocGlobal, A: Allocator + Copy>(
+    rt: &R,
+    core: &mut Core<A>,
+    call: Text,
+) -> String {
     match call {
-        "is_closed" => told(rt, core.is_closed()),
-        "is_empty" => told(rt, core.is_empty()),
-        "is_full" => told(rt, core.is_full()),
         "len" => told(rt, core.len()),
         "capacity" => told(rt, core.capacity()),
         "sender_count" => told(rt, core.sender_count()),
         "receiver_count" => told(rt, core.receiver_count()),
-        _ => panic!(rt; "the core has no call {call}"),
+        _ => told(rt, truth_of(rt, core, call)),
     }
 }
 
-fn poll_send<R: Abort + AllocGlobal>(
+fn truth_of<A: Allocator + Copy>(rt: &impl Abort, core: &mut Core<A>, call: Text) -> bool {
+    match call {
+        "clone_sender" => core.clone_sender(),
+        "clone_receiver" => core.clone_receiver(),
+        "is_closed" => core.is_closed(),
+        "is_empty" => core.is_empty(),
+        "is_full" => core.is_full(),
+        _ => no_call(rt, &[call]),
+    }
+}
+
+fn poll_send<R: Abort + AllocGlobal, A: Allocator + Copy>(
     rt: &R,
     ledger: &mut Ledger,
-    core: &mut Core<'_>,
+    core: &mut Core<A>,
     word: Text,
     given: Text,
     by: Text,
@@ -179,10 +210,10 @@ fn poll_send<R: Abort + AllocGlobal>(
     handed(rt, told, wakes)
 }
 
-fn poll_sendv<R: Abort + AllocGlobal>(
+fn poll_sendv<R: Abort + AllocGlobal, A: Allocator + Copy>(
     rt: &R,
     ledger: &mut Ledger,
-    core: &mut Core<'_>,
+    core: &mut Core<A>,
     words: &[Text],
     given: Text,
     by: Text,
@@ -199,10 +230,10 @@ fn poll_sendv<R: Abort + AllocGlobal>(
     handed(rt, told, wakes)
 }
 
-fn poll_recv<R: Abort + AllocGlobal>(
+fn poll_recv<R: Abort + AllocGlobal, A: Allocator + Copy>(
     rt: &R,
     ledger: &mut Ledger,
-    core: &mut Core<'_>,
+    core: &mut Core<A>,
     given: Text,
     by: Text,
 ) -> String {

@@ -3,7 +3,7 @@ use super::answers::{
     ready_sent, ready_sent_many, text, told, told_received, told_sent, told_sent_many,
 };
 use super::ledger::Ledger;
-use super::words::{Bulk, MOST_RESERVED, Text, capacity};
+use super::words::{Bulk, MOST_RESERVED, Text, capacity, no_call};
 use crate::tests::{Host, expect_equal, wait_for};
 use async_priority_channel::waiting::{Recv, Send, Sendv};
 use async_priority_channel::{
@@ -11,6 +11,8 @@ use async_priority_channel::{
 };
 use futures::future::{Future, poll_immediate};
 use std::alloc::{AllocError, AllocGlobal, Allocator};
+use std::fmt::Debug;
+use std::process::Abort;
 use std::sync::Wait;
 
 /// How `send` and `recv` are made.
@@ -20,11 +22,11 @@ pub enum Way {
     AsFuture,
 }
 
-type Handle<S, W, A> = End<S, Text, u64, W, A>;
+type Handle<S, W, A> = End<S, u64, u64, W, A>;
 
-type Tx<W, A> = Sender<Text, u64, W, A>;
+type Tx<W, A> = Sender<u64, u64, W, A>;
 
-type Rx<W, A> = Receiver<Text, u64, W, A>;
+type Rx<W, A> = Receiver<u64, u64, W, A>;
 
 /// The handles of one channel, of which the last of either kind makes the calls.
 #[derive(Drop)]
@@ -53,29 +55,36 @@ impl<'a, W: Wait + Clone, A: Allocator + Copy> HandleStage<'a, W, A> {
     pub fn make<R: Host>(&mut self, rt: &R, call: &[Text]) -> String {
         match call {
             ["unbounded" | "bounded" | "bounded_reserved", ..] => self.open(rt, call),
-            ["clone_sender"] => clone_last(rt, &mut self.senders),
-            ["clone_receiver"] => clone_last(rt, &mut self.receivers),
-            ["drop_sender"] => drop_last(rt, &mut self.senders),
-            ["drop_receiver"] => drop_last(rt, &mut self.receivers),
-            ["tx", "is_printed"] => { told(rt, !told(rt, last(rt, &self.senders)).is_empty()) }
-            ["rx", "is_printed"] => { told(rt, !told(rt, last(rt, &self.receivers)).is_empty()) }
+            ["tx", "is_printed"] => is_printed(rt, last(rt, &self.senders)),
+            ["rx", "is_printed"] => is_printed(rt, last(rt, &self.receivers)),
             ["tx", call] => ask_either(rt, last(rt, &self.senders), *call),
             ["rx", call] => ask_either(rt, last(rt, &self.receivers), *call),
-            ["recv" | "try_recv"] => {
-                let is_future = matches!(self.way, Way::AsFuture) && matches!(call, ["recv"]);
-                receive(rt, &mut self.ledger, last(rt, &self.receivers), is_future)
+            ["recv"] if matches!(self.way, Way::AsFuture) => {
+                receive_by_future(rt, &mut self.ledger, last(rt, &self.receivers))
             }
-            [] => text(rt, ""),
-            _ => {
+            ["recv" | "try_recv"] => receive(rt, &mut self.ledger, last(rt, &self.receivers)),
+            [_, _, ..] | ["try_sendv"] => {
                 let way = self.way;
                 send(rt, &mut self.ledger, last(rt, &self.senders), call, way)
             }
+            [call] => self.change_handles(rt, *call),
+            [] => text(rt, ""),
+        }
+    }
+
+    fn change_handles<R: Abort + AllocGlobal>(&mut self, rt: &R, call: Text) -> String {
+        match call {
+            "clone_sender" => clone_last(rt, &mut self.senders),
+            "clone_receiver" => clone_last(rt, &mut self.receivers),
+            "drop_sender" => drop_last(rt, &mut self.senders),
+            "drop_receiver" => drop_last(rt, &mut self.receivers),
+            _ => no_call(rt, &[call]),
         }
     }
 
     // Makes a channel in place of the one before.
-    fn open<R: Host>(&mut self, rt: &R, call: &[Text]) -> String {
-        let made: Result<Ends<Text, u64, W, A>, AllocError> = match call {
+    fn open<R: Abort + AllocGlobal>(&mut self, rt: &R, call: &[Text]) -> String {
+        let made: Result<Ends<u64, u64, W, A>, AllocError> = match call {
             ["bounded", word] => {
                 bounded(self.permission, self.alloc, capacity(rt, *word, u64::MAX))
             }
@@ -84,7 +93,7 @@ impl<'a, W: Wait + Clone, A: Allocator + Copy> HandleStage<'a, W, A> {
                 bounded_reserved(self.permission, self.alloc, capacity)
             }
             ["unbounded"] => unbounded(self.permission, self.alloc),
-            _ => panic!(rt; "no channel is {call:?}"),
+            _ => return no_call(rt, call),
         };
         match made {
             Ok((tx, rx)) => {
@@ -100,10 +109,10 @@ impl<'a, W: Wait + Clone, A: Allocator + Copy> HandleStage<'a, W, A> {
 
     /// Receives what is pending, so that each pair has come out or back. The channel counts the
     /// handles that there are.
-    pub fn settle<R: Host>(&mut self, rt: &R) {
+    pub fn settle<R: Abort + AllocGlobal>(&mut self, rt: &R) {
         if let Some(rx) = self.receivers.last() {
             for _ in 0..rx.len() {
-                receive(rt, &mut self.ledger, rx, false);
+                receive(rt, &mut self.ledger, rx);
             }
             let counts = (rx.sender_count(), rx.receiver_count());
             expect_equal(rt, counts, (self.senders.len(), self.receivers.len()));
@@ -112,11 +121,11 @@ impl<'a, W: Wait + Clone, A: Allocator + Copy> HandleStage<'a, W, A> {
     }
 }
 
-fn last<'a, R: Host, H>(rt: &R, handles: &'a Vec<H>) -> &'a H {
+fn last<'a, H>(rt: &impl Abort, handles: &'a Vec<H>) -> &'a H {
     handles.last().expect(rt, "a handle")
 }
 
-fn clone_last<S: Role, R: Host, W: Wait + Clone, A: Allocator + Copy>(
+fn clone_last<S: Role, R: Abort + AllocGlobal, W: Wait + Clone, A: Allocator + Copy>(
     rt: &R,
     handles: &mut Vec<Handle<S, W, A>>,
 ) -> String {
@@ -129,23 +138,26 @@ fn clone_last<S: Role, R: Host, W: Wait + Clone, A: Allocator + Copy>(
     }
 }
 
-fn drop_last<R: Host, H: Drop>(rt: &R, handles: &mut Vec<H>) -> String {
+fn drop_last<R: Abort + AllocGlobal, H: Drop>(rt: &R, handles: &mut Vec<H>) -> String {
     drop(handles.pop().expect(rt, "a handle"));
     text(rt, "")
 }
 
-fn receive<R: Host, W: Wait + Clone, A: Allocator + Copy>(
+fn receive<R: Abort + AllocGlobal, W: Wait + Clone, A: Allocator + Copy>(
     rt: &R,
     ledger: &mut Ledger,
     rx: &Rx<W, A>,
-    is_future: bool,
 ) -> String {
-    if is_future {
-        let future: Recv<'_, Text, u64, W, A> = rx.recv();
-        told_received(rt, ledger, wait_for(rt, future))
-    } else {
-        told_received(rt, ledger, rx.try_recv())
-    }
+    told_received(rt, ledger, rx.try_recv())
+}
+
+fn receive_by_future<R: Host, W: Wait + Clone, A: Allocator + Copy>(
+    rt: &R,
+    ledger: &mut Ledger,
+    rx: &Rx<W, A>,
+) -> String {
+    let future: Recv<'_, u64, u64, W, A> = rx.recv();
+    told_received(rt, ledger, wait_for(rt, future))
 }
 
 fn send<R: Host, W: Wait + Clone, A: Allocator + Copy>(
@@ -156,9 +168,7 @@ fn send<R: Host, W: Wait + Clone, A: Allocator + Copy>(
     way: Way,
 ) -> String {
     match call {
-        ["send", word] if matches!(way, Way::AsFuture) => {
-            send_by_future(rt, ledger, tx, *word, false)
-        }
+        ["send", word] if matches!(way, Way::AsFuture) => { send_by_future(rt, ledger, tx, *word) }
         ["send" | "try_send", word] => {
             let (msg, priority) = ledger.submit(rt, *word);
             told_sent(rt, ledger, tx.try_send(msg, priority))
@@ -167,38 +177,42 @@ fn send<R: Host, W: Wait + Clone, A: Allocator + Copy>(
             let sent = tx.try_sendv(ledger.submit_many(rt, words));
             told_sent_many(rt, ledger, sent)
         }
-        ["poll_once_and_drop", "send", word] => send_by_future(rt, ledger, tx, *word, true),
+        ["poll_once_and_drop", "send", word] => poll_send_once(rt, ledger, tx, *word),
         ["poll_once_and_drop", "sendv", words @ ..] => poll_sendv_once(rt, ledger, tx, words),
-        _ => panic!(rt; "a handle has no call {call:?}"),
+        _ => no_call(rt, call),
     }
 }
 
-// The future is waited for, or it is polled once and dropped.
 fn send_by_future<R: Host, W: Wait + Clone, A: Allocator + Copy>(
     rt: &R,
     ledger: &mut Ledger,
     tx: &Tx<W, A>,
     word: Text,
-    is_once: bool,
 ) -> String {
     let (msg, priority) = ledger.submit(rt, word);
-    let future: Send<'_, Text, u64, W, A> = tx.send(msg, priority);
-    match answer_of(rt, future, is_once) {
-        Some(sent) if is_once => ready_sent(rt, ledger, sent),
-        Some(sent) => told_sent(rt, ledger, sent.map_err(TrySendError::from)),
+    let future: Send<'_, u64, u64, W, A> = tx.send(msg, priority);
+    told_sent(rt, ledger, wait_for(rt, future).map_err(TrySendError::from))
+}
+
+fn poll_send_once<R: Host, W: Wait + Clone, A: Allocator + Copy>(
+    rt: &R,
+    ledger: &mut Ledger,
+    tx: &Tx<W, A>,
+    word: Text,
+) -> String {
+    let (msg, priority) = ledger.submit(rt, word);
+    let future: Send<'_, u64, u64, W, A> = tx.send(msg, priority);
+    match poll_once(rt, future) {
+        Some(sent) => ready_sent(rt, ledger, sent),
         None => text(rt, "Pending"),
     }
 }
 
-// None where it is polled once and is pending.
-fn answer_of<F: Future>(rt: &impl Host, future: F, is_once: bool) -> Option<F::Output>
+// None where it is pending. Then it is dropped.
+fn poll_once<F: Future>(rt: &impl Host, future: F) -> Option<F::Output>
     requires { F.can_poll future }
 {
-    if is_once {
-        wait_for(rt, poll_immediate(future))
-    } else {
-        Some(wait_for(rt, future))
-    }
+    wait_for(rt, poll_immediate(future))
 }
 
 fn poll_sendv_once<R: Host, W: Wait + Clone, A: Allocator + Copy>(
@@ -208,28 +222,42 @@ fn poll_sendv_once<R: Host, W: Wait + Clone, A: Allocator + Copy>(
     words: &[Text],
 ) -> String {
     let msgs = ledger.submit_many(rt, words);
-    let future: Sendv<'_, Text, u64, Bulk, W, A> = tx.sendv(msgs);
-    match answer_of(rt, future, true) {
+    let future: Sendv<'_, u64, u64, Bulk, W, A> = tx.sendv(msgs);
+    match poll_once(rt, future) {
         Some(sent) => ready_sent_many(rt, ledger, sent),
         None => text(rt, "Pending"),
     }
 }
 
+fn is_printed<R: Abort + AllocGlobal, H: Debug>(rt: &R, handle: &H) -> String {
+    told(rt, !told(rt, handle).is_empty())
+}
+
 // What a sender and a receiver have both.
-fn ask_either<S: Role, R: Host, W: Wait + Clone, A: Allocator + Copy>(
+fn ask_either<S: Role, R: Abort + AllocGlobal, W: Wait + Clone, A: Allocator + Copy>(
     rt: &R,
     end: &Handle<S, W, A>,
     call: Text,
 ) -> String {
     match call {
-        "close" => told(rt, end.close()),
-        "is_closed" => told(rt, end.is_closed()),
-        "is_empty" => told(rt, end.is_empty()),
-        "is_full" => told(rt, end.is_full()),
         "len" => told(rt, end.len()),
         "capacity" => told(rt, end.capacity()),
         "sender_count" => told(rt, end.sender_count()),
         "receiver_count" => told(rt, end.receiver_count()),
-        _ => panic!(rt; "a handle has no call {call}"),
+        _ => told(rt, truth_of(rt, end, call)),
+    }
+}
+
+fn truth_of<S: Role, W: Wait + Clone, A: Allocator + Copy>(
+    rt: &impl Abort,
+    end: &Handle<S, W, A>,
+    call: Text,
+) -> bool {
+    match call {
+        "close" => end.close(),
+        "is_closed" => end.is_closed(),
+        "is_empty" => end.is_empty(),
+        "is_full" => end.is_full(),
+        _ => no_call(rt, &[call]),
     }
 }

@@ -4,15 +4,15 @@ use super::answers::{
 };
 use super::ledger::Ledger;
 use super::on_core::Core;
-use super::words::{Bulk, Text, waker};
+use super::words::{Bulk, Text, no_call, waker};
 use async_priority_channel::waiting::{RecvState, SendState, SendvState};
 use futures::task::Poll;
-use std::alloc::AllocGlobal;
+use std::alloc::{AllocGlobal, Allocator};
 use std::process::Abort;
 
 #[derive(Drop)]
 pub enum State {
-    Send(SendState<Text, u64>),
+    Send(SendState<u64, u64>),
     Sendv(SendvState<Bulk>),
     Recv(RecvState),
 }
@@ -26,7 +26,7 @@ impl State {
             }
             ["sendv", words @ ..] => State::Sendv(SendvState::new(ledger.submit_many(rt, words))),
             ["recv"] => State::Recv(RecvState::new()),
-            _ => panic!(rt; "no state of {call:?}"),
+            _ => no_call(rt, call),
         }
     }
 
@@ -46,11 +46,11 @@ impl State {
         }
     }
 
-    pub fn make<R: Abort + AllocGlobal>(
+    pub fn make<R: Abort + AllocGlobal, A: Allocator + Copy>(
         &mut self,
         rt: &R,
         ledger: &mut Ledger,
-        core: &mut Core<'_>,
+        core: &mut Core<A>,
         call: &[Text],
     ) -> String {
         match call {
@@ -58,15 +58,15 @@ impl State {
             ["give_up"] => self.give_up(rt, ledger, core),
             ["ticket"] => told(rt, self.ticket()),
             ["is_done"] => told(rt, self.is_done()),
-            _ => panic!(rt; "a state has no call {call:?}"),
+            _ => no_call(rt, call),
         }
     }
 
-    fn poll<R: Abort + AllocGlobal>(
+    fn poll<R: Abort + AllocGlobal, A: Allocator + Copy>(
         &mut self,
         rt: &R,
         ledger: &mut Ledger,
-        core: &mut Core<'_>,
+        core: &mut Core<A>,
         waker: u64,
     ) -> String {
         match self {
@@ -76,11 +76,11 @@ impl State {
         }
     }
 
-    fn give_up<R: Abort + AllocGlobal>(
+    fn give_up<R: Abort + AllocGlobal, A: Allocator + Copy>(
         &mut self,
         rt: &R,
         ledger: &mut Ledger,
-        core: &mut Core<'_>,
+        core: &mut Core<A>,
     ) -> String {
         let kept = match self {
             State::Send(send) => {
@@ -106,11 +106,11 @@ impl State {
     }
 }
 
-fn poll_send<R: Abort + AllocGlobal>(
+fn poll_send<R: Abort + AllocGlobal, A: Allocator + Copy>(
     rt: &R,
     ledger: &mut Ledger,
-    core: &mut Core<'_>,
-    send: &mut SendState<Text, u64>,
+    core: &mut Core<A>,
+    send: &mut SendState<u64, u64>,
     waker: u64,
 ) -> String {
     let (polled, wakes) = send.poll_on(core, &waker);
@@ -121,10 +121,10 @@ fn poll_send<R: Abort + AllocGlobal>(
     handed(rt, told, wakes)
 }
 
-fn poll_sendv<R: Abort + AllocGlobal>(
+fn poll_sendv<R: Abort + AllocGlobal, A: Allocator + Copy>(
     rt: &R,
     ledger: &mut Ledger,
-    core: &mut Core<'_>,
+    core: &mut Core<A>,
     sendv: &mut SendvState<Bulk>,
     waker: u64,
 ) -> String {
@@ -136,10 +136,10 @@ fn poll_sendv<R: Abort + AllocGlobal>(
     handed(rt, told, wakes)
 }
 
-fn poll_recv<R: Abort + AllocGlobal>(
+fn poll_recv<R: Abort + AllocGlobal, A: Allocator + Copy>(
     rt: &R,
     ledger: &mut Ledger,
-    core: &mut Core<'_>,
+    core: &mut Core<A>,
     recv: &mut RecvState,
     waker: u64,
 ) -> String {

@@ -9,13 +9,19 @@ use std::vec::IntoIter;
 /// The greatest capacity of a reserved channel.
 pub const MOST_RESERVED: u64 = 9223372036854775807;
 
-/// A script, and each word of it. A message is such a word.
+/// A script, and each word of it.
 pub type Text = &'static str;
 
-pub type Pair = (Text, u64);
+/// A message is the number of its submission, since a call on texts is dear to prove.
+pub type Pair = (u64, u64);
 
 /// The messages of a bulk send.
 pub type Bulk = Peekable<IntoIter<Pair>>;
+
+/// Fails at a call that there is not.
+pub fn no_call<T>(rt: &impl Abort, call: &[Text]) -> T {
+    panic!(rt; "there is no call {call:?}")
+}
 
 pub fn split<R: Abort + AllocGlobal>(rt: &R, line: Text) -> Vec<Text> {
     line.split_whitespace()
@@ -45,21 +51,27 @@ pub fn capacity(rt: &impl Abort, word: Text, most: u64) -> u64
     capacity
 }
 
+// What the word has between these.
+fn between(word: Text, before: &str, behind: &str) -> Option<Text> {
+    word.strip_prefix(before)?.strip_suffix(behind)
+}
+
 /// `(Foo,0)` is the message `Foo` of priority 0.
-pub fn pair(rt: &impl Abort, word: Text) -> Pair {
-    let inner = word.strip_prefix('(').expect(rt, "a pair");
+pub fn message_and_priority(rt: &impl Abort, word: Text) -> (Text, u64) {
+    let inner = between(word, "(", ")").expect(rt, "a pair");
     let (msg, priority) = inner.split_once(',').expect(rt, "a pair");
-    let priority = priority.strip_suffix(')').expect(rt, "a pair");
     (msg, number(rt, priority))
 }
 
 /// `None` or `Some(0)`.
 pub fn ticket(rt: &impl Abort, word: Text) -> Option<u64> {
-    let ticket = word.strip_prefix("Some(")?.strip_suffix(')');
-    Some(number(rt, ticket.expect(rt, "a ticket")))
+    if word == "None" {
+        return None;
+    }
+    Some(number(rt, between(word, "Some(", ")").expect(rt, "a ticket")))
 }
 
 /// The waker `w1` is the number 1.
 pub fn waker(rt: &impl Abort, word: Text) -> u64 {
-    number(rt, word.strip_prefix('w').expect(rt, "a waker"))
+    number(rt, between(word, "w", "").expect(rt, "a waker"))
 }
