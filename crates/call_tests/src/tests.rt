@@ -1,4 +1,7 @@
 //! All calls by their names, on one thread and beside other threads.
+ghost use Rattle.std.specs.Prelude.{◌≡◌, true};
+
+use futures::Future;
 use futures::task::Poll;
 use futures::test::MockTask;
 use refusing::Refusing;
@@ -44,6 +47,28 @@ fn ready<T>(polled: Poll<T>) -> Option<T> {
         Poll::Ready(answer) => Some(answer),
         Poll::Pending => None,
     }
+}
+
+/// Polls it in the task, and tells whether it is pending.
+fn is_pending<F: Future<Output: Drop>>(task: &MockTask, future: &mut F) -> bool
+    requires { F.can_poll future.old }
+    ensures { result ≡ true → F.can_poll future.new }
+{
+    match task.poll(future) {
+        Poll::Ready(_) => false,
+        Poll::Pending => true,
+    }
+}
+
+/// So many values.
+fn make_all<T: Drop, F: Fn() -> T>(rt: &impl Host, count: u64, make: F) -> Vec<T>
+    requires { F.IsAlwaysCallable make }
+{
+    let mut made = Vec::new(rt.alloc());
+    for _ in 0..count {
+        made.push(make()).expect(rt, "memory for a list");
+    }
+    made
 }
 
 fn new_task<R: Host>(rt: &R) -> MockTask {

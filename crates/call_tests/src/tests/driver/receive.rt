@@ -20,50 +20,88 @@ pub fn receive<R: Host, A: Allocator + Copy, B: Allocator + Copy>(
     call: Call,
     input: Input,
 ) -> Reply {
-    let most = input.most;
     match call {
-        Call::Recv(Way::Try) => tell_one(rt, Some(rx.try_recv())),
-        Call::Recv(Way::Blocking) => tell_one(rt, Some(rx.recv_blocking())),
-        Call::Recv(Way::Timeout) => tell_one(rt, Some(rx.recv_timeout(input.limit))),
-        Call::Recv(Way::Deadline) => tell_one(rt, Some(rx.recv_deadline(deadline_of(rt, input)))),
-        Call::Recv(way) => tell_one(rt, answer_of(rt, way, rx.recv())),
+        Call::Recv(way) => receive_one(rt, rx, way, input),
         Call::RecvMany(way) => receive_many(rt, alloc, rx, way, input),
-        Call::Stream(way) => tell_next(rt, answer_of(rt, way, rx.stream().next())),
-        Call::IntoStream(way) => {
-            let mut stream = rx.clone().expect(rt, "a receiver").into_stream();
-            tell_next(rt, answer_of(rt, way, stream.next()))
-        }
-        Call::TryIter => tell_loop(rt, rx.try_iter().take(most), most),
-        Call::Iter => tell_loop(rt, rx.iter().take(most), most),
-        Call::IntoIter => {
-            let other = rx.clone().expect(rt, "a receiver");
-            tell_loop(rt, other.into_iter().take(most), most)
-        }
-        Call::Lease(Way::Try) => finish(rt, rx, Some(rx.try_lease())),
-        Call::Lease(Way::Timeout) => finish(rt, rx, Some(rx.lease_timeout(input.limit))),
-        Call::Lease(Way::Deadline) => finish(
-            rt,
-            rx,
-            Some(rx.lease_deadline(deadline_of(rt, input))),
-        ),
-        Call::Lease(Way::Blocking) => finish(rt, rx, Some(rx.lease_blocking())),
-        Call::Lease(way) => finish(rt, rx, answer_of(rt, way, rx.lease())),
-        Call::Leases => finish_all(rt, rx, most),
+        Call::RecvWhere(way) => receive_where(rt, rx, way, input),
+        Call::RecvWhen(way) => receive_when(rt, rx, way, input),
+        Call::Lease(way) => lease_one(rt, rx, way, input),
+        Call::Leases => finish_all(rt, rx, input.most),
         Call::PutBack => put_back(rt, rx, Some(input.pair().1)),
         Call::DropLease => put_back(rt, rx, None),
         Call::RecvIf => tell_if(rt, rx.try_recv_if(|msg, _| input.is_kind_of(*msg))),
-        Call::RecvWhere(way) => receive_where(rt, rx, way, input),
-        Call::RecvWhen(way) => receive_when(rt, rx, way, input),
-        Call::PeekWith => {
-            let seen = rx.peek_with(|msg, priority| (*msg, *priority));
-            Reply::found(rt, seen, Outcome::Empty)
-        }
-        Call::PeekPriority => {
-            let seen = rx.peek_priority().expect(rt, "a priority");
-            Reply::found(rt, seen.map(|priority| (0, priority)), Outcome::Empty)
-        }
+        Call::TryIter | Call::Iter | Call::IntoIter => receive_in_a_loop(rt, rx, call, input.most),
+        Call::Stream(way) => tell_next(rt, answer_of(rt, way, rx.stream().next())),
+        Call::IntoStream(way) => receive_from_a_stream(rt, rx, way),
+        Call::PeekWith | Call::PeekPriority => peek(rt, rx, call),
         _by_either => make_by_either(rt, rx, call, input),
     }
+}
+
+fn receive_one<R: Host, A: Allocator + Copy>(
+    rt: &R,
+    rx: &Receiver<u64, u64, R, A>,
+    way: Way,
+    input: Input,
+) -> Reply {
+    match way {
+        Way::Try => tell_one(rt, Some(rx.try_recv())),
+        Way::Blocking => tell_one(rt, Some(rx.recv_blocking())),
+        Way::Timeout => tell_one(rt, Some(rx.recv_timeout(input.limit))),
+        Way::Deadline => tell_one(rt, Some(rx.recv_deadline(deadline_of(rt, input)))),
+        Way::Poll | Way::Future => tell_one(rt, answer_of(rt, way, rx.recv())),
+    }
+}
+
+fn lease_one<R: Host, A: Allocator + Copy>(
+    rt: &R,
+    rx: &Receiver<u64, u64, R, A>,
+    way: Way,
+    input: Input,
+) -> Reply {
+    match way {
+        Way::Try => finish(rt, rx, Some(rx.try_lease())),
+        Way::Blocking => finish(rt, rx, Some(rx.lease_blocking())),
+        Way::Timeout => finish(rt, rx, Some(rx.lease_timeout(input.limit))),
+        Way::Deadline => finish(rt, rx, Some(rx.lease_deadline(deadline_of(rt, input)))),
+        Way::Poll | Way::Future => finish(rt, rx, answer_of(rt, way, rx.lease())),
+    }
+}
+
+fn receive_in_a_loop<R: Host, A: Allocator + Copy>(
+    rt: &R,
+    rx: &Receiver<u64, u64, R, A>,
+    call: Call,
+    most: usize,
+) -> Reply {
+    match call {
+        Call::TryIter => tell_loop(rt, rx.try_iter().take(most), most),
+        Call::Iter => tell_loop(rt, rx.iter().take(most), most),
+        _into_iter => {
+            let other = rx.clone().expect(rt, "a receiver");
+            tell_loop(rt, other.into_iter().take(most), most)
+        }
+    }
+}
+
+fn receive_from_a_stream<R: Host, A: Allocator + Copy>(
+    rt: &R,
+    rx: &Receiver<u64, u64, R, A>,
+    way: Way,
+) -> Reply {
+    let mut stream = rx.clone().expect(rt, "a receiver").into_stream();
+    tell_next(rt, answer_of(rt, way, stream.next()))
+}
+
+fn peek<R: Host, A: Allocator + Copy>(rt: &R, rx: &Receiver<u64, u64, R, A>, call: Call) -> Reply {
+    let seen = match call {
+        Call::PeekWith => rx.peek_with(|msg, priority| (*msg, *priority)),
+        _priority => {
+            let seen = rx.peek_priority().expect(rt, "a priority");
+            seen.map(|priority| (0, priority))
+        }
+    };
+    Reply::found(rt, seen, Outcome::Empty)
 }
 
 /// Finishes the message that was leased.

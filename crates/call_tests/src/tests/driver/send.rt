@@ -16,43 +16,81 @@ pub fn send<R: Host, A: Allocator + Copy>(
     call: Call,
     input: Input,
 ) -> Reply {
-    let (msg, priority) = input.pair();
-    let pairs = input.pairs.peekable();
-    let limit = input.limit;
     match call {
-        Call::Send(Way::Try) => tell_one(rt, Some(tx.try_send(msg, priority))),
-        Call::Send(Way::Blocking) => tell_one(rt, Some(tx.send_blocking(msg, priority))),
-        Call::Send(Way::Timeout) => tell_one(rt, Some(tx.send_timeout(msg, priority, limit))),
-        Call::Send(Way::Deadline) => {
+        Call::Send(way) => send_one(rt, tx, way, input),
+        Call::Sendv(way) => send_many(rt, tx, way, input),
+        Call::SendEvicting => send_evicting(rt, tx, input),
+        Call::Reserve(way) => reserve(rt, tx, way, input),
+        _by_either => make_by_either(rt, tx, call, input),
+    }
+}
+
+fn send_one<R: Host, A: Allocator + Copy>(
+    rt: &R,
+    tx: &Sender<u64, u64, R, A>,
+    way: Way,
+    input: Input,
+) -> Reply {
+    let (msg, priority) = input.pair();
+    match way {
+        Way::Try => tell_one(rt, Some(tx.try_send(msg, priority))),
+        Way::Blocking => tell_one(rt, Some(tx.send_blocking(msg, priority))),
+        Way::Timeout => tell_one(rt, Some(tx.send_timeout(msg, priority, input.limit))),
+        Way::Deadline => {
             let deadline = deadline_of(rt, input);
             tell_one(rt, Some(tx.send_deadline(msg, priority, deadline)))
         }
-        Call::Send(way) => tell_one(rt, answer_of(rt, way, tx.send(msg, priority))),
-        Call::Sendv(Way::Try) => tell_many(rt, Some(tx.try_sendv(pairs))),
-        Call::Sendv(Way::Blocking) => tell_many(rt, Some(tx.sendv_blocking(pairs))),
-        Call::Sendv(Way::Timeout) => tell_many(rt, Some(tx.sendv_timeout(pairs, limit))),
-        Call::Sendv(Way::Deadline) => {
+        Way::Poll | Way::Future => tell_one(rt, answer_of(rt, way, tx.send(msg, priority))),
+    }
+}
+
+fn send_many<R: Host, A: Allocator + Copy>(
+    rt: &R,
+    tx: &Sender<u64, u64, R, A>,
+    way: Way,
+    input: Input,
+) -> Reply {
+    let pairs = input.pairs.peekable();
+    match way {
+        Way::Try => tell_many(rt, Some(tx.try_sendv(pairs))),
+        Way::Blocking => tell_many(rt, Some(tx.sendv_blocking(pairs))),
+        Way::Timeout => tell_many(rt, Some(tx.sendv_timeout(pairs, input.limit))),
+        Way::Deadline => {
             let deadline = deadline_of(rt, input);
             tell_many(rt, Some(tx.sendv_deadline(pairs, deadline)))
         }
-        Call::Sendv(way) => tell_many(rt, answer_of(rt, way, tx.sendv(pairs))),
-        Call::SendEvicting => match tx.try_send_evicting(msg, priority) {
-            Ok(displaced) => Reply::found(rt, displaced, Outcome::Done),
-            Err(refusal) => tell_one(rt, Some(Err(refusal))),
-        },
-        Call::Reserve(Way::Try) => fill(rt, tx, Some(tx.try_reserve()), input),
-        Call::Reserve(Way::Timeout) => fill(rt, tx, Some(tx.reserve_timeout(limit)), input),
-        Call::Reserve(Way::Deadline) => {
-            fill(
-                rt,
-                tx,
-                Some(tx.reserve_deadline(deadline_of(rt, input))),
-                input,
-            )
+        Way::Poll | Way::Future => tell_many(rt, answer_of(rt, way, tx.sendv(pairs))),
+    }
+}
+
+fn send_evicting<R: Host, A: Allocator + Copy>(
+    rt: &R,
+    tx: &Sender<u64, u64, R, A>,
+    input: Input,
+) -> Reply {
+    let (msg, priority) = input.pair();
+    match tx.try_send_evicting(msg, priority) {
+        Ok(displaced) => Reply::found(rt, displaced, Outcome::Done),
+        Err(refusal) => tell_one(rt, Some(Err(refusal))),
+    }
+}
+
+fn reserve<R: Host, A: Allocator + Copy>(
+    rt: &R,
+    tx: &Sender<u64, u64, R, A>,
+    way: Way,
+    input: Input,
+) -> Reply {
+    let limit = input.limit;
+    match way {
+        Way::Try => fill(rt, tx, Some(tx.try_reserve()), input),
+        Way::Blocking => fill(rt, tx, Some(tx.reserve_blocking()), input),
+        Way::Timeout => fill(rt, tx, Some(tx.reserve_timeout(limit)), input),
+        Way::Deadline => {
+            let reserved = tx.reserve_deadline(deadline_of(rt, input));
+            fill(rt, tx, Some(reserved), input)
         }
-        Call::Reserve(Way::Blocking) => fill(rt, tx, Some(tx.reserve_blocking()), input),
-        Call::Reserve(way) => fill(rt, tx, answer_of(rt, way, tx.reserve()), input),
-        _by_either => make_by_either(rt, tx, call, input),
+        Way::Poll | Way::Future => fill(rt, tx, answer_of(rt, way, tx.reserve()), input),
     }
 }
 

@@ -8,9 +8,8 @@ use crate::tests::driver::receive::{
 };
 use crate::tests::driver::reply::Reply;
 use crate::tests::driver::send::{fill, tell_many, tell_one as tell_sent};
-use crate::tests::{Host, expect_equal_at, expect_true, new_task, ready, rest};
-use async_priority_channel::bounded;
-use futures::task::Poll;
+use crate::tests::{Host, expect_equal_at, expect_true, is_pending, new_task, ready, rest};
+use async_priority_channel::{End, Receiver, Role, Sender, bounded};
 use futures::test::MockTask;
 use futures::{Future, StreamExt};
 use refusing::watch::Watch;
@@ -81,118 +80,155 @@ fn poll_beside<R: Host, F: Future<Output: Drop>>(
 ) -> Option<Option<F::Output>>
     requires { F.can_poll future }
 {
-    let (situation, waiting, call, of_call) = round;
     let mut future = future;
     let task = new_task(rt);
-    if let Poll::Ready(_) = task.poll(&mut future) {
-        expect_true(rt, false, "it waits");
-        return None;
+    let is_waiting = is_pending(&task, &mut future);
+    expect_true(rt, is_waiting, "it waits");
+    if is_waiting && make_beside(rt, mirrored, round, &task) {
+        Some(ready(task.poll(&mut future)))
+    } else {
+        None
     }
-    let side = waiting.side().other();
-    let (moves, closes) = (side.call(Way::Try), Call::Close(side));
-    let brings = if is_for_close(waiting) { closes } else { moves };
-    let has_come = match situation {
-        Situation::Waiting => false,
-        Situation::Moved => {
-            mirrored.agree(rt, round, moves, given());
-            !is_for_close(waiting)
-        }
-        Situation::Ended => {
-            mirrored.agree(rt, round, closes, given());
-            true
-        }
-    };
-    expect_woken(rt, &task, round, has_come);
-    rest(&task);
+}
+
+// Tells whether the call could be made.
+fn make_beside<R: Host>(rt: &R, mirrored: &mut Mirrored<R>, round: Round, task: &MockTask) -> bool {
+    let (_, waiting, call, of_call) = round;
+    let has_come = bring_about(rt, mirrored, round);
+    expect_woken(rt, task, round, has_come);
+    rest(task);
     if mirrored.model.waits(call, of_call) {
-        return None;
+        return false;
     }
     let before = moved(mirrored, waiting);
     mirrored.agree(rt, round, call, of_call);
-    mirrored.agree(rt, round, Call::Look(side), of_call);
+    mirrored.agree(rt, round, Call::Look(waiting.side().other()), of_call);
     let comes = mirrored.model.is_closed || moved(mirrored, waiting) > before;
-    expect_woken(rt, &task, round, comes && !has_come);
+    expect_woken(rt, task, round, comes && !has_come);
     if !comes && !has_come {
         // It waits on, for what comes later.
-        mirrored.agree(rt, round, brings, given());
-        expect_woken(rt, &task, round, true);
+        mirrored.agree(rt, round, brings(waiting), given());
+        expect_woken(rt, task, round, true);
     }
-    Some(ready(task.poll(&mut future)))
+    true
+}
+
+// Tells whether what the task waits for has come in this situation.
+fn bring_about<R: Host>(rt: &R, mirrored: &mut Mirrored<R>, round: Round) -> bool {
+    let (situation, waiting, ..) = round;
+    let side = waiting.side().other();
+    match situation {
+        Situation::Waiting => false,
+        Situation::Moved => {
+            mirrored.agree(rt, round, side.call(Way::Try), given());
+            !is_for_close(waiting)
+        }
+        Situation::Ended => {
+            mirrored.agree(rt, round, Call::Close(side), given());
+            true
+        }
+    }
+}
+
+// The call of the other side that ends the wait.
+fn brings(waiting: Call) -> Call {
+    let side = waiting.side().other();
+    if is_for_close(waiting) {
+        Call::Close(side)
+    } else {
+        side.call(Way::Try)
+    }
 }
 
 // The future has to answer as the model does, which leaves what is pending then.
 fn wake_receiver<R: Host>(rt: &R, round: Round) {
-    let waiting = round.1;
     let (tx, rx) = bounded(rt, rt.alloc(), CAPACITY).expect(rt, "a channel");
     let other = rx.clone().expect(rt, "a receiver");
     let mut mirrored = Mirrored::new(rt, rt.alloc(), (tx, other), CAPACITY, (1, 2));
-    let reply = match waiting {
-        Call::Recv(_) => {
-            let polled = poll_beside(rt, &mut mirrored, round, rx.recv());
-            polled.map(|answer| tell_one(rt, answer))
-        }
-        Call::Lease(_) => {
-            // A closure that is given a lease is not proved.
-            match poll_beside(rt, &mut mirrored, round, rx.lease()) {
-                Some(answer) => Some(finish(rt, &rx, answer)),
-                None => None,
-            }
-        }
-        Call::RecvMany(_) => {
-            let mut batch = Vec::new(rt.alloc());
-            let polled = poll_beside(rt, &mut mirrored, round, rx.recv_many(&mut batch, 2));
-            polled.map(|answer| tell_batch(rt, answer, &batch))
-        }
-        Call::Stream(_) => {
-            let mut stream = rx.stream();
-            let polled = poll_beside(rt, &mut mirrored, round, stream.next());
-            polled.map(|answer| tell_next(rt, answer))
-        }
-        _closed => {
-            let polled = poll_beside(rt, &mut mirrored, round, rx.closed());
-            polled.map(|answer| Reply::new(rt, tell_closed(answer)))
-        }
-    };
-    if let Some(reply) = reply {
-        mirrored.expect(rt, round, (waiting, input(0, 0, 2)), reply);
+    if let Some(reply) = poll_receiver(rt, &mut mirrored, round, &rx) {
+        mirrored.expect(rt, round, (round.1, input(0, 0, 2)), reply);
         let all = input(0, 0, 9);
         let told = receive(rt, rt.alloc(), &rx, Call::TryIter, all);
         mirrored.expect(rt, round, (Call::TryIter, all), told);
     }
 }
 
+fn poll_receiver<R: Host>(
+    rt: &R,
+    mirrored: &mut Mirrored<R>,
+    round: Round,
+    rx: &Receiver<u64, u64, R>,
+) -> Option<Reply> {
+    match round.1 {
+        Call::Recv(_) => {
+            let answer = poll_beside(rt, mirrored, round, rx.recv())?;
+            Some(tell_one(rt, answer))
+        }
+        Call::Lease(_) => {
+            let answer = poll_beside(rt, mirrored, round, rx.lease())?;
+            Some(finish(rt, rx, answer))
+        }
+        Call::RecvMany(_) => {
+            let mut batch = Vec::new(rt.alloc());
+            let answer = poll_beside(rt, mirrored, round, rx.recv_many(&mut batch, 2))?;
+            Some(tell_batch(rt, answer, &batch))
+        }
+        Call::Stream(_) => {
+            let answer = poll_beside(rt, mirrored, round, rx.stream().next())?;
+            Some(tell_next(rt, answer))
+        }
+        _closed => poll_closed(rt, mirrored, round, rx),
+    }
+}
+
+fn poll_closed<S: Role, R: Host>(
+    rt: &R,
+    mirrored: &mut Mirrored<R>,
+    round: Round,
+    end: &End<S, u64, u64, R>,
+) -> Option<Reply> {
+    let answer = poll_beside(rt, mirrored, round, end.closed())?;
+    Some(Reply::new(rt, tell_closed(answer)))
+}
+
+// What the bulk send of a task sends, and the first of it the send of one.
+fn sent() -> Input {
+    input(7, 2, 0)
+}
+
 // The 1, 2 and 3 are pending.
 fn wake_sender<R: Host>(rt: &R, round: Round) {
-    let waiting = round.1;
     let (tx, rx) = bounded(rt, rt.alloc(), CAPACITY).expect(rt, "a channel");
     let other = tx.clone().expect(rt, "a sender");
     let mut mirrored = Mirrored::new(rt, rt.alloc(), (other, rx), CAPACITY, (2, 1));
     mirrored.agree(rt, round, Call::Sendv(Way::Try), input(1, 3, 0));
-    let sent = input(7, 2, 0);
-    let reply = match waiting {
+    if let Some(reply) = poll_sender(rt, &mut mirrored, round, &tx) {
+        mirrored.expect(rt, round, (round.1, sent()), reply);
+        mirrored.agree(rt, round, Call::TryIter, input(0, 0, 9));
+    }
+}
+
+fn poll_sender<R: Host>(
+    rt: &R,
+    mirrored: &mut Mirrored<R>,
+    round: Round,
+    tx: &Sender<u64, u64, R>,
+) -> Option<Reply> {
+    match round.1 {
         Call::Send(_) => {
-            let polled = poll_beside(rt, &mut mirrored, round, tx.send(7, 7));
-            polled.map(|answer| tell_sent(rt, answer))
+            let answer = poll_beside(rt, mirrored, round, tx.send(7, 7))?;
+            Some(tell_sent(rt, answer))
         }
         Call::Reserve(_) => {
-            match poll_beside(rt, &mut mirrored, round, tx.reserve()) {
-                Some(answer) => Some(fill(rt, &tx, answer, sent)),
-                None => None,
-            }
+            let answer = poll_beside(rt, mirrored, round, tx.reserve())?;
+            Some(fill(rt, tx, answer, sent()))
         }
         Call::Sendv(_) => {
-            let bulk = tx.sendv(sent.pairs.peekable());
-            let polled = poll_beside(rt, &mut mirrored, round, bulk);
-            polled.map(|answer| tell_many(rt, answer))
+            let bulk = tx.sendv(sent().pairs.peekable());
+            let answer = poll_beside(rt, mirrored, round, bulk)?;
+            Some(tell_many(rt, answer))
         }
-        _closed => {
-            let polled = poll_beside(rt, &mut mirrored, round, tx.closed());
-            polled.map(|answer| Reply::new(rt, tell_closed(answer)))
-        }
-    };
-    if let Some(reply) = reply {
-        mirrored.expect(rt, round, (waiting, sent), reply);
-        mirrored.agree(rt, round, Call::TryIter, input(0, 0, 9));
+        _closed => poll_closed(rt, mirrored, round, tx),
     }
 }
 

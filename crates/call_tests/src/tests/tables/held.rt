@@ -2,9 +2,10 @@
 //! and whom that wakes.
 use super::{Mirrored, input, watch_rounds};
 use crate::tests::driver::all::ALL;
-use crate::tests::driver::calls::{Call, Side, Way};
-use crate::tests::{Host, expect_equal_at, expect_true, new_task, ready};
+use crate::tests::driver::calls::{Call, Pair, Side, Way};
+use crate::tests::{Host, expect_equal_at, expect_true, is_pending, make_all, new_task, ready};
 use async_priority_channel::{Permit, Receiver, RecvError, RecvFault, Sender, bounded};
+use futures::Future;
 use refusing::watch::Watch;
 
 const CAPACITY: u64 = 3;
@@ -35,12 +36,7 @@ fn hold<'a, R: Host>(
     tx: &'a Sender<u64, u64, R>,
     count: u64,
 ) -> Vec<Permit<'a, u64, u64, R>> {
-    let mut permits = Vec::new(rt.alloc());
-    for _ in 0..count {
-        let permit = tx.try_reserve().expect(rt, "there is room");
-        permits.push(permit).expect(rt, "memory for permits");
-    }
-    permits
+    make_all(rt, count, || tx.try_reserve().expect(rt, "there is room"))
 }
 
 fn play<R: Host>(rt: &R, round: Round) {
@@ -126,39 +122,61 @@ fn end_hold<R: Host, F: FnOnce()>(
     requires { F.pre end }
 {
     let (tx, rx) = ends;
-    let (_, told, is_filled) = case;
-    let is_open = told != Told::Close;
-    match told {
+    match case.1 {
         Told::Nothing => {}
         Told::Close => expect_true(rt, tx.close(), "it was open"),
         Told::CloseWhenDone => tx.close_when_done(),
     }
+    end_beside_tasks(rt, (tx.send(9, 9), rx.recv(), rx.closed()), case, end);
+}
+
+// The future of the task that waits for a message is polled again then.
+fn end_beside_tasks<R: Host, S, V, C, F>(rt: &R, futures: (S, V, C), case: Case, end: F)
+where
+    S: Future<Output: Drop>,
+    V: Future<Output = Result<Pair, RecvFault>>,
+    C: Future<Output: Drop>,
+    F: FnOnce(),
+    requires { S.can_poll futures.0 × V.can_poll futures.1 × C.can_poll futures.2 × F.pre end }
+{
+    let (mut sending, mut receiving, mut watching) = futures;
     let (sender, receiver, watcher) = (new_task(rt), new_task(rt), new_task(rt));
-    let (mut sending, mut receiving, mut watching) = (tx.send(9, 9), rx.recv(), rx.closed());
-    let waits = (
-        ready(sender.poll(&mut sending)).is_none(),
-        ready(receiver.poll(&mut receiving)).is_none(),
-        ready(watcher.poll(&mut watching)).is_none(),
-    );
-    expect_equal_at(rt, case, waits, (is_open, true, is_open));
+    let is_sending = is_pending(&sender, &mut sending);
+    let is_receiving = is_pending(&receiver, &mut receiving);
+    let is_watching = is_pending(&watcher, &mut watching);
+    let waits = (is_sending, is_receiving, is_watching);
+    expect_equal_at(rt, case, waits, wanted_to_wait(case));
     end();
-    let is_over = !is_filled && told != Told::Nothing;
     let got = (sender.is_woken(), receiver.is_woken(), watcher.is_woken());
-    let wanted = (
+    expect_equal_at(rt, case, got, wanted_to_wake(case));
+    if is_receiving {
+        let received = ready(receiver.poll(&mut receiving));
+        expect_equal_at(rt, case, received, wanted_then(case));
+    }
+}
+
+// Of the tasks for room, for a message and for the close.
+fn wanted_to_wait((_, told, _): Case) -> (bool, bool, bool) {
+    let is_open = told != Told::Close;
+    (is_open, true, is_open)
+}
+
+fn wanted_to_wake((_, told, is_filled): Case) -> (bool, bool, bool) {
+    let is_open = told != Told::Close;
+    let is_over = !is_filled && told != Told::Nothing;
+    (
         is_open && !is_filled,
         is_filled || is_over,
         is_open && is_over,
-    );
-    expect_equal_at(rt, case, got, wanted);
-    let received = ready(receiver.poll(&mut receiving));
-    let wanted = if is_filled {
-        Some(Ok((7, 7)))
-    } else if is_over {
-        Some(Err(RecvFault::Closed(RecvError)))
-    } else {
-        None
-    };
-    expect_equal_at(rt, case, received, wanted);
+    )
+}
+
+fn wanted_then((_, told, is_filled): Case) -> Option<Result<Pair, RecvFault>> {
+    match told {
+        _ if is_filled => Some(Ok((7, 7))),
+        Told::Nothing => None,
+        _closed => Some(Err(RecvFault::Closed(RecvError))),
+    }
 }
 
 fn end_permit<R: Host>(rt: &R, case: Case) {

@@ -6,7 +6,7 @@ use super::{Threaded, let_others_wait, wait_until};
 use crate::tests::driver::calls::{Call, Input, Pairs, Way};
 use crate::tests::driver::receive::receive;
 use crate::tests::driver::reply::{Outcome, Reply};
-use crate::tests::{Host, Memory, expect_equal_at, expect_true};
+use crate::tests::{Host, Memory, expect_equal_at, expect_true, make_all};
 use async_priority_channel::{Due, Ends, Receiver, bounded, bounded_reserved};
 use cases::{ANY, BOTH, Case, FIRST};
 use delays::{after, now};
@@ -323,12 +323,7 @@ fn receive_all<R: Host>(rx: &Receiver<u64, u64, R>, number: usize, times: &[Atom
 
 fn receive_in_three_ways<R: Threaded>(rt: &R, capacity: u64, ends: Ends<u64, u64, R>) {
     let (tx, rx) = ends;
-    let mut times = Vec::new(rt.alloc());
-    for _ in 0..MESSAGES {
-        times
-            .push(AtomicU64::new(0))
-            .expect(rt, "memory for counts");
-    }
+    let times = make_all(rt, MESSAGES, || AtomicU64::new(0));
     let told = thread::map_indices(
         rt,
         rt.alloc(),

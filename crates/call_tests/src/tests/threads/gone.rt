@@ -6,7 +6,8 @@ use super::{Threaded, let_others_wait, wait_until};
 use crate::tests::driver::all::ALL;
 use crate::tests::driver::calls::{Call, Way, is_for_close};
 use crate::tests::driver::reply::Outcome;
-use crate::tests::{Host, Memory, expect_equal_at, expect_true, new_task, ready, rest};
+use crate::tests::{Host, Memory, expect_equal_at, expect_true, is_pending, new_task, rest};
+use async_priority_channel::{Receiver, Sender};
 use futures::Future;
 use refusing::Refusing;
 use std::alloc::{Allocator, Global};
@@ -18,43 +19,54 @@ const NEXT: [Way; 2] = [Way::Blocking, Way::Future];
 // No poll makes as many requests.
 const MOST: u64 = 10;
 
+// How a wait is told, and one after it, and whether that one could be helped.
+type Told = (Outcome, Outcome, bool);
+
 // A wait is refused its nth request, and then another one waits. Each that is left gets its turn.
 fn wait_after_a_refusal<R: Threaded, A: Allocator + Copy + Send + Sync>(
     rt: &R,
     (memory, alloc): Memory<'_, A>,
     round: (Call, u64, Place, Way),
 ) {
-    let (call, n, place, next) = round;
-    let (blocked, other) = block(rt, alloc, call);
+    let (call, _, place, _) = round;
+    let ends = block(rt, alloc, call);
     let asked = memory.count().wrapping_add(place.requests_before());
-    let (_, (refused, answer, could)) = at(
+    let (_, told) = at(
         rt,
         ("the wait after one without memory", round),
         place,
         (rt, alloc, call),
-        (&blocked, &other),
+        (&ends.0, &ends.1),
         || {
             // No request of the call before is refused, however long it takes to wait.
             wait_until(rt, || memory.count() >= asked);
-            memory.refuse_nth(n);
-            let refused = blocked.make(rt, alloc, call, long()).0;
-            memory.refuse_none();
-            let (answer, could) = thread::join(
-                rt,
-                || blocked.make(rt, alloc, call.side().call(next), long()).0,
-                || {
-                    let_others_wait(rt);
-                    match place {
-                        Place::First => other.help(),
-                        Place::Second => other.help() && other.help(),
-                    }
-                },
-            );
-            (refused, answer, could)
+            refuse_and_wait_again(rt, (memory, alloc), round, &ends)
         },
     );
-    let wanted = (Outcome::Memory, Outcome::Done, true);
-    expect_equal_at(rt, round, (refused, answer, could), wanted);
+    expect_equal_at(rt, round, told, (Outcome::Memory, Outcome::Done, true));
+}
+
+fn refuse_and_wait_again<R: Threaded, A: Allocator + Copy + Send + Sync>(
+    rt: &R,
+    (memory, alloc): Memory<'_, A>,
+    (call, n, place, next): (Call, u64, Place, Way),
+    (blocked, other): &(Either<R, A>, Either<R, A>),
+) -> Told {
+    memory.refuse_nth(n);
+    let refused = blocked.make(rt, alloc, call, long()).0;
+    memory.refuse_none();
+    let (answer, could) = thread::join(
+        rt,
+        || blocked.make(rt, alloc, call.side().call(next), long()).0,
+        || {
+            let_others_wait(rt);
+            match place {
+                Place::First => other.help(),
+                Place::Second => other.help() && other.help(),
+            }
+        },
+    );
+    (refused, answer, could)
 }
 
 #[test]
@@ -76,34 +88,28 @@ fn the_next_wait_goes_on_after_one_without_memory(rt: HostRuntime) {
 
 // A task whose poll is refused its nth request keeps its future, and another one waits. Tells
 // whether there was such a request.
-fn poll_after_a_refusal<R, A, F, G>(
+fn poll_after_a_refusal<R: Host, A: Allocator + Copy, F: Future<Output: Drop>>(
     rt: &R,
     memory: &Refusing<Global>,
     round: (Call, u64),
-    first: F,
-    second: G,
+    futures: (F, F),
     other: &Either<R, A>,
 ) -> bool
-where
-    R: Host,
-    A: Allocator + Copy,
-    F: Future<Output: Drop>,
-    G: Future<Output: Drop>,
-    requires { F.can_poll first × G.can_poll second }
+    requires { F.can_poll futures.0 × F.can_poll futures.1 }
 {
-    let (mut first, mut second) = (first, second);
+    let (mut first, mut second) = futures;
     let (gone, next) = (new_task(rt), new_task(rt));
     memory.refuse_nth(round.1);
-    let has_ended = ready(gone.poll(&mut first)).is_some();
-    if memory.refuse_none() {
-        return false;
-    }
+    let has_ended = !is_pending(&gone, &mut first);
+    let was_refused = !memory.refuse_none();
     rest(&gone);
-    let waits = ready(next.poll(&mut second)).is_none();
+    let waits = is_pending(&next, &mut second);
     expect_true(rt, other.help(), "the channel is open");
-    let got = (has_ended, waits, gone.is_woken(), next.is_woken());
-    expect_equal_at(rt, round, got, (true, true, false, true));
-    true
+    if was_refused {
+        let got = (has_ended, waits, gone.is_woken(), next.is_woken());
+        expect_equal_at(rt, round, got, (true, true, false, true));
+    }
+    was_refused
 }
 
 fn refuse_a_poll<R: Host, A: Allocator + Copy>(
@@ -112,25 +118,37 @@ fn refuse_a_poll<R: Host, A: Allocator + Copy>(
     round: (Call, u64),
 ) -> bool {
     let (blocked, other) = block(rt, alloc, round.0);
-    let other = &other;
-    match (round.0, &blocked) {
-        (Call::Send(_), Either::Sender(tx)) => {
-            let (first, second) = (tx.send(7, 7), tx.send(8, 8));
-            poll_after_a_refusal(rt, memory, round, first, second, other)
+    match &blocked {
+        Either::Sender(tx) => refuse_a_send(rt, memory, round, tx, &other),
+        Either::Receiver(rx) => refuse_a_receive(rt, memory, round, rx, &other),
+    }
+}
+
+fn refuse_a_send<R: Host, A: Allocator + Copy>(
+    rt: &R,
+    memory: &Refusing<Global>,
+    round: (Call, u64),
+    tx: &Sender<u64, u64, R, A>,
+    other: &Either<R, A>,
+) -> bool {
+    match round.0 {
+        Call::Reserve(_) => {
+            poll_after_a_refusal(rt, memory, round, (tx.reserve(), tx.reserve()), other)
         }
-        (Call::Reserve(_), Either::Sender(tx)) => {
-            let (first, second) = (tx.reserve(), tx.reserve());
-            poll_after_a_refusal(rt, memory, round, first, second, other)
-        }
-        (Call::Lease(_), Either::Receiver(rx)) => {
-            let (first, second) = (rx.lease(), rx.lease());
-            poll_after_a_refusal(rt, memory, round, first, second, other)
-        }
-        (_, Either::Receiver(rx)) => {
-            let (first, second) = (rx.recv(), rx.recv());
-            poll_after_a_refusal(rt, memory, round, first, second, other)
-        }
-        _ => false,
+        _send => poll_after_a_refusal(rt, memory, round, (tx.send(7, 7), tx.send(8, 8)), other),
+    }
+}
+
+fn refuse_a_receive<R: Host, A: Allocator + Copy>(
+    rt: &R,
+    memory: &Refusing<Global>,
+    round: (Call, u64),
+    rx: &Receiver<u64, u64, R, A>,
+    other: &Either<R, A>,
+) -> bool {
+    match round.0 {
+        Call::Lease(_) => poll_after_a_refusal(rt, memory, round, (rx.lease(), rx.lease()), other),
+        _receive => poll_after_a_refusal(rt, memory, round, (rx.recv(), rx.recv()), other),
     }
 }
 

@@ -2,7 +2,7 @@
 //! The thread finds it, also where its time is over then, and wakes those that wait for what it
 //! leaves.
 use super::clocks::{Paced, Plan, Times, second};
-use super::either::{Either, TIMED, block, closed, done, long, refused};
+use super::either::{Answer, Either, TIMED, block, closed, done, long, refused};
 use super::places::{PLACES, Place, at, before};
 use super::watch::beside;
 use super::{Threaded, wait_until};
@@ -10,8 +10,9 @@ use crate::tests::driver::all::ALL;
 use crate::tests::driver::calls::{Call, Input, Pairs, Way, is_for_close};
 use crate::tests::driver::receive::receive;
 use crate::tests::driver::reply::Outcome;
-use crate::tests::{Host, Memory, expect_equal_at, new_task, ready};
+use crate::tests::{Host, Memory, expect_equal_at, is_pending, new_task};
 use async_priority_channel::bounded_reserved;
+use futures::Future;
 use refusing::Refusing;
 use std::alloc::{Allocator, Global};
 use std::sync::atomic::{AtomicBool, Ordering};
@@ -41,6 +42,14 @@ impl Halt<'_> {
             Halt::Request(memory) => memory.let_go(),
         }
     }
+
+    // That of the thread's call.
+    fn limit(self) -> Duration {
+        match self {
+            Halt::Reading(..) => second(),
+            Halt::Request(_) => long(),
+        }
+    }
 }
 
 /// What comes meanwhile.
@@ -65,30 +74,35 @@ fn let_answer<R: Threaded>(rt: &R, halt: Halt<'_>, has_answered: &AtomicBool) {
     wait_until(rt, || has_answered.load(Ordering::SeqCst));
 }
 
+// Lets the thread go on while a task waits by this future. Tells whether the task is woken then.
+fn is_task_woken<H: Threaded, F: Future<Output: Drop>>(
+    host: &H,
+    future: F,
+    halt: Halt<'_>,
+    has_answered: &AtomicBool,
+) -> bool
+    requires { F.can_poll future }
+{
+    // A waker wakes its task also as it is dropped, so the future lives until that was looked at.
+    let mut future = future;
+    let task = new_task(host);
+    let waits = is_pending(&task, &mut future);
+    let_answer(host, halt, has_answered);
+    waits && task.is_woken()
+}
+
 // Brings what the thread waits for, and more of it than there is place for, so that a task waits
 // until the thread has gone on. Tells whether that task is woken then.
-fn is_task_woken<H: Threaded, R: Host, A: Allocator + Copy>(
+fn bring_too_much<H: Threaded, R: Host, A: Allocator + Copy>(
     host: &H,
     other: &Either<R, A>,
     halt: Halt<'_>,
     has_answered: &AtomicBool,
 ) -> bool {
     let could = other.help() && other.help();
-    let task = new_task(host);
-    // A waker wakes its task also as it is dropped, so the future lives until that was looked at.
     let is_woken = match other {
-        Either::Sender(tx) => {
-            let mut sending = tx.send(9, 9);
-            let waits = ready(task.poll(&mut sending)).is_none();
-            let_answer(host, halt, has_answered);
-            waits && task.is_woken()
-        }
-        Either::Receiver(rx) => {
-            let mut receiving = rx.recv();
-            let waits = ready(task.poll(&mut receiving)).is_none();
-            let_answer(host, halt, has_answered);
-            waits && task.is_woken()
-        }
+        Either::Sender(tx) => is_task_woken(host, tx.send(9, 9), halt, has_answered),
+        Either::Receiver(rx) => is_task_woken(host, rx.recv(), halt, has_answered),
     };
     could && is_woken
 }
@@ -106,7 +120,7 @@ fn come<H: Threaded, R: Host, A: Allocator + Copy>(
         (Coming::Nothing, _) => true,
         (Coming::Close, _) => other.close(),
         _ if is_for_close(call) => other.close(),
-        (_, Place::First) => return is_task_woken(host, other, halt, has_answered),
+        (_, Place::First) => return bring_too_much(host, other, halt, has_answered),
         (_, Place::Second) => other.help() && other.help(),
     };
     let_answer(host, halt, has_answered);
@@ -125,31 +139,47 @@ where
     R: Host + Sync,
     A: Allocator + Copy + Send + Sync,
 {
-    let (call, place, coming, _) = round;
-    let (blocked, other) = ends;
-    let limit = match halt {
-        Halt::Reading(..) => second(),
-        Halt::Request(_) => long(),
-    };
-    let has_answered = AtomicBool::new(false);
+    let (call, place, ..) = round;
     let (first, (answer, could)) = at(
         host,
         ("what comes as a thread halts", round),
         place,
         (rt, alloc, call),
-        (blocked, other),
-        || {
-            thread::join(
-                host,
-                || {
-                    let answer = blocked.make(rt, alloc, call, limit);
-                    has_answered.store(true, Ordering::SeqCst);
-                    answer
-                },
-                || come(host, round, other, halt, &has_answered),
-            )
-        },
+        (&ends.0, &ends.1),
+        || answer_as_it_comes(host, round, (rt, alloc), ends, halt),
     );
+    let got = (answer, could, first);
+    let (wanted, wanted_first) = wanted_answers(round);
+    expect_equal_at(host, round, got, (wanted, true, wanted_first));
+}
+
+// What the call is told, and whether what was to come could come.
+fn answer_as_it_comes<H, R, A>(
+    host: &H,
+    round: Round,
+    (rt, alloc): (&R, A),
+    ends: &(Either<R, A>, Either<R, A>),
+    halt: Halt<'_>,
+) -> (Answer, bool)
+where
+    H: Threaded,
+    R: Host + Sync,
+    A: Allocator + Copy + Send + Sync,
+{
+    let has_answered = AtomicBool::new(false);
+    thread::join(
+        host,
+        || {
+            let answer = ends.0.make(rt, alloc, round.0, halt.limit());
+            has_answered.store(true, Ordering::SeqCst);
+            answer
+        },
+        || come(host, round, &ends.1, halt, &has_answered),
+    )
+}
+
+// What the call is told, and the one before it.
+fn wanted_answers((call, place, coming, _): Round) -> (Answer, Answer) {
     let wanted = match coming {
         Coming::Early | Coming::Late => done(call),
         Coming::Close => closed(call),
@@ -159,8 +189,7 @@ where
         (Place::Second, Coming::Close) => closed(before(call)),
         _ => done(before(call)),
     };
-    let got = (answer, could, first);
-    expect_equal_at(host, round, got, (wanted, true, wanted_first));
+    (wanted, wanted_first)
 }
 
 // Tells how long it took.

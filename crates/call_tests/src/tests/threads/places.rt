@@ -59,14 +59,11 @@ where
     F: FnOnce() -> B,
     requires { F.pre then }
 {
-    let ((rt, alloc, call), (blocked, other)) = (made, ends);
+    let (blocked, other) = ends;
     beside(
         host,
         what,
-        move || match place {
-            Place::First => done(before(call)),
-            Place::Second => blocked.make(rt, alloc, before(call), long()),
-        },
+        move || wait_before(place, made, blocked),
         move ||
             requires { F.pre then }
         {
@@ -76,4 +73,16 @@ where
             came
         },
     )
+}
+
+fn wait_before<R: Host, A: Allocator + Copy>(
+    place: Place,
+    made: (&R, A, Call),
+    blocked: &Either<R, A>,
+) -> Answer {
+    let (rt, alloc, call) = made;
+    match place {
+        Place::First => done(before(call)),
+        Place::Second => blocked.make(rt, alloc, before(call), long()),
+    }
 }

@@ -5,10 +5,10 @@ use super::watch::{beside, within};
 use super::{Threaded, let_others_wait, wait_until};
 use crate::tests::dice::Dice;
 use crate::tests::driver::all::ALL;
-use crate::tests::driver::calls::{Call, Input, Pairs, Side, Way, is_for_close};
+use crate::tests::driver::calls::{Call, Input, Pairs, Side, is_for_close};
 use crate::tests::driver::receive::receive;
 use crate::tests::driver::reply::{Outcome, Reply};
-use crate::tests::{Host, expect_equal_at, expect_true};
+use crate::tests::{Host, expect_equal_at, expect_true, make_all};
 use async_priority_channel::{Ends, Lease, Receiver, Sender, bounded, unbounded};
 use std::iter::once;
 use std::sync::Wait;
@@ -60,11 +60,7 @@ fn send_all<R: Host>(rt: &R, tx: &Sender<u64, u64, R>) {
 // One thread sends, and the others work.
 fn run_unsteady<R: Threaded>(rt: &R, ends: Ends<u64, u64, R>, capacity: u64) {
     let (tx, rx) = ends;
-    let mut finished = Vec::new(rt.alloc());
-    for _ in 0..MESSAGES {
-        let times = AtomicU64::new(0);
-        finished.push(times).expect(rt, "memory for counts");
-    }
+    let finished = make_all(rt, MESSAGES, || AtomicU64::new(0));
     let told = thread::map_indices(
         rt,
         rt.alloc(),
@@ -114,14 +110,25 @@ fn die<R: Wait + Clone + Clock>(
 ) -> Option<()> {
     let mut strength = 1u32;
     for lease in rx.leases() {
-        if strength == 0 {
-            is_in_hand.store(true, Ordering::SeqCst);
-            let_others_wait(rt);
-        }
-        strength = strength.checked_sub(1)?;
-        lease.finish();
+        strength = finish_with(rt, lease, strength, is_in_hand)?;
     }
     Some(())
+}
+
+// Tells what strength is left.
+fn finish_with<R: Wait + Clone + Clock>(
+    rt: &R,
+    lease: Lease<'_, u64, u64, R>,
+    strength: u32,
+    is_in_hand: &AtomicBool,
+) -> Option<u32> {
+    if strength == 0 {
+        is_in_hand.store(true, Ordering::SeqCst);
+        let_others_wait(rt);
+    }
+    let left = strength.checked_sub(1)?;
+    lease.finish();
+    Some(left)
 }
 
 // Another waits by this call for the message of one that dies, and gets it.

@@ -11,13 +11,13 @@ use crate::tests::driver::calls::{Call, Input, Pair, Pairs, Side, Way, is_choosy
 use crate::tests::driver::receive::receive;
 use crate::tests::driver::reply::{Outcome, Reply};
 use crate::tests::driver::send::send;
-use crate::tests::{Host, expect_equal_at};
+use crate::tests::{Host, expect_equal_at, make_all};
 use async_priority_channel::{
     End, Ends, Receiver, Role, Sender, bounded, bounded_reserved, unbounded,
 };
 use holds::{hold_messages, hold_places};
 use refusing::Refusing;
-use std::alloc::{AllocError, AllocGlobal};
+use std::alloc::{AllocError, AllocGlobal, Allocator};
 use std::env;
 use std::thread::{self, JoinHandle};
 use std::time::{Duration, Instant};
@@ -221,11 +221,7 @@ fn send_all<R: Threaded>(
     for _ in 0..u64::MAX {
         let settled = log.fates.len() as u64;
         if number == 0 && round.close_at.is_some_and(|at| at <= settled) {
-            if round.is_late {
-                tx.close_when_done();
-            } else {
-                tx.close();
-            }
+            close(tx, round);
         }
         let left = round.each.saturating_sub(settled);
         if left == 0 || tx.is_closed() {
@@ -234,15 +230,34 @@ fn send_all<R: Threaded>(
         let first = number.wrapping_mul(round.each).wrapping_add(settled);
         if dice.below(HOLDS) == 0 {
             hold_places(rt, tx, round, (first, left), &mut dice, &mut log);
-            continue;
+        } else {
+            let call = draw_call(&mut dice, &calls);
+            send_drawn(rt, tx, call, (first, left), &mut dice, &mut log);
         }
-        let call = draw_call(&mut dice, &calls);
-        let input = draw_input(&mut dice, first, left);
-        let other = draw_other(&mut dice, tx);
-        let reply = send(rt, other.as_ref().unwrap_or(tx), call, input);
-        log.note(rt, call, input, &reply);
     }
     log
+}
+
+fn close<R: Host>(tx: &Sender<u64, u64, R>, round: Round) {
+    if round.is_late {
+        tx.close_when_done();
+    } else {
+        tx.close();
+    }
+}
+
+fn send_drawn<R: Host>(
+    rt: &R,
+    tx: &Sender<u64, u64, R>,
+    call: Call,
+    msgs: (u64, u64),
+    dice: &mut Dice,
+    log: &mut Log,
+) {
+    let input = draw_input(dice, msgs.0, msgs.1);
+    let other = draw_other(dice, tx);
+    let reply = send(rt, other.as_ref().unwrap_or(tx), call, input);
+    log.note(rt, call, input, &reply);
 }
 
 // Until the channel is closed and all is done. Memory for a batch may be refused.
@@ -252,7 +267,7 @@ fn receive_all<R: Threaded>(
     round: Round,
     mut dice: Dice,
 ) -> Log {
-    let alloc = Refusing::new(rt.alloc());
+    let memory = Refusing::new(rt.alloc());
     let calls = round.calls(rt, Side::Receiver);
     let mut log = Log::new(rt);
     for _ in 0..u64::MAX {
@@ -262,18 +277,32 @@ fn receive_all<R: Threaded>(
         }
         if dice.below(HOLDS) == 0 {
             hold_messages(rt, rx, round, &mut dice, &mut log);
-            continue;
+        } else {
+            let call = draw_call(&mut dice, &calls);
+            let input = draw_input_of_any(&mut dice, round);
+            memory.refuse_nth(dice.below(REQUESTS));
+            let reply = receive_drawn(rt, &memory, rx, (call, input), &mut dice);
+            memory.refuse_none();
+            log.note(rt, call, input, &reply);
         }
-        let call = draw_call(&mut dice, &calls);
-        let any = dice.below(round.count());
-        let input = draw_input(&mut dice, any, MANY);
-        alloc.refuse_nth(dice.below(REQUESTS));
-        let other = draw_other(&mut dice, rx);
-        let reply = receive(rt, &alloc, other.as_ref().unwrap_or(rx), call, input);
-        alloc.refuse_none();
-        log.note(rt, call, input, &reply);
     }
     log
+}
+
+fn draw_input_of_any(dice: &mut Dice, round: Round) -> Input {
+    let any = dice.below(round.count());
+    draw_input(dice, any, MANY)
+}
+
+fn receive_drawn<R: Host, B: Allocator + Copy>(
+    rt: &R,
+    alloc: B,
+    rx: &Receiver<u64, u64, R>,
+    made: (Call, Input),
+    dice: &mut Dice,
+) -> Reply {
+    let other = draw_other(dice, rx);
+    receive(rt, alloc, other.as_ref().unwrap_or(rx), made.0, made.1)
 }
 
 fn open<R: Threaded>(rt: &R, dice: &mut Dice) -> Ends<u64, u64, R> {
@@ -299,18 +328,33 @@ fn start<R: Threaded>(
     for number in 0..round.senders {
         let tx = tx.clone().expect(rt, "a sender");
         let dice = dice.split();
-        let thread = thread::spawn(rt, move || send_all(&host, &tx, round, number, dice));
-        let thread = thread.expect(rt, "a thread");
-        threads.push(thread).expect(rt, "memory");
+        spawn(
+            rt,
+            &mut threads,
+            move || send_all(&host, &tx, round, number, dice),
+        );
     }
     for _ in 0..round.receivers {
         let rx = rx.clone().expect(rt, "a receiver");
         let dice = dice.split();
-        let thread = thread::spawn(rt, move || receive_all(&host, &rx, round, dice));
-        let thread = thread.expect(rt, "a thread");
-        threads.push(thread).expect(rt, "memory");
+        spawn(
+            rt,
+            &mut threads,
+            move || receive_all(&host, &rx, round, dice),
+        );
     }
     threads
+}
+
+fn spawn<R: Threaded, F: FnOnce() -> Log + Send + Drop + 'static>(
+    rt: &R,
+    threads: &mut Vec<JoinHandle<Log>>,
+    run: F,
+)
+    requires { F.pre run }
+{
+    let thread = thread::spawn(rt, run).expect(rt, "a thread");
+    threads.push(thread).expect(rt, "memory");
 }
 
 fn join_all<R: Threaded>(rt: &R, threads: Vec<JoinHandle<Log>>) -> Vec<Log> {
@@ -354,10 +398,7 @@ fn settle<R: Host>(rt: &R, round: Round, logs: &[Log]) {
 
 // How often each message came, of those that were sent or could have been.
 fn count_times<R: Host>(rt: &R, round: Round, logs: &[Log]) -> Vec<u64> {
-    let mut times = Vec::new(rt.alloc());
-    for _ in 0..round.count() {
-        times.push(0u64).expect(rt, "memory for a count");
-    }
+    let mut times = make_all(rt, round.count(), || 0u64);
     for log in logs {
         for pair in log.came.iter().chain(log.chosen.iter()) {
             let is_own = round.changes || pair.1 == round.priority(pair.0);
@@ -374,10 +415,7 @@ fn count_times<R: Host>(rt: &R, round: Round, logs: &[Log]) -> Vec<u64> {
 
 // Whatever other threads receive, those of one sender and one priority come as they were sent.
 fn expect_order<R: Host>(rt: &R, round: Round, came: &[Pair]) {
-    let mut latest = Vec::new(rt.alloc());
-    for _ in 0..round.senders.saturating_mul(PRIORITIES) {
-        latest.push(0u64).expect(rt, "memory for the latest");
-    }
+    let mut latest = make_all(rt, round.senders.saturating_mul(PRIORITIES), || 0u64);
     for (msg, priority) in came {
         let sender = round.sender(*msg);
         let kind = sender.saturating_mul(PRIORITIES).saturating_add(*priority);

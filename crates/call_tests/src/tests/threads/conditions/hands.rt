@@ -51,8 +51,25 @@ impl<'a, R: Wait + Clone, A: Allocator + Copy> Hands<'a, R, A> {
     pub fn take(&mut self, rt: &impl Host, step: Step) {
         let could = match step {
             Step::Nothing => true,
+            Step::Send(..) | Step::Receive => self.pass(step),
+            Step::TakeOut(_) | Step::Retain(_) | Step::Change(..) => self.choose(step),
+            Step::Lease | Step::Reserve => self.hold(step),
+            Step::Close | Step::CloseWhenDone => self.close(step),
+            _ => self.let_go(step),
+        };
+        expect_true(rt, could, "the step could be taken");
+    }
+
+    fn pass(&self, step: Step) -> bool {
+        match step {
             Step::Send(msg, priority) => self.tx.try_send(msg, priority).is_ok(),
-            Step::Receive => self.rx.try_recv().is_ok(),
+            _receive => self.rx.try_recv().is_ok(),
+        }
+    }
+
+    // Tells whether there was such a message, and of `retain` that it was one.
+    fn choose(&self, step: Step) -> bool {
+        match step {
             Step::TakeOut(chosen) => self.tx.take_where(|msg, _| *msg == chosen).is_some(),
             Step::Retain(chosen) => match self.rx.retain(|msg, _| *msg != chosen) {
                 Ok(taken) => taken.len() == 1,
@@ -62,37 +79,63 @@ impl<'a, R: Wait + Clone, A: Allocator + Copy> Hands<'a, R, A> {
                 let was = self.tx.change_priority(|msg, _| *msg == chosen, priority);
                 was.is_some()
             }
-            Step::Lease => {
-                self.lease = self.rx.try_lease().ok();
-                self.lease.is_some()
-            }
-            Step::Reserve => {
-                self.permit = self.tx.try_reserve().ok();
-                self.permit.is_some()
-            }
-            Step::Close => self.rx.close(),
-            Step::CloseWhenDone => {
-                self.tx.close_when_done();
-                true
-            }
-            _ => self.let_go(step),
-        };
-        expect_true(rt, could, "the step could be taken");
+            _ => false,
+        }
     }
 
-    // Ends a hold. Tells whether there was one.
-    fn let_go(&mut self, step: Step) -> bool {
-        let (lease, permit) = (self.lease.take(), self.permit.take());
-        match (step, lease, permit) {
-            (Step::DropLease, Some(lease), _) => drop(lease),
-            (Step::PutBack(priority), Some(lease), _) => lease.put_back(priority),
-            (Step::Finish, Some(lease), _) => {
-                lease.finish();
-            }
-            (Step::Fill(msg, priority), _, Some(permit)) => permit.send(msg, priority),
-            (Step::Free, _, Some(permit)) => drop(permit),
-            _ => return false,
+    fn hold(&mut self, step: Step) -> bool {
+        if let Step::Lease = step {
+            self.lease = self.rx.try_lease().ok();
+            self.lease.is_some()
+        } else {
+            self.permit = self.tx.try_reserve().ok();
+            self.permit.is_some()
         }
+    }
+
+    fn close(&self, step: Step) -> bool {
+        if let Step::Close = step {
+            return self.rx.close();
+        }
+        self.tx.close_when_done();
         true
     }
+
+    // Ends the hold. Tells whether there was one of that kind.
+    fn let_go(&mut self, step: Step) -> bool {
+        if let Some(lease) = self.lease.take() {
+            end_lease(lease, step)
+        } else if let Some(permit) = self.permit.take() {
+            end_permit(permit, step)
+        } else {
+            false
+        }
+    }
+}
+
+fn end_lease<R: Wait + Clone, A: Allocator + Copy>(
+    lease: Lease<'_, u64, u64, R, A>,
+    step: Step,
+) -> bool {
+    match step {
+        Step::DropLease => drop(lease),
+        Step::PutBack(priority) => lease.put_back(priority),
+        Step::Finish => {
+            lease.finish();
+        }
+        _ => return false,
+    }
+    true
+}
+
+fn end_permit<R: Wait + Clone, A: Allocator + Copy>(
+    permit: Permit<'_, u64, u64, R, A>,
+    step: Step,
+) -> bool {
+    match step {
+        Step::Fill(msg, priority) => permit.send(msg, priority),
+        Step::Free => drop(permit),
+        _ => return false,
+    }
+    true
 }

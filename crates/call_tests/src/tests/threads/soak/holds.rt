@@ -61,14 +61,7 @@ pub fn hold_places<R: Host>(
     log: &mut Log,
 ) {
     let (first, left) = msgs;
-    let mut permits = Vec::new(rt.alloc());
-    for _ in 0..round.most_held(dice).min(left) {
-        let Some(permit) = round.reserve(tx) else {
-            break
-        };
-        permits.push(permit).expect(rt, "memory for permits");
-        expect_counted(rt, round, tx, permits.len());
-    }
+    let permits = reserve_some(rt, tx, round, round.most_held(dice).min(left));
     thread::yield_now();
     let mut msg = first;
     for permit in permits {
@@ -82,6 +75,23 @@ pub fn hold_places<R: Host>(
     }
 }
 
+fn reserve_some<'a, R: Host>(
+    rt: &R,
+    tx: &'a Sender<u64, u64, R>,
+    round: Round,
+    most: u64,
+) -> Vec<Permit<'a, u64, u64, R>> {
+    let mut permits = Vec::new(rt.alloc());
+    for _ in 0..most {
+        let Some(permit) = round.reserve(tx) else {
+            break
+        };
+        permits.push(permit).expect(rt, "memory for permits");
+        expect_counted(rt, round, tx, permits.len());
+    }
+    permits
+}
+
 /// Holds messages in hand, and finishes them or puts some back.
 pub fn hold_messages<R: Host>(
     rt: &R,
@@ -90,12 +100,7 @@ pub fn hold_messages<R: Host>(
     dice: &mut Dice,
     log: &mut Log,
 ) {
-    let mut leases = Vec::new(rt.alloc());
-    for _ in 0..round.most_held(dice) {
-        let Some(lease) = round.lease(rx) else { break };
-        leases.push(lease).expect(rt, "memory for leases");
-        expect_counted(rt, round, rx, leases.len());
-    }
+    let leases = lease_some(rt, rx, round, round.most_held(dice));
     thread::yield_now();
     for lease in leases {
         match dice.below(3) {
@@ -104,4 +109,19 @@ pub fn hold_messages<R: Host>(
             _ => log.came.push(lease.finish()).expect(rt, "memory for a log"),
         }
     }
+}
+
+fn lease_some<'a, R: Host>(
+    rt: &R,
+    rx: &'a Receiver<u64, u64, R>,
+    round: Round,
+    most: u64,
+) -> Vec<Lease<'a, u64, u64, R>> {
+    let mut leases = Vec::new(rt.alloc());
+    for _ in 0..most {
+        let Some(lease) = round.lease(rx) else { break };
+        leases.push(lease).expect(rt, "memory for leases");
+        expect_counted(rt, round, rx, leases.len());
+    }
+    leases
 }
