@@ -1,5 +1,5 @@
 -- The items that a bag keeps.
-use Rattle.std.proofs.Common.{◌≡◌, ℕ, ◌+◌, ◌<◌, ◌≤◌, Bool, true, false, List, [], ◌∷◌, ◌++◌, length, get_or, map, take, drop, refl, sym, ap, subst, ◌∙◌, arith, IsPermutation, is_lt, is_gt, ◌⊎◌, inl, inr}
+use Rattle.std.proofs.Common.{◌≡◌, ℕ, ◌+◌, ◌<◌, ◌≤◌, Bool, true, false, List, [], ◌∷◌, ◌++◌, length, length-append, length-drop, get_or, map, take, drop, refl, sym, ap, subst, ◌∙◌, arith, IsPermutation, is_lt, is_gt, ◌⊎◌, inl, inr}
 use Rattle.std.proofs.lemmas.Bool.{cases_Bool}
 use Rattle.std.proofs.lemmas.Bool.Decides.{nat_tests}
 use Rattle.std.proofs.lemmas.List.{length-map, map-append, nil_from_length}
@@ -242,8 +242,15 @@ pub less_from_test : (a : Ordering) → is_lt a ≡ true → a ≡ Less
 less_from_test a e = grind arith
 
 -- the contents of a vector after a slice of the whole of it was written
-pub written_back : {X : Type 0} (xs old : List X) (n : ℕ) → n ≡ length xs → take n (xs ++ drop (length xs) old) ≡ xs
+written_back : {X : Type 0} (xs old : List X) (n : ℕ) → n ≡ length xs → take n (xs ++ drop (length xs) old) ≡ xs
 written_back xs old n e = rw e (take-append_seam xs (drop (length xs) old))
 
 pub arranged_back : {X : Type 0} (ys zs old : List X) (n : ℕ) → IsPermutation ys zs → length ys ≡ n → take n (zs ++ drop (length zs) old) ≡ zs
 arranged_back ys zs old n moves long = written_back zs old n (sym (length_permutation ys zs moves ∙ long))
+
+-- the same after its first k were written
+pub part_written : {X : Type 0} (ys old : List X) (n k : ℕ) → n ≡ length old → length ys ≡ k → k ≤ n
+    → take n ((ys ++ drop (length ys) old) ++ drop (length (ys ++ drop (length ys) old)) old) ≡ ys ++ drop k old
+part_written ys old n k whole long le =
+    written_back (ys ++ drop (length ys) old) old n (omega (arith, length-append ys (drop (length ys) old), length-drop (length ys) old))
+    ∙ ap (λ m. ys ++ drop m old) long

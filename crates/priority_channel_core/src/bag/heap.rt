@@ -13,105 +13,126 @@ use crate::item::Item;
 use std::alloc::Allocator;
 use std::mem;
 
-/// Adds an item, for which there is a slot.
-#[inline(always)]
-pub(crate) fn push<T, P: Ord, A: Allocator>(
-    items: &mut Vec<Item<T, P>, A>,
-    comparisons: &mut Comparisons,
-    has_two_ends: bool,
-    item: Item<T, P>,
-)
-    requires { length items.old.items < vec_capacity items.old }
-    ensures moves { IsPermutation (items.old.items ++ item ∷ []) items.new.items }
-    ensures order { IsOrdered (item_cmp P.cmp) has_two_ends items.old.items
-        → IsOrdered (item_cmp P.cmp) has_two_ends items.new.items }
-    ensures slots { vec_capacity items.new ≡ vec_capacity items.old }
-    ensures cost { comparisons.new.count
-        ≤ comparisons.old.count + digits (length items.new.items) }
-{
-    items.push_reserved(item);
-    settle(items.as_mut_slice(), comparisons, has_two_ends);
+/// The items of a bag, and the count of all comparisons.
+#[derive(Drop)]
+pub(crate) struct Heap<T, P: Ord, A: Allocator> {
+    pub items: Vec<Item<T, P>, A>,
+    pub comparisons: Comparisons,
+    // Whether the items are an interval heap. Otherwise they are a binary heap.
+    pub has_two_ends: bool,
 }
 
-/// Takes out the item at `at`.
-#[inline(always)]
-pub(crate) fn remove<T, P: Ord, A: Allocator>(
-    items: &mut Vec<Item<T, P>, A>,
-    comparisons: &mut Comparisons,
-    has_two_ends: bool,
-    at: usize,
-) -> Item<T, P>
-    requires { at < length items.old.items }
-    ensures item { result ≡ slice_index_or items.old.items at result }
-    ensures moves { IsPermutation items.old.items (result ∷ items.new.items) }
-    ensures order { IsOrdered (item_cmp P.cmp) has_two_ends items.old.items
-        → IsOrdered (item_cmp P.cmp) has_two_ends items.new.items }
-    ensures slots { vec_capacity items.new ≡ vec_capacity items.old }
-    ensures cost { comparisons.new.count
-        ≤ comparisons.old.count + 2 * digits (length items.old.items) }
-{
-    let item = items.swap_remove(at);
-    mend(items.as_mut_slice(), comparisons, has_two_ends, at);
-    item
-}
+impl<T, P: Ord, A: Allocator> Heap<T, P, A> {
+    /// Adds an item, for which there is a slot.
+    #[inline(always)]
+    pub(crate) fn push(&mut self, item: Item<T, P>)
+        requires { length self.old.items.items < vec_capacity self.old.items }
+        ensures moves { IsPermutation (self.old.items.items ++ item ∷ []) self.new.items.items }
+        ensures order { IsOrdered (item_cmp P.cmp) self.old.has_two_ends self.old.items.items
+            → IsOrdered (item_cmp P.cmp) self.new.has_two_ends self.new.items.items }
+        ensures slots { vec_capacity self.new.items ≡ vec_capacity self.old.items }
+        ensures ends { self.new.has_two_ends ≡ self.old.has_two_ends }
+        ensures cost { self.new.comparisons.count
+            ≤ self.old.comparisons.count + digits (length self.new.items.items) }
+    {
+        self.items.push_reserved(item);
+        let items = self.items.as_mut_slice();
+        settle(items, &mut self.comparisons, self.has_two_ends);
+    }
 
-/// Puts an item in the place of the item at `at`, and returns the latter.
-pub(crate) fn replace<T, P: Ord>(
-    items: &mut [Item<T, P>],
-    comparisons: &mut Comparisons,
-    has_two_ends: bool,
-    at: usize,
-    item: Item<T, P>,
-) -> Item<T, P>
-    requires { at < length items.old }
-    ensures item { result ≡ slice_index_or items.old at result }
-    ensures moves { (others : List (Item T P)) × IsPermutation items.old (result ∷ others)
-        × IsPermutation (others ++ item ∷ []) items.new }
-    ensures order { IsOrdered (item_cmp P.cmp) has_two_ends items.old
-        → IsOrdered (item_cmp P.cmp) has_two_ends items.new }
-    ensures cost { comparisons.new.count ≤ comparisons.old.count + 2 * digits (length items.old) }
-{
-    let out = mem::replace(&mut items[at], item);
-    mend(items, comparisons, has_two_ends, at);
-    out
-}
+    /// Takes out the item at `at`.
+    #[inline(always)]
+    pub(crate) fn remove(&mut self, at: usize) -> Item<T, P>
+        requires { at < length self.old.items.items }
+        ensures item { result ≡ slice_index_or self.old.items.items at result }
+        ensures moves { IsPermutation self.old.items.items (result ∷ self.new.items.items) }
+        ensures order { IsOrdered (item_cmp P.cmp) self.old.has_two_ends self.old.items.items
+            → IsOrdered (item_cmp P.cmp) self.new.has_two_ends self.new.items.items }
+        ensures slots { vec_capacity self.new.items ≡ vec_capacity self.old.items }
+        ensures ends { self.new.has_two_ends ≡ self.old.has_two_ends }
+        ensures cost { self.new.comparisons.count
+            ≤ self.old.comparisons.count + 2 * digits (length self.old.items.items) }
+    {
+        let item = self.items.swap_remove(at);
+        self.mend(at);
+        item
+    }
 
-/// Gives the item at `at` another priority, and returns the one that it had.
-pub(crate) fn replace_priority<T, P: Ord>(
-    items: &mut [Item<T, P>],
-    comparisons: &mut Comparisons,
-    has_two_ends: bool,
-    at: usize,
-    priority: P,
-) -> P
-    requires { at < length items.old }
-    ensures moves { (item : Item T P) × (others : List (Item T P))
-        × (item ≡ slice_index_or items.old at item) × (result ≡ item.priority)
-        × IsPermutation items.old (item ∷ others)
-        × IsPermutation (others ++ record item { priority = priority } ∷ []) items.new }
-    ensures order { IsOrdered (item_cmp P.cmp) has_two_ends items.old
-        → IsOrdered (item_cmp P.cmp) has_two_ends items.new }
-    ensures cost { comparisons.new.count ≤ comparisons.old.count + 2 * digits (length items.old) }
-{
-    let item = &mut items[at];
-    let was = mem::replace(&mut item.priority, priority);
-    mend(items, comparisons, has_two_ends, at);
-    was
-}
+    /// Puts an item in the place of the item at `at`, and returns the latter.
+    pub(crate) fn replace(&mut self, at: usize, item: Item<T, P>) -> Item<T, P>
+        requires { at < length self.old.items.items }
+        ensures item { result ≡ slice_index_or self.old.items.items at result }
+        ensures moves { (others : List (Item T P))
+            × IsPermutation self.old.items.items (result ∷ others)
+            × IsPermutation (others ++ item ∷ []) self.new.items.items }
+        ensures order { IsOrdered (item_cmp P.cmp) self.old.has_two_ends self.old.items.items
+            → IsOrdered (item_cmp P.cmp) self.new.has_two_ends self.new.items.items }
+        ensures slots { vec_capacity self.new.items ≡ vec_capacity self.old.items }
+        ensures ends { self.new.has_two_ends ≡ self.old.has_two_ends }
+        ensures cost { self.new.comparisons.count
+            ≤ self.old.comparisons.count + 2 * digits (length self.old.items.items) }
+    {
+        let out = mem::replace(&mut self.items[at], item);
+        self.mend(at);
+        out
+    }
 
-/// Makes a heap of any items.
-pub(crate) fn arrange<T, P: Ord>(
-    items: &mut [Item<T, P>],
-    comparisons: &mut Comparisons,
-    has_two_ends: bool,
-)
-    ensures moves { IsPermutation items.old items.new }
-    ensures order { IsOrdered (item_cmp P.cmp) has_two_ends items.new }
-    ensures cost { comparisons.new.count
-        ≤ comparisons.old.count + length items.old * digits (length items.old) }
-{
-    for last in 0..items.len() {
-        settle(&mut items[..=last], comparisons, has_two_ends);
+    /// Gives the item at `at` another priority, and returns the one that it had.
+    pub(crate) fn replace_priority(&mut self, at: usize, priority: P) -> P
+        requires { at < length self.old.items.items }
+        ensures moves { (item : Item T P) × (others : List (Item T P))
+            × (item ≡ slice_index_or self.old.items.items at item) × (result ≡ item.priority)
+            × IsPermutation self.old.items.items (item ∷ others)
+            × IsPermutation (others ++ record item { priority = priority } ∷ [])
+            self.new.items.items }
+        ensures order { IsOrdered (item_cmp P.cmp) self.old.has_two_ends self.old.items.items
+            → IsOrdered (item_cmp P.cmp) self.new.has_two_ends self.new.items.items }
+        ensures slots { vec_capacity self.new.items ≡ vec_capacity self.old.items }
+        ensures ends { self.new.has_two_ends ≡ self.old.has_two_ends }
+        ensures cost { self.new.comparisons.count
+            ≤ self.old.comparisons.count + 2 * digits (length self.old.items.items) }
+    {
+        let item = &mut self.items[at];
+        let was = mem::replace(&mut item.priority, priority);
+        self.mend(at);
+        was
+    }
+
+    /// Makes a heap of any items.
+    pub(crate) fn arrange(&mut self)
+        ensures moves { IsPermutation self.old.items.items self.new.items.items }
+        ensures order { IsOrdered (item_cmp P.cmp) self.new.has_two_ends self.new.items.items }
+        ensures slots { vec_capacity self.new.items ≡ vec_capacity self.old.items }
+        ensures ends { self.new.has_two_ends ≡ self.old.has_two_ends }
+        ensures cost { self.new.comparisons.count ≤ self.old.comparisons.count
+            + length self.old.items.items * digits (length self.old.items.items) }
+    {
+        for last in 0..self.items.len() {
+            let items = self.items.slice_mut(..=last);
+            settle(items, &mut self.comparisons, self.has_two_ends);
+        }
+    }
+
+    // Makes a heap of items that were a heap before another item came in at `at`. If there is no
+    // place `at`, the items stay as they are.
+    #[inline(always)]
+    fn mend(&mut self, at: usize)
+        ensures moves { IsPermutation self.old.items.items self.new.items.items }
+        ensures order { MendsAt (item_cmp P.cmp) self.old.has_two_ends at
+            self.old.items.items self.new.items.items }
+        ensures slots { vec_capacity self.new.items ≡ vec_capacity self.old.items }
+        ensures ends { self.new.has_two_ends ≡ self.old.has_two_ends }
+        ensures cost { self.new.comparisons.count
+            ≤ self.old.comparisons.count + 2 * digits (length self.old.items.items) }
+    {
+        if self.items.len() <= at {
+            return;
+        }
+        if self.has_two_ends {
+            interval_heap::mend(self.items.as_mut_slice(), &mut self.comparisons, at);
+        } else {
+            sink(self.items.as_mut_slice(), &mut self.comparisons, at);
+        }
     }
 }
 
@@ -129,28 +150,5 @@ fn settle<T, P: Ord>(items: &mut [Item<T, P>], comparisons: &mut Comparisons, ha
     } else {
         let last = items.len() - 1;
         rise(items, comparisons, last);
-    }
-}
-
-// Makes a heap of items that were a heap before another item came in at `at`. If there is no place
-// `at`, the items stay as they are.
-#[inline(always)]
-fn mend<T, P: Ord>(
-    items: &mut [Item<T, P>],
-    comparisons: &mut Comparisons,
-    has_two_ends: bool,
-    at: usize,
-)
-    ensures moves { IsPermutation items.old items.new }
-    ensures order { MendsAt (item_cmp P.cmp) has_two_ends at items.old items.new }
-    ensures cost { comparisons.new.count ≤ comparisons.old.count + 2 * digits (length items.old) }
-{
-    if items.len() <= at {
-        return;
-    }
-    if has_two_ends {
-        interval_heap::mend(items, comparisons, at);
-    } else {
-        sink(items, comparisons, at);
     }
 }

@@ -8,13 +8,13 @@ pub invariant_of-self : goal.invariant_of-self
 invariant_of-self g c =
     let was = c.self.invariant in
     let r = c.remove-msg in
-    kept_without g.met.P.Ord.total c.self.inside.items.items r.new.items.items r.result was.apart r.ensures.moves _ was.numbered c.self.inside.has_two_ends (r.ensures.order was.order)
+    kept_without g.met.P.Ord.total c.self.inside.heap.items.items r.new.self.items.items r.result was.apart r.ensures.moves _ was.numbered r.new.self.has_two_ends (r.ensures.order was.order)
 
 pub returns-clause-taken : goal.returns-clause-taken
 returns-clause-taken g c =
     let was = c.self.invariant in
     let r = c.remove-msg in
-    let xs = c.self.inside.items.items in
+    let xs = c.self.inside.heap.items.items in
     rw (← c.self.view_is)
-    (takes_greatest g.met.P.Ord.total xs r.new.items.items r.result was.apart r.ensures.moves
-    (greatest_first (item_cmp g.P.Ord.cmp) (item_total g.met.P.Ord.total) c.self.inside.has_two_ends xs r.result r.ensures.item was.order))
+    (takes_greatest g.met.P.Ord.total xs r.new.self.items.items r.result was.apart r.ensures.moves
+    (greatest_first (item_cmp g.P.Ord.cmp) (item_total g.met.P.Ord.total) c.self.inside.heap.has_two_ends xs r.result r.ensures.item was.order))

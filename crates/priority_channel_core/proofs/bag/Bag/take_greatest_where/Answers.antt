@@ -7,7 +7,7 @@ use Rattle.priority_channel_core.proofs.bag.Bag.take_greatest_where.Goals as goa
 
 pub returns-in_err-at-clause-none : goal.returns-in_err-at-clause-none
 returns-in_err-at-clause-none g c =
-    let xs = c.self.inside.items.items in
+    let xs = c.self.inside.heap.items.items in
     let each : All (λ pair. Tells g.F.Fn c.args.test.now pair false) c.args.self.now.pending =
     rw (← c.self.view_is) (of_pairs (λ pair. Tells g.F.Fn c.args.test.now pair false) xs
     (λ k d p. subst (λ (l : List (Item g.row.T.Denot g.row.P.Denot)). Tells g.F.Fn c.args.test.now (pair_of (get_or l k d)) false) c.as_slice.ensures.value
@@ -18,13 +18,13 @@ pub invariant_of-self-2 : goal.invariant_of-self-2
 invariant_of-self-2 g c =
     let was = c.self.invariant in
     let r = c.remove-msg in
-    kept_without g.met.P.Ord.total c.self.inside.items.items r.new.items.items r.result was.apart r.ensures.moves _ was.numbered c.self.inside.has_two_ends (r.ensures.order was.order)
+    kept_without g.met.P.Ord.total c.self.inside.heap.items.items r.new.self.items.items r.result was.apart r.ensures.moves _ was.numbered r.new.self.has_two_ends (r.ensures.order was.order)
 
 pub returns-clause-taken : goal.returns-clause-taken
 returns-clause-taken g c =
     let was = c.self.invariant in
     let r = c.remove-msg in
-    let xs = c.self.inside.items.items in
+    let xs = c.self.inside.heap.items.items in
     let at = c.in_ok-at.at in
     let passes : g.row.T.Denot × g.row.P.Denot → Type 0 = (λ pair. Tells g.F.Fn c.args.test.now pair true) in
     let fails : g.row.T.Denot × g.row.P.Denot → Type 0 = (λ pair. Tells g.F.Fn c.args.test.now pair false) in
@@ -40,6 +40,6 @@ returns-clause-taken g c =
     let here = r.ensures.item ∙ get_or_default xs at r.result d within in
     others k d p (subst (λ x. is_gt (item_cmp g.P.Ord.cmp (get_or xs k d) x) ≡ true) here above)) in
     rw (← c.self.view_is) (
-      takes_one g.met.P.Ord.total xs r.new.items.items r.result was.apart r.ensures.moves,
-      passes_greatest g.met.P.Ord.total xs r.new.items.items r.result was.apart r.ensures.moves passes fails passed (recursion_from_All _ xs tested),
+      takes_one g.met.P.Ord.total xs r.new.self.items.items r.result was.apart r.ensures.moves,
+      passes_greatest g.met.P.Ord.total xs r.new.self.items.items r.result was.apart r.ensures.moves passes fails passed (recursion_from_All _ xs tested),
     )

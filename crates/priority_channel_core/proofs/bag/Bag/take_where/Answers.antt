@@ -5,7 +5,7 @@ use Rattle.priority_channel_core.proofs.bag.Bag.take_where.Goals as goal
 
 pub returns-in_err-at-clause-none : goal.returns-in_err-at-clause-none
 returns-in_err-at-clause-none g c =
-    let xs = c.self.inside.items.items in
+    let xs = c.self.inside.heap.items.items in
     let each : All (λ pair. Tells g.F.Fn c.args.test.now pair false) c.args.self.now.pending =
     rw (← c.self.view_is) (of_pairs (λ pair. Tells g.F.Fn c.args.test.now pair false) xs
     (λ k d p. subst (λ (l : List (Item g.row.T.Denot g.row.P.Denot)). Tells g.F.Fn c.args.test.now (pair_of (get_or l k d)) false) c.as_slice.ensures.value
@@ -16,14 +16,14 @@ pub invariant_of-self : goal.invariant_of-self
 invariant_of-self g c =
     let was = c.self.invariant in
     let r = c.remove-msg in
-    kept_without g.met.P.Ord.total c.self.inside.items.items r.new.items.items r.result was.apart r.ensures.moves _ was.numbered c.self.inside.has_two_ends (r.ensures.order was.order)
+    kept_without g.met.P.Ord.total c.self.inside.heap.items.items r.new.self.items.items r.result was.apart r.ensures.moves _ was.numbered r.new.self.has_two_ends (r.ensures.order was.order)
 
 pub returns-clause-taken : goal.returns-clause-taken
 returns-clause-taken g c =
     let was = c.self.invariant in
     let r = c.remove-msg in
     rw (← c.self.view_is)
-    (takes_one g.met.P.Ord.total c.self.inside.items.items r.new.items.items r.result was.apart r.ensures.moves)
+    (takes_one g.met.P.Ord.total c.self.inside.heap.items.items r.new.self.items.items r.result was.apart r.ensures.moves)
 
 pub returns-clause-meets : goal.returns-clause-meets
 returns-clause-meets g c =
