@@ -1,4 +1,4 @@
-use Rattle.std.proofs.Common.{ℕ, ◌<◌, List, length, true, false, get_or, arith, sym, ap, subst, ◌∙◌, All}
+use Rattle.std.proofs.Common.{rules, ℕ, ◌<◌, List, length, true, false, get_or, arith, sym, ap, subst, ◌∙◌, All}
 use Rattle.std.proofs.lemmas.List.{get_or_default}
 use Rattle.priority_channel_core.specs.bag.Prelude.{Item, in_order_of_numbers, pair_of, Tells}
 use Rattle.priority_channel_core.proofs.items.Changed.{kept_changed, changes_first}
@@ -33,3 +33,6 @@ returns-clause-changed g c =
     (changes_first xs r.new.self.items.items others x c.args.priority c.self.invariant.apart out moves (λ pair. Tells g.F.Fn c.args.test.now pair true) (λ pair. Tells g.F.Fn c.args.test.now pair false)
     (subst (λ i. Tells g.F.Fn c.args.test.now (pair_of i) true) (sym at) passed)
     (λ k d p lt. let same_item = ap (λ i. i.number) (at ∙ get_or_default xs found x d within) in failed k d p (omega arith)))
+
+pub returns-clause-counted : goal.returns-clause-counted
+returns-clause-counted g c = search rules

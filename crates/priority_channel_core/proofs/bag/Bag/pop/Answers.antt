@@ -1,6 +1,6 @@
 use Rattle.priority_channel_core.specs.bag.Prelude.{item_cmp}
 use Rattle.priority_channel_core.proofs.items.ItemOrder.{item_total}
-use Rattle.priority_channel_core.proofs.items.Kept.{kept_without, takes_greatest}
+use Rattle.priority_channel_core.proofs.items.Kept.{kept_without, length_in_order, takes_greatest}
 use Rattle.priority_channel_core.proofs.items.Ordered.{greatest_first}
 use Rattle.priority_channel_core.proofs.bag.Bag.pop.Goals as goal
 
@@ -18,3 +18,6 @@ returns-clause-taken g c =
     rw (← c.self.view_is)
     (takes_greatest g.met.P.Ord.total xs r.new.self.items.items r.result was.apart r.ensures.moves
     (greatest_first (item_cmp g.P.Ord.cmp) (item_total g.met.P.Ord.total) c.self.inside.heap.has_two_ends xs r.result r.ensures.item was.order))
+
+pub returns-clause-cost : goal.returns-clause-cost
+returns-clause-cost g c = rw (← c.self.view_is, length_in_order) c.remove-msg.ensures.cost
