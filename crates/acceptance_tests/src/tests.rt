@@ -26,13 +26,12 @@ mod wakers;
 mod watch;
 mod word;
 
-/// What a test asks of its runtime that waits. A function asks for no more than it needs, since
-/// each bound makes its proof dearer.
+/// What a test that waits asks of its runtime. A function asks for no more than it needs.
 trait Host: Abort + Wait + RandomSource + AllocGlobal {}
 
 impl<R: Abort + Wait + RandomSource + AllocGlobal> Host for R {}
 
-/// The same of a test that starts threads.
+/// What a test that starts threads asks of it.
 trait ThreadHost: Host + Threads + Clock + Clone + Send + Sync {}
 
 impl<R: Host + Threads + Clock + Clone + Send + Sync> ThreadHost for R {}

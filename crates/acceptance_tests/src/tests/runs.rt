@@ -31,8 +31,7 @@ fn bulk<R: Abort + AllocGlobal>(rt: &R, pairs: &[Pair]) -> Pairs {
     msgs.into_iter().peekable()
 }
 
-// Calls are listed by this, since an array of them, as `vec!` makes one, is dear to prove. It does
-// not name their type for the same reason.
+// Calls are listed by this, since an array of them, as `vec!` makes one, is dear to prove.
 fn add<T, A: Allocator>(rt: &impl Abort, calls: &mut Vec<T, A>, call: T)
     ensures { calls.new.items ≡ calls.old.items ++ call ∷ [] }
 {
