@@ -1,7 +1,8 @@
 //! The examples of the library's documentation run, and are true.
 //!
-//! The gate runs no doc comment. `tools/examples --write` makes a test of each, and
-//! `tools/examples` compares the tests with the doc comments. This file has what the examples name.
+//! The gate runs no doc comment. `tools/examples --write` makes a test of each, in which messages
+//! that are texts are numbers, and `tools/examples` compares the tests with the doc comments. This
+//! file has what the examples name.
 use super::{expect_equal, wait_for};
 use async_priority_channel::{
     Due, Ends, RecvError, RecvFault, RecvTimeoutError, SendTimeoutError, Sender, TryRecvError,
