@@ -4,8 +4,9 @@
 //! behind ` = ` stands its answer. A line without it answers nothing, as `bounded 2` does, which
 //! makes a channel.
 //!
-//! - `(Foo,0)` is the message `Foo` of priority 0. `100 times (a,0)` is as many of it, and a line
-//!   that begins with `20 times` makes its call as often.
+//! - `(Foo,0)` is the message `Foo` of priority 0. In the channel it is the number of its
+//!   submission, which tells it from its equals. `100 times (a,0)` is as many of it, and a line that
+//!   begins with `20 times` makes its call as often.
 //! - `tx len` asks a sender, and `rx len` a receiver. On the core `len` is enough.
 //! - `tx is_printed`: whether `{:?}` prints anything of it.
 //! - `send` and `recv` are `try_send` and `try_recv`, or futures that are waited for.
