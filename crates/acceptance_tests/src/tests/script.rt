@@ -4,9 +4,8 @@
 //! behind ` = ` stands its answer. A line without it answers nothing, as `bounded 2` does, which
 //! makes a channel.
 //!
-//! - `(Foo,0)` is the message `Foo` of priority 0. In the channel it is the number of its
-//!   submission, which tells it from its equals. `100 times (a,0)` is as many of it, and a line that
-//!   begins with `20 times` makes its call as often.
+//! - `(Foo,0)` is the message `Foo` of priority 0. `100 times (a,0)` is as many of it, and a line
+//!   that begins with `20 times` makes its call as often.
 //! - `tx len` asks a sender, and `rx len` a receiver. On the core `len` is enough.
 //! - `tx is_printed`: whether `{:?}` prints anything of it.
 //! - `send` and `recv` are `try_send` and `try_recv`, or futures that are waited for.
@@ -36,7 +35,7 @@ pub use answers::told;
 use asking::Asking;
 use on_core::CoreStage;
 use on_handles::{HandleStage, Way};
-use words::{Text, split, times};
+use words::{Message, Text, split, times};
 
 /// What a script is played on.
 #[derive(Clone, Copy)]
@@ -48,12 +47,12 @@ pub enum Ground {
 }
 
 #[derive(Drop)]
-enum Stage<'a, W: Wait + Clone, A: Allocator + Copy> {
-    Core(CoreStage<A>),
-    Handles(HandleStage<'a, W, A>),
+enum Stage<'a, T: Message, W: Wait + Clone, A: Allocator + Copy> {
+    Core(CoreStage<T, A>),
+    Handles(HandleStage<'a, T, W, A>),
 }
 
-impl<'a, W: Wait + Clone, A: Allocator + Copy> Stage<'a, W, A> {
+impl<'a, T: Message, W: Wait + Clone, A: Allocator + Copy> Stage<'a, T, W, A> {
     fn new<R: Host>(rt: &R, (permission, alloc): (&'a W, A), ground: Ground) -> Self {
         let way = match ground {
             Ground::Core => return Stage::Core(CoreStage::new(rt, alloc)),
@@ -141,18 +140,18 @@ pub fn play<R: Host>(rt: &R, ground: Ground, script: Text) {
         let example = example.split_once('\n').unwrap_or((example, ""));
         let memory = Refusing::new(rt.alloc());
         let permission = Asking { rt, alloc: &memory };
-        play_example(rt, &memory, (&permission, &memory), ground, example);
+        play_example::<_, Text, _, _>(rt, &memory, (&permission, &memory), ground, example);
     }
 }
 
-fn play_example<R: Host, W: Wait + Clone, A: Allocator + Copy>(
+fn play_example<R: Host, T: Message, W: Wait + Clone, A: Allocator + Copy>(
     rt: &R,
     memory: &Refusing<Global>,
     handles_of: (&W, A),
     ground: Ground,
     example: (Text, Text),
 ) {
-    Stage::new(rt, handles_of, ground).play(rt, memory, example, false);
+    Stage::<'_, T, W, A>::new(rt, handles_of, ground).play(rt, memory, example, false);
 }
 
 /// Plays one example again and again, each time with another request for memory refused, until none
@@ -165,7 +164,7 @@ pub fn play_refused<R: Host>(rt: &R, ground: Ground, script: Text, title: Text) 
     let permission = Asking { rt, alloc: &memory };
     for round in memory.rounds() {
         let n = round.expect(rt, "a request");
-        play_refusal(
+        play_refusal::<_, Text, _, _>(
             rt,
             &memory,
             (&permission, &memory),
@@ -177,7 +176,7 @@ pub fn play_refused<R: Host>(rt: &R, ground: Ground, script: Text, title: Text) 
 }
 
 // Plays an example of which the nth request for memory is refused.
-fn play_refusal<R: Host, W: Wait + Clone, A: Allocator + Copy>(
+fn play_refusal<R: Host, T: Message, W: Wait + Clone, A: Allocator + Copy>(
     rt: &R,
     memory: &Refusing<Global>,
     handles_of: (&W, A),
@@ -185,7 +184,7 @@ fn play_refusal<R: Host, W: Wait + Clone, A: Allocator + Copy>(
     example: (Text, Text),
     n: u64,
 ) {
-    let mut stage = Stage::new(rt, handles_of, ground);
+    let mut stage = Stage::<'_, T, W, A>::new(rt, handles_of, ground);
     memory.refuse_nth(n);
     let was_refused = stage.play(rt, memory, example, true);
     let met_none = memory.refuse_none();

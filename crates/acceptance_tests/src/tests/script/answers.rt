@@ -1,6 +1,6 @@
 //! The texts of answers.
 use super::ledger::Ledger;
-use super::words::{Bulk, Pair, Text};
+use super::words::{Bulk, Message, Pair, Text};
 use async_priority_channel::{RecvFault, SendFault, TrySendError};
 use priority_channel_core::awaitable_atomics::Wakes;
 use std::alloc::{AllocGlobal, Allocator};
@@ -17,9 +17,13 @@ pub fn text<R: Abort + AllocGlobal>(rt: &R, words: &str) -> String {
 }
 
 /// A pair that has come out or back.
-pub fn told_pair<R: Abort + AllocGlobal>(rt: &R, ledger: &mut Ledger, pair: Pair) -> String {
+pub fn told_pair<R: Abort + AllocGlobal, T: Message>(
+    rt: &R,
+    ledger: &mut Ledger<T>,
+    pair: Pair<T>,
+) -> String {
     ledger.end(rt, pair);
-    let (msg, (_, priority)) = (ledger.message(rt, pair), pair);
+    let (msg, priority) = pair;
     format!(in rt.alloc(); "({msg},{priority})").expect(rt, "memory")
 }
 
@@ -39,10 +43,10 @@ fn refusal<K>(error: TrySendError<K>) -> (Why, K) {
     }
 }
 
-pub fn told_sent<R: Abort + AllocGlobal>(
+pub fn told_sent<R: Abort + AllocGlobal, T: Message>(
     rt: &R,
-    ledger: &mut Ledger,
-    sent: Result<(), TrySendError<Pair>>,
+    ledger: &mut Ledger<T>,
+    sent: Result<(), TrySendError<Pair<T>>>,
 ) -> String {
     match sent {
         Ok(()) => text(rt, "Ok"),
@@ -54,10 +58,10 @@ pub fn told_sent<R: Abort + AllocGlobal>(
     }
 }
 
-pub fn told_sent_many<R: Abort + AllocGlobal>(
+pub fn told_sent_many<R: Abort + AllocGlobal, T: Message>(
     rt: &R,
-    ledger: &mut Ledger,
-    sent: Result<(), TrySendError<Bulk>>,
+    ledger: &mut Ledger<T>,
+    sent: Result<(), TrySendError<Bulk<T>>>,
 ) -> String {
     match sent {
         Ok(()) => text(rt, "Ok"),
@@ -70,10 +74,10 @@ pub fn told_sent_many<R: Abort + AllocGlobal>(
 }
 
 /// Of an error its variant alone.
-pub fn told_received<R: Abort + AllocGlobal>(
+pub fn told_received<R: Abort + AllocGlobal, T: Message>(
     rt: &R,
-    ledger: &mut Ledger,
-    received: Result<Pair, impl Debug + Drop>,
+    ledger: &mut Ledger<T>,
+    received: Result<Pair<T>, impl Debug + Drop>,
 ) -> String {
     match received {
         Ok(pair) => told_pair(rt, ledger, pair),
@@ -90,18 +94,18 @@ fn ready<R: Abort + AllocGlobal>(rt: &R, told: String) -> String {
     format!(in rt.alloc(); "Ready {told}").expect(rt, "memory")
 }
 
-pub fn ready_sent<R: Abort + AllocGlobal>(
+pub fn ready_sent<R: Abort + AllocGlobal, T: Message>(
     rt: &R,
-    ledger: &mut Ledger,
-    sent: Result<(), SendFault<Pair>>,
+    ledger: &mut Ledger<T>,
+    sent: Result<(), SendFault<Pair<T>>>,
 ) -> String {
     ready(rt, told_sent(rt, ledger, sent.map_err(TrySendError::from)))
 }
 
-pub fn ready_sent_many<R: Abort + AllocGlobal>(
+pub fn ready_sent_many<R: Abort + AllocGlobal, T: Message>(
     rt: &R,
-    ledger: &mut Ledger,
-    sent: Result<(), SendFault<Bulk>>,
+    ledger: &mut Ledger<T>,
+    sent: Result<(), SendFault<Bulk<T>>>,
 ) -> String {
     ready(
         rt,
@@ -109,10 +113,10 @@ pub fn ready_sent_many<R: Abort + AllocGlobal>(
     )
 }
 
-pub fn ready_received<R: Abort + AllocGlobal>(
+pub fn ready_received<R: Abort + AllocGlobal, T: Message>(
     rt: &R,
-    ledger: &mut Ledger,
-    received: Result<Pair, RecvFault>,
+    ledger: &mut Ledger<T>,
+    received: Result<Pair<T>, RecvFault>,
 ) -> String {
     let ok = if received.is_ok() { "Ok " } else { "" };
     let told = told_received(rt, ledger, received);

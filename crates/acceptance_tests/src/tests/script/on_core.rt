@@ -5,23 +5,23 @@ use super::answers::{
 };
 use super::ledger::Ledger;
 use super::states::State;
-use super::words::{MOST_RESERVED, Text, capacity, no_call, number, ticket, waker};
+use super::words::{MOST_RESERVED, Message, Text, capacity, no_call, number, ticket, waker};
 use priority_channel_core::channel::{CorePoll, PriorityQueueChannel};
 use std::alloc::{AllocError, AllocGlobal, Allocator};
 use std::process::Abort;
 
-pub type Core<A> = PriorityQueueChannel<u64, u64, u64, A>;
+pub type Core<T, A> = PriorityQueueChannel<T, u64, u64, A>;
 
 /// A core, and the states that are polled on it.
 #[derive(Drop)]
-pub struct CoreStage<A: Allocator + Copy> {
+pub struct CoreStage<T: Message, A: Allocator + Copy> {
     alloc: A,
-    core: Core<A>,
-    states: Vec<(Text, State)>,
-    ledger: Ledger,
+    core: Core<T, A>,
+    states: Vec<(Text, State<T>)>,
+    ledger: Ledger<T>,
 }
 
-impl<A: Allocator + Copy> CoreStage<A> {
+impl<T: Message, A: Allocator + Copy> CoreStage<T, A> {
     pub fn new<R: AllocGlobal>(rt: &R, alloc: A) -> Self {
         CoreStage {
             alloc,
@@ -90,10 +90,10 @@ impl<A: Allocator + Copy> CoreStage<A> {
     }
 }
 
-fn ask<R: Abort + AllocGlobal, A: Allocator + Copy>(
+fn ask<R: Abort + AllocGlobal, T: Message, A: Allocator + Copy>(
     rt: &R,
-    ledger: &mut Ledger,
-    core: &mut Core<A>,
+    ledger: &mut Ledger<T>,
+    core: &mut Core<T, A>,
     call: &[Text],
 ) -> String {
     match call {
@@ -109,10 +109,10 @@ fn ask<R: Abort + AllocGlobal, A: Allocator + Copy>(
     }
 }
 
-fn send<R: Abort + AllocGlobal, A: Allocator + Copy>(
+fn send<R: Abort + AllocGlobal, T: Message, A: Allocator + Copy>(
     rt: &R,
-    ledger: &mut Ledger,
-    core: &mut Core<A>,
+    ledger: &mut Ledger<T>,
+    core: &mut Core<T, A>,
     word: Text,
 ) -> String {
     let (msg, priority) = ledger.submit(rt, word);
@@ -120,29 +120,29 @@ fn send<R: Abort + AllocGlobal, A: Allocator + Copy>(
     handed(rt, told_sent(rt, ledger, sent), wakes)
 }
 
-fn send_many<R: Abort + AllocGlobal, A: Allocator + Copy>(
+fn send_many<R: Abort + AllocGlobal, T: Message, A: Allocator + Copy>(
     rt: &R,
-    ledger: &mut Ledger,
-    core: &mut Core<A>,
+    ledger: &mut Ledger<T>,
+    core: &mut Core<T, A>,
     words: &[Text],
 ) -> String {
     let (sent, wakes) = core.try_sendv(ledger.submit_many(rt, words));
     handed(rt, told_sent_many(rt, ledger, sent), wakes)
 }
 
-fn receive<R: Abort + AllocGlobal, A: Allocator + Copy>(
+fn receive<R: Abort + AllocGlobal, T: Message, A: Allocator + Copy>(
     rt: &R,
-    ledger: &mut Ledger,
-    core: &mut Core<A>,
+    ledger: &mut Ledger<T>,
+    core: &mut Core<T, A>,
 ) -> String {
     let (received, wakes) = core.try_recv();
     handed(rt, told_received(rt, ledger, received), wakes)
 }
 
 // The core has no handles, so it is asked itself.
-fn ask_itself<R: Abort + AllocGlobal, A: Allocator + Copy>(
+fn ask_itself<R: Abort + AllocGlobal, T: Message, A: Allocator + Copy>(
     rt: &R,
-    core: &mut Core<A>,
+    core: &mut Core<T, A>,
     call: &[Text],
 ) -> String {
     match call {
@@ -165,9 +165,9 @@ fn ask_itself<R: Abort + AllocGlobal, A: Allocator + Copy>(
     }
 }
 
-fn look_at<R: Abort + AllocGlobal, A: Allocator + Copy>(
+fn look_at<R: Abort + AllocGlobal, T: Message, A: Allocator + Copy>(
     rt: &R,
-    core: &mut Core<A>,
+    core: &mut Core<T, A>,
     call: Text,
 ) -> String {
     match call {
@@ -179,7 +179,11 @@ fn look_at<R: Abort + AllocGlobal, A: Allocator + Copy>(
     }
 }
 
-fn truth_of<A: Allocator + Copy>(rt: &impl Abort, core: &mut Core<A>, call: Text) -> bool {
+fn truth_of<T: Message, A: Allocator + Copy>(
+    rt: &impl Abort,
+    core: &mut Core<T, A>,
+    call: Text,
+) -> bool {
     match call {
         "clone_sender" => core.clone_sender(),
         "clone_receiver" => core.clone_receiver(),
@@ -190,10 +194,10 @@ fn truth_of<A: Allocator + Copy>(rt: &impl Abort, core: &mut Core<A>, call: Text
     }
 }
 
-fn poll_send<R: Abort + AllocGlobal, A: Allocator + Copy>(
+fn poll_send<R: Abort + AllocGlobal, T: Message, A: Allocator + Copy>(
     rt: &R,
-    ledger: &mut Ledger,
-    core: &mut Core<A>,
+    ledger: &mut Ledger<T>,
+    core: &mut Core<T, A>,
     word: Text,
     given: Text,
     by: Text,
@@ -210,10 +214,10 @@ fn poll_send<R: Abort + AllocGlobal, A: Allocator + Copy>(
     handed(rt, told, wakes)
 }
 
-fn poll_sendv<R: Abort + AllocGlobal, A: Allocator + Copy>(
+fn poll_sendv<R: Abort + AllocGlobal, T: Message, A: Allocator + Copy>(
     rt: &R,
-    ledger: &mut Ledger,
-    core: &mut Core<A>,
+    ledger: &mut Ledger<T>,
+    core: &mut Core<T, A>,
     words: &[Text],
     given: Text,
     by: Text,
@@ -230,10 +234,10 @@ fn poll_sendv<R: Abort + AllocGlobal, A: Allocator + Copy>(
     handed(rt, told, wakes)
 }
 
-fn poll_recv<R: Abort + AllocGlobal, A: Allocator + Copy>(
+fn poll_recv<R: Abort + AllocGlobal, T: Message, A: Allocator + Copy>(
     rt: &R,
-    ledger: &mut Ledger,
-    core: &mut Core<A>,
+    ledger: &mut Ledger<T>,
+    core: &mut Core<T, A>,
     given: Text,
     by: Text,
 ) -> String {

@@ -3,7 +3,7 @@ use super::answers::{
     ready_sent, ready_sent_many, text, told, told_received, told_sent, told_sent_many,
 };
 use super::ledger::Ledger;
-use super::words::{Bulk, MOST_RESERVED, Text, capacity, no_call};
+use super::words::{Bulk, MOST_RESERVED, Message, Text, capacity, no_call};
 use crate::tests::{Host, expect_equal, wait_for};
 use async_priority_channel::waiting::{Recv, Send, Sendv};
 use async_priority_channel::{
@@ -22,24 +22,24 @@ pub enum Way {
     AsFuture,
 }
 
-type Handle<S, W, A> = End<S, u64, u64, W, A>;
+type Handle<S, T, W, A> = End<S, T, u64, W, A>;
 
-type Tx<W, A> = Sender<u64, u64, W, A>;
+type Tx<T, W, A> = Sender<T, u64, W, A>;
 
-type Rx<W, A> = Receiver<u64, u64, W, A>;
+type Rx<T, W, A> = Receiver<T, u64, W, A>;
 
 /// The handles of one channel, of which the last of either kind makes the calls.
 #[derive(Drop)]
-pub struct HandleStage<'a, W: Wait + Clone, A: Allocator + Copy> {
+pub struct HandleStage<'a, T: Message, W: Wait + Clone, A: Allocator + Copy> {
     permission: &'a W,
     alloc: A,
     way: Way,
-    senders: Vec<Tx<W, A>>,
-    receivers: Vec<Rx<W, A>>,
-    ledger: Ledger,
+    senders: Vec<Tx<T, W, A>>,
+    receivers: Vec<Rx<T, W, A>>,
+    ledger: Ledger<T>,
 }
 
-impl<'a, W: Wait + Clone, A: Allocator + Copy> HandleStage<'a, W, A> {
+impl<'a, T: Message, W: Wait + Clone, A: Allocator + Copy> HandleStage<'a, T, W, A> {
     /// Without a channel as yet.
     pub fn new<R: AllocGlobal>(rt: &R, permission: &'a W, alloc: A, way: Way) -> Self {
         HandleStage {
@@ -84,7 +84,7 @@ impl<'a, W: Wait + Clone, A: Allocator + Copy> HandleStage<'a, W, A> {
 
     // Makes a channel in place of the one before.
     fn open<R: Abort + AllocGlobal>(&mut self, rt: &R, call: &[Text]) -> String {
-        let made: Result<Ends<u64, u64, W, A>, AllocError> = match call {
+        let made: Result<Ends<T, u64, W, A>, AllocError> = match call {
             ["bounded", word] => {
                 bounded(self.permission, self.alloc, capacity(rt, *word, u64::MAX))
             }
@@ -125,9 +125,9 @@ fn last<'a, H>(rt: &impl Abort, handles: &'a Vec<H>) -> &'a H {
     handles.last().expect(rt, "a handle")
 }
 
-fn clone_last<S: Role, R: Abort + AllocGlobal, W: Wait + Clone, A: Allocator + Copy>(
+fn clone_last<S: Role, R: Abort + AllocGlobal, T: Message, W: Wait + Clone, A: Allocator + Copy>(
     rt: &R,
-    handles: &mut Vec<Handle<S, W, A>>,
+    handles: &mut Vec<Handle<S, T, W, A>>,
 ) -> String {
     match last(rt, handles).clone() {
         Ok(other) => {
@@ -143,27 +143,27 @@ fn drop_last<R: Abort + AllocGlobal, H: Drop>(rt: &R, handles: &mut Vec<H>) -> S
     text(rt, "")
 }
 
-fn receive<R: Abort + AllocGlobal, W: Wait + Clone, A: Allocator + Copy>(
+fn receive<R: Abort + AllocGlobal, T: Message, W: Wait + Clone, A: Allocator + Copy>(
     rt: &R,
-    ledger: &mut Ledger,
-    rx: &Rx<W, A>,
+    ledger: &mut Ledger<T>,
+    rx: &Rx<T, W, A>,
 ) -> String {
     told_received(rt, ledger, rx.try_recv())
 }
 
-fn receive_by_future<R: Host, W: Wait + Clone, A: Allocator + Copy>(
+fn receive_by_future<R: Host, T: Message, W: Wait + Clone, A: Allocator + Copy>(
     rt: &R,
-    ledger: &mut Ledger,
-    rx: &Rx<W, A>,
+    ledger: &mut Ledger<T>,
+    rx: &Rx<T, W, A>,
 ) -> String {
-    let future: Recv<'_, u64, u64, W, A> = rx.recv();
+    let future: Recv<'_, T, u64, W, A> = rx.recv();
     told_received(rt, ledger, wait_for(rt, future))
 }
 
-fn send<R: Host, W: Wait + Clone, A: Allocator + Copy>(
+fn send<R: Host, T: Message, W: Wait + Clone, A: Allocator + Copy>(
     rt: &R,
-    ledger: &mut Ledger,
-    tx: &Tx<W, A>,
+    ledger: &mut Ledger<T>,
+    tx: &Tx<T, W, A>,
     call: &[Text],
     way: Way,
 ) -> String {
@@ -183,25 +183,25 @@ fn send<R: Host, W: Wait + Clone, A: Allocator + Copy>(
     }
 }
 
-fn send_by_future<R: Host, W: Wait + Clone, A: Allocator + Copy>(
+fn send_by_future<R: Host, T: Message, W: Wait + Clone, A: Allocator + Copy>(
     rt: &R,
-    ledger: &mut Ledger,
-    tx: &Tx<W, A>,
+    ledger: &mut Ledger<T>,
+    tx: &Tx<T, W, A>,
     word: Text,
 ) -> String {
     let (msg, priority) = ledger.submit(rt, word);
-    let future: Send<'_, u64, u64, W, A> = tx.send(msg, priority);
+    let future: Send<'_, T, u64, W, A> = tx.send(msg, priority);
     told_sent(rt, ledger, wait_for(rt, future).map_err(TrySendError::from))
 }
 
-fn poll_send_once<R: Host, W: Wait + Clone, A: Allocator + Copy>(
+fn poll_send_once<R: Host, T: Message, W: Wait + Clone, A: Allocator + Copy>(
     rt: &R,
-    ledger: &mut Ledger,
-    tx: &Tx<W, A>,
+    ledger: &mut Ledger<T>,
+    tx: &Tx<T, W, A>,
     word: Text,
 ) -> String {
     let (msg, priority) = ledger.submit(rt, word);
-    let future: Send<'_, u64, u64, W, A> = tx.send(msg, priority);
+    let future: Send<'_, T, u64, W, A> = tx.send(msg, priority);
     match poll_once(rt, future) {
         Some(sent) => ready_sent(rt, ledger, sent),
         None => text(rt, "Pending"),
@@ -215,14 +215,14 @@ fn poll_once<F: Future>(rt: &impl Host, future: F) -> Option<F::Output>
     wait_for(rt, poll_immediate(future))
 }
 
-fn poll_sendv_once<R: Host, W: Wait + Clone, A: Allocator + Copy>(
+fn poll_sendv_once<R: Host, T: Message, W: Wait + Clone, A: Allocator + Copy>(
     rt: &R,
-    ledger: &mut Ledger,
-    tx: &Tx<W, A>,
+    ledger: &mut Ledger<T>,
+    tx: &Tx<T, W, A>,
     words: &[Text],
 ) -> String {
     let msgs = ledger.submit_many(rt, words);
-    let future: Sendv<'_, u64, u64, Bulk, W, A> = tx.sendv(msgs);
+    let future: Sendv<'_, T, u64, Bulk<T>, W, A> = tx.sendv(msgs);
     match poll_once(rt, future) {
         Some(sent) => ready_sent_many(rt, ledger, sent),
         None => text(rt, "Pending"),
@@ -234,9 +234,9 @@ fn is_printed<R: Abort + AllocGlobal, H: Debug>(rt: &R, handle: &H) -> String {
 }
 
 // What a sender and a receiver have both.
-fn ask_either<S: Role, R: Abort + AllocGlobal, W: Wait + Clone, A: Allocator + Copy>(
+fn ask_either<S: Role, R: Abort + AllocGlobal, T: Message, W: Wait + Clone, A: Allocator + Copy>(
     rt: &R,
-    end: &Handle<S, W, A>,
+    end: &Handle<S, T, W, A>,
     call: Text,
 ) -> String {
     match call {
@@ -248,9 +248,9 @@ fn ask_either<S: Role, R: Abort + AllocGlobal, W: Wait + Clone, A: Allocator + C
     }
 }
 
-fn truth_of<S: Role, W: Wait + Clone, A: Allocator + Copy>(
+fn truth_of<S: Role, T: Message, W: Wait + Clone, A: Allocator + Copy>(
     rt: &impl Abort,
-    end: &Handle<S, W, A>,
+    end: &Handle<S, T, W, A>,
     call: Text,
 ) -> bool {
     match call {

@@ -4,21 +4,21 @@ use super::answers::{
 };
 use super::ledger::Ledger;
 use super::on_core::Core;
-use super::words::{Bulk, Text, no_call, waker};
+use super::words::{Bulk, Message, Text, no_call, waker};
 use async_priority_channel::waiting::{RecvState, SendState, SendvState};
 use futures::task::Poll;
 use std::alloc::{AllocGlobal, Allocator};
 use std::process::Abort;
 
 #[derive(Drop)]
-pub enum State {
-    Send(SendState<u64, u64>),
-    Sendv(SendvState<Bulk>),
+pub enum State<T: Message> {
+    Send(SendState<T, u64>),
+    Sendv(SendvState<Bulk<T>>),
     Recv(RecvState),
 }
 
-impl State {
-    pub fn new<R: Abort + AllocGlobal>(rt: &R, ledger: &mut Ledger, call: &[Text]) -> Self {
+impl<T: Message> State<T> {
+    pub fn new<R: Abort + AllocGlobal>(rt: &R, ledger: &mut Ledger<T>, call: &[Text]) -> Self {
         match call {
             ["send", word] => {
                 let (msg, priority) = ledger.submit(rt, *word);
@@ -49,8 +49,8 @@ impl State {
     pub fn make<R: Abort + AllocGlobal, A: Allocator + Copy>(
         &mut self,
         rt: &R,
-        ledger: &mut Ledger,
-        core: &mut Core<A>,
+        ledger: &mut Ledger<T>,
+        core: &mut Core<T, A>,
         call: &[Text],
     ) -> String {
         match call {
@@ -65,8 +65,8 @@ impl State {
     fn poll<R: Abort + AllocGlobal, A: Allocator + Copy>(
         &mut self,
         rt: &R,
-        ledger: &mut Ledger,
-        core: &mut Core<A>,
+        ledger: &mut Ledger<T>,
+        core: &mut Core<T, A>,
         waker: u64,
     ) -> String {
         match self {
@@ -79,8 +79,8 @@ impl State {
     fn give_up<R: Abort + AllocGlobal, A: Allocator + Copy>(
         &mut self,
         rt: &R,
-        ledger: &mut Ledger,
-        core: &mut Core<A>,
+        ledger: &mut Ledger<T>,
+        core: &mut Core<T, A>,
     ) -> String {
         let kept = match self {
             State::Send(send) => {
@@ -106,11 +106,11 @@ impl State {
     }
 }
 
-fn poll_send<R: Abort + AllocGlobal, A: Allocator + Copy>(
+fn poll_send<R: Abort + AllocGlobal, T: Message, A: Allocator + Copy>(
     rt: &R,
-    ledger: &mut Ledger,
-    core: &mut Core<A>,
-    send: &mut SendState<u64, u64>,
+    ledger: &mut Ledger<T>,
+    core: &mut Core<T, A>,
+    send: &mut SendState<T, u64>,
     waker: u64,
 ) -> String {
     let (polled, wakes) = send.poll_on(core, &waker);
@@ -121,11 +121,11 @@ fn poll_send<R: Abort + AllocGlobal, A: Allocator + Copy>(
     handed(rt, told, wakes)
 }
 
-fn poll_sendv<R: Abort + AllocGlobal, A: Allocator + Copy>(
+fn poll_sendv<R: Abort + AllocGlobal, T: Message, A: Allocator + Copy>(
     rt: &R,
-    ledger: &mut Ledger,
-    core: &mut Core<A>,
-    sendv: &mut SendvState<Bulk>,
+    ledger: &mut Ledger<T>,
+    core: &mut Core<T, A>,
+    sendv: &mut SendvState<Bulk<T>>,
     waker: u64,
 ) -> String {
     let (polled, wakes) = sendv.poll_on(core, &waker);
@@ -136,10 +136,10 @@ fn poll_sendv<R: Abort + AllocGlobal, A: Allocator + Copy>(
     handed(rt, told, wakes)
 }
 
-fn poll_recv<R: Abort + AllocGlobal, A: Allocator + Copy>(
+fn poll_recv<R: Abort + AllocGlobal, T: Message, A: Allocator + Copy>(
     rt: &R,
-    ledger: &mut Ledger,
-    core: &mut Core<A>,
+    ledger: &mut Ledger<T>,
+    core: &mut Core<T, A>,
     recv: &mut RecvState,
     waker: u64,
 ) -> String {

@@ -2,6 +2,7 @@
 ghost use Rattle.std.specs.Prelude.{◌<◌, ◌≤◌};
 
 use std::alloc::AllocGlobal;
+use std::fmt::{Debug, Display};
 use std::iter::Peekable;
 use std::process::Abort;
 use std::vec::IntoIter;
@@ -12,11 +13,22 @@ pub const MOST_RESERVED: u64 = 9223372036854775807;
 /// A script, and each word of it.
 pub type Text = &'static str;
 
-/// A message is the number of its submission, since a call on texts is dear to prove.
-pub type Pair = (u64, u64);
+/// A message is a word of the script. What plays it is generic in the message, since a function
+/// that names a type with a reference in it is dear to prove.
+pub trait Message: Copy + Ord + Debug + Display + Drop {
+    fn of(word: Text) -> Self;
+}
+
+impl Message for Text {
+    fn of(word: Text) -> Self {
+        word
+    }
+}
+
+pub type Pair<T> = (T, u64);
 
 /// The messages of a bulk send.
-pub type Bulk = Peekable<IntoIter<Pair>>;
+pub type Bulk<T> = Peekable<IntoIter<Pair<T>>>;
 
 /// Fails at a call that there is not.
 pub fn no_call<T>(rt: &impl Abort, call: &[Text]) -> T {
@@ -57,10 +69,10 @@ fn between(word: Text, before: &str, behind: &str) -> Option<Text> {
 }
 
 /// `(Foo,0)` is the message `Foo` of priority 0.
-pub fn message_and_priority(rt: &impl Abort, word: Text) -> (Text, u64) {
+pub fn pair<T: Message>(rt: &impl Abort, word: Text) -> Pair<T> {
     let inner = between(word, "(", ")").expect(rt, "a pair");
     let (msg, priority) = inner.split_once(',').expect(rt, "a pair");
-    (msg, number(rt, priority))
+    (T::of(msg), number(rt, priority))
 }
 
 /// `None` or `Some(0)`.
