@@ -47,13 +47,13 @@ pub enum Ground {
 }
 
 #[derive(Drop)]
-enum Stage<'a, T: Message, W: Wait + Clone, A: Allocator + Copy> {
+enum Stage<T: Message, W: Wait + Clone + Drop, A: Allocator + Copy> {
     Core(CoreStage<T, A>),
-    Handles(HandleStage<'a, T, W, A>),
+    Handles(HandleStage<T, W, A>),
 }
 
-impl<'a, T: Message, W: Wait + Clone, A: Allocator + Copy> Stage<'a, T, W, A> {
-    fn new<R: Host>(rt: &R, (permission, alloc): (&'a W, A), ground: Ground) -> Self {
+impl<T: Message, W: Wait + Clone + Drop, A: Allocator + Copy> Stage<T, W, A> {
+    fn new<R: Host>(rt: &R, (permission, alloc): (W, A), ground: Ground) -> Self {
         let way = match ground {
             Ground::Core => return Stage::Core(CoreStage::new(rt, alloc)),
             Ground::Handles => Way::AtOnce,
@@ -140,18 +140,18 @@ pub fn play<R: Host>(rt: &R, ground: Ground, script: Text) {
         let example = example.split_once('\n').unwrap_or((example, ""));
         let memory = Refusing::new(rt.alloc());
         let permission = Asking { rt, alloc: &memory };
-        play_example::<_, Text, _, _>(rt, &memory, (&permission, &memory), ground, example);
+        play_example::<_, Text, _, _>(rt, &memory, (permission, &memory), ground, example);
     }
 }
 
-fn play_example<R: Host, T: Message, W: Wait + Clone, A: Allocator + Copy>(
+fn play_example<R: Host, T: Message, W: Wait + Clone + Drop, A: Allocator + Copy>(
     rt: &R,
     memory: &Refusing<Global>,
-    handles_of: (&W, A),
+    handles_of: (W, A),
     ground: Ground,
     example: (Text, Text),
 ) {
-    Stage::<'_, T, W, A>::new(rt, handles_of, ground).play(rt, memory, example, false);
+    Stage::<T, W, A>::new(rt, handles_of, ground).play(rt, memory, example, false);
 }
 
 /// Plays one example again and again, each time with another request for memory refused, until none
@@ -161,13 +161,13 @@ pub fn play_refused<R: Host>(rt: &R, ground: Ground, script: Text, title: Text) 
     let (_, behind) = script.split_once(title).expect(rt, title);
     let (calls, _) = behind.split_once("# ").unwrap_or((behind, ""));
     let memory = Refusing::new(rt.alloc());
-    let permission = Asking { rt, alloc: &memory };
     for round in memory.rounds() {
         let n = round.expect(rt, "a request");
+        let permission = Asking { rt, alloc: &memory };
         play_refusal::<_, Text, _, _>(
             rt,
             &memory,
-            (&permission, &memory),
+            (permission, &memory),
             ground,
             (title, calls),
             n,
@@ -176,15 +176,15 @@ pub fn play_refused<R: Host>(rt: &R, ground: Ground, script: Text, title: Text) 
 }
 
 // Plays an example of which the nth request for memory is refused.
-fn play_refusal<R: Host, T: Message, W: Wait + Clone, A: Allocator + Copy>(
+fn play_refusal<R: Host, T: Message, W: Wait + Clone + Drop, A: Allocator + Copy>(
     rt: &R,
     memory: &Refusing<Global>,
-    handles_of: (&W, A),
+    handles_of: (W, A),
     ground: Ground,
     example: (Text, Text),
     n: u64,
 ) {
-    let mut stage = Stage::<'_, T, W, A>::new(rt, handles_of, ground);
+    let mut stage = Stage::<T, W, A>::new(rt, handles_of, ground);
     memory.refuse_nth(n);
     let was_refused = stage.play(rt, memory, example, true);
     let met_none = memory.refuse_none();

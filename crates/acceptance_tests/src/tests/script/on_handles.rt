@@ -30,8 +30,8 @@ type Rx<T, W, A> = Receiver<T, u64, W, A>;
 
 /// The handles of one channel, of which the last of either kind makes the calls.
 #[derive(Drop)]
-pub struct HandleStage<'a, T: Message, W: Wait + Clone, A: Allocator + Copy> {
-    permission: &'a W,
+pub struct HandleStage<T: Message, W: Wait + Clone + Drop, A: Allocator + Copy> {
+    permission: W,
     alloc: A,
     way: Way,
     senders: Vec<Tx<T, W, A>>,
@@ -39,9 +39,9 @@ pub struct HandleStage<'a, T: Message, W: Wait + Clone, A: Allocator + Copy> {
     ledger: Ledger<T>,
 }
 
-impl<'a, T: Message, W: Wait + Clone, A: Allocator + Copy> HandleStage<'a, T, W, A> {
+impl<T: Message, W: Wait + Clone + Drop, A: Allocator + Copy> HandleStage<T, W, A> {
     /// Without a channel as yet.
-    pub fn new<R: AllocGlobal>(rt: &R, permission: &'a W, alloc: A, way: Way) -> Self {
+    pub fn new<R: AllocGlobal>(rt: &R, permission: W, alloc: A, way: Way) -> Self {
         HandleStage {
             permission,
             alloc,
@@ -86,13 +86,13 @@ impl<'a, T: Message, W: Wait + Clone, A: Allocator + Copy> HandleStage<'a, T, W,
     fn open<R: Abort + AllocGlobal>(&mut self, rt: &R, call: &[Text]) -> String {
         let made: Result<Ends<T, u64, W, A>, AllocError> = match call {
             ["bounded", word] => {
-                bounded(self.permission, self.alloc, capacity(rt, *word, u64::MAX))
+                bounded(&self.permission, self.alloc, capacity(rt, *word, u64::MAX))
             }
             ["bounded_reserved", word] => {
                 let capacity = capacity(rt, *word, MOST_RESERVED);
-                bounded_reserved(self.permission, self.alloc, capacity)
+                bounded_reserved(&self.permission, self.alloc, capacity)
             }
-            ["unbounded"] => unbounded(self.permission, self.alloc),
+            ["unbounded"] => unbounded(&self.permission, self.alloc),
             _ => return no_call(rt, call),
         };
         match made {
