@@ -10,6 +10,7 @@ mod rows;
 mod runs;
 mod script;
 mod spins;
+mod tickets;
 mod uses;
 
 /// `assert!`, proved once: each one in place takes a second of the check.

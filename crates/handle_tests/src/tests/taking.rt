@@ -2,6 +2,7 @@
 use super::expect_equal;
 use super::script::Host;
 use async_priority_channel::{Receiver, unbounded};
+use refusing::watch::Watch;
 use std::cell::Cell;
 
 #[test]
@@ -46,33 +47,47 @@ fn another<R: Host>(rt: &R, rx: &Receiver<char, i64, R>) -> Receiver<char, i64, 
 }
 
 // A drop under the lock would wait for it for ever.
+fn drop_each_test<R: Host>(rt: &R, watch: &Watch<&'static str>) {
+    let (tx, rx) = unbounded(rt, rt.alloc()).expect(rt, "a channel");
+    expect_equal(rt, tx.try_send('a', 1), Ok(()));
+    expect_equal(rt, tx.try_send('b', 0), Ok(()));
+    watch.begin(rt, "change_priority");
+    let other = another(rt, &rx);
+    let changed = rx.change_priority(move |_, _| owns(&other), 2);
+    expect_equal(rt, changed, Some(1));
+    watch.begin(rt, "count_where");
+    let other = another(rt, &rx);
+    expect_equal(rt, rx.count_where(move |_, _| owns(&other)), 2);
+    watch.begin(rt, "fold_pending");
+    let other = another(rt, &rx);
+    let folded = rx.fold_pending(true, move |is_so, _, _| is_so && owns(&other));
+    expect_equal(rt, folded, true);
+    watch.begin(rt, "retain");
+    let other = another(rt, &rx);
+    expect_equal(rt, rx.retain(move |_, _| owns(&other)).is_ok(), true);
+    watch.begin(rt, "try_recv_if");
+    let other = another(rt, &rx);
+    let received = rx.try_recv_if(move |_, _| owns(&other));
+    expect_equal(rt, received, Ok(Some(('a', 2))));
+    expect_equal(rt, tx.try_send('c', 1), Ok(()));
+    watch.begin(rt, "try_recv_where");
+    let other = another(rt, &rx);
+    let received = rx.try_recv_where(move |_, _| owns(&other));
+    expect_equal(rt, received, Ok(Some(('c', 1))));
+    watch.begin(rt, "take_where");
+    let other = another(rt, &rx);
+    let taken = rx.take_where(move |_, _| owns(&other));
+    expect_equal(rt, taken, Some(('b', 0)));
+    // A look at nothing does not use up its function.
+    watch.begin(rt, "peek_with");
+    let other = another(rt, &rx);
+    let looked = rx.peek_with(move |_, _| owns(&other));
+    expect_equal(rt, (looked, rx.receiver_count()), (None, 1));
+}
+
 #[test]
 fn the_test_is_dropped_once_the_lock_is_free(rt: HostRuntime) {
-    let (tx, rx) = unbounded(&rt, rt.alloc()).expect(&rt, "a channel");
-    expect_equal(&rt, tx.try_send('a', 1), Ok(()));
-    expect_equal(&rt, tx.try_send('b', 0), Ok(()));
-    let other = another(&rt, &rx);
-    let changed = rx.change_priority(move |_, _| owns(&other), 2);
-    expect_equal(&rt, changed, Some(1));
-    let other = another(&rt, &rx);
-    expect_equal(&rt, rx.count_where(move |_, _| owns(&other)), 2);
-    let other = another(&rt, &rx);
-    let folded = rx.fold_pending(true, move |is_so, _, _| is_so && owns(&other));
-    expect_equal(&rt, folded, true);
-    let other = another(&rt, &rx);
-    expect_equal(&rt, rx.retain(move |_, _| owns(&other)).is_ok(), true);
-    let other = another(&rt, &rx);
-    let received = rx.try_recv_if(move |_, _| owns(&other));
-    expect_equal(&rt, received, Ok(Some(('a', 2))));
-    expect_equal(&rt, tx.try_send('c', 1), Ok(()));
-    let other = another(&rt, &rx);
-    let received = rx.try_recv_where(move |_, _| owns(&other));
-    expect_equal(&rt, received, Ok(Some(('c', 1))));
-    let other = another(&rt, &rx);
-    let taken = rx.take_where(move |_, _| owns(&other));
-    expect_equal(&rt, taken, Some(('b', 0)));
-    // A look at nothing does not use up its function.
-    let other = another(&rt, &rx);
-    let looked = rx.peek_with(move |_, _| owns(&other));
-    expect_equal(&rt, (looked, rx.receiver_count()), (None, 1));
+    let watch = Watch::new("");
+    let fail = |call: &&str| panic!(rt; "the test of {call} is dropped under the lock");
+    watch.over(&rt, fail, || drop_each_test(&rt, &watch));
 }

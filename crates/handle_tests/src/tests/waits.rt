@@ -158,6 +158,19 @@ fn what_is_refused_memory_is_done_and_leaves_no_place(rt: HostRuntime) {
         refuse_nth 2; v poll task = Err(2); refuse_none = false; rest task
         rx try_recv = Ok(('x', 1)); woken =; s poll task = Pending; v poll task = Pending
         woken = task; rx try_recv = Err(Empty)
+        -- reserves
+        channel 1; tx try_send x 1
+        lend tx
+        p by tx reserve; q by tx reserve; refuse_nth 1; p poll task = Err(Memory(..))
+        refuse_nth 2; q poll task = Err(Memory(..)); refuse_none = false; rest task
+        rx try_recv = Ok(('x', 1)); woken =; p poll task = Pending; q poll task = Pending
+        woken = task
+        -- leases
+        channel 1
+        lend rx
+        l by rx lease; m by rx lease; refuse_nth 1; l poll task = Err(Memory); refuse_nth 2
+        m poll task = Err(Memory); refuse_none = false; rest task; tx try_send x 1; woken =
+        l poll task = Pending; m poll task = Pending; woken = task; rx try_recv = Ok(('x', 1))
         -- waits for the close, one of which waits on without more memory
         channel 1
         lend tx
