@@ -13,16 +13,11 @@ use std::alloc::Allocator;
 
 const CAPACITY: u64 = 3;
 
-// The thread waits for an even number.
-const WAITING: [Call; 2] = [
-    Call::RecvWhere(Way::Blocking),
-    Call::RecvWhen(Way::Blocking),
-];
-
 // Nothing, the 3, and the 3 before the 2.
 const PENDING: [(u64, u64); 3] = [(1, 0), (3, 1), (2, 2)];
 
-// The thread's call, what is pending, and the call beside it with its input.
+// The call of the thread, which waits for an even number, what is pending, and the call beside it
+// with its input.
 type Round = (Call, (u64, u64), Call, Input);
 
 // An even number of greatest priority, an odd one, and an even one of the least. Calls that make
@@ -79,19 +74,26 @@ fn wake<R: Threaded, A: Allocator + Copy + Send + Sync>(
     mirrored.agree(rt, round, Call::TryIter, all);
 }
 
-#[test]
-fn a_thread_is_woken_by_what_it_waits_for(rt: HostRuntime) {
-    for waiting in WAITING {
-        for pending in PENDING {
-            for call in ALL {
-                for input in inputs() {
-                    if is_played(call) {
-                        let memory = Refusing::new(rt.alloc());
-                        let round = (waiting, pending, call, input);
-                        wake(&rt, (&memory, &memory), round);
-                    }
+fn wake_by_each_call<R: Threaded>(rt: &R, waiting: Call) {
+    for pending in PENDING {
+        for call in ALL {
+            for input in inputs() {
+                if is_played(call) {
+                    let memory = Refusing::new(rt.alloc());
+                    let round = (waiting, pending, call, input);
+                    wake(rt, (&memory, &memory), round);
                 }
             }
         }
     }
+}
+
+#[test]
+fn a_thread_is_woken_by_a_message_that_passes(rt: HostRuntime) {
+    wake_by_each_call(&rt, Call::RecvWhere(Way::Blocking));
+}
+
+#[test]
+fn a_thread_is_woken_by_a_first_message_that_is_due(rt: HostRuntime) {
+    wake_by_each_call(&rt, Call::RecvWhen(Way::Blocking));
 }

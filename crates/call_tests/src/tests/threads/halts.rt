@@ -3,7 +3,7 @@
 //! leaves.
 use super::clocks::{Paced, Plan, Times, second};
 use super::either::{Answer, Either, TIMED, block, closed, done, long, refused};
-use super::places::{PLACES, Place, at, before};
+use super::places::{Place, at, before};
 use super::watch::beside;
 use super::{Threaded, wait_until};
 use crate::tests::driver::all::ALL;
@@ -207,23 +207,30 @@ fn wait_by_a_clock<R: Threaded>(rt: &R, round: Round) -> Duration {
 // At the reading as it begins to wait, at the one before it is listed, and at the one after it has
 // looked again. A wait for the close reads once more, after it was woken. A wait that reads more
 // often sleeps between two readings.
-#[test]
-fn a_thread_finds_what_has_come_in_time(rt: HostRuntime) {
+fn find_in_time<R: Threaded>(rt: &R, place: Place) {
     for call in TIMED {
         let last = if is_for_close(call) { 4 } else { 3 };
-        for place in PLACES {
-            if place.is_for(call) {
-                for number in 1..=last {
-                    for coming in COMING {
-                        wait_by_a_clock(&rt, (call, place, coming, number));
-                    }
+        if place.is_for(call) {
+            for number in 1..=last {
+                for coming in COMING {
+                    wait_by_a_clock(rt, (call, place, coming, number));
                 }
-                let took = wait_by_a_clock(&rt, (call, place, Coming::Nothing, 50));
-                let is_long = took > Duration::from_millis(45);
-                expect_equal_at(&rt, (call, place, took), is_long, true);
             }
+            let took = wait_by_a_clock(rt, (call, place, Coming::Nothing, 50));
+            let is_long = took > Duration::from_millis(45);
+            expect_equal_at(rt, (call, place, took), is_long, true);
         }
     }
+}
+
+#[test]
+fn a_thread_finds_what_has_come_in_time(rt: HostRuntime) {
+    find_in_time(&rt, Place::First);
+}
+
+#[test]
+fn a_thread_behind_another_finds_what_has_come_in_time(rt: HostRuntime) {
+    find_in_time(&rt, Place::Second);
 }
 
 fn wait_with_a_request<R: Threaded, A: Allocator + Copy + Send + Sync>(
