@@ -1,10 +1,10 @@
-//! Examples of which each request for memory is refused in turn.
+//! Examples whose requests for memory are refused in turn.
 use super::rows::{CHANNELS, CORE};
 use super::script::Ground::{Core, Handles};
 use super::script::play_refused;
 
 #[test]
-fn each_request_for_memory_is_refused_in_turn(rt: HostRuntime) {
+fn each_request_for_memory_of_channels_and_handles_is_refused_in_turn(rt: HostRuntime) {
     for (ground, script, title) in [
         (Core, CHANNELS, "three sends come out by priority"),
         (Handles, CHANNELS, "three sends come out by priority"),

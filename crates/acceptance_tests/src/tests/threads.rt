@@ -13,14 +13,15 @@ type Tx<R, A> = Sender<u64, u64, R, A>;
 
 type Rx<R, A> = Receiver<u64, u64, R, A>;
 
-// Each of ten threads has a receiver.
-fn close_ten_receivers<R: ThreadHost, A: Allocator + Copy + Send + Sync>(
+// Each of so many threads has a receiver.
+fn close_receivers<R: ThreadHost, A: Allocator + Copy + Send + Sync>(
     rt: &R,
     (tx, rx): Ends<u64, u64, R, A>,
+    count: usize,
 ) {
     let (answers, was_open) = thread::join(
         rt,
-        || thread::map_indices(rt, rt.alloc(), 10, &|_| receive_once(rt, &rx)),
+        || thread::map_indices(rt, rt.alloc(), count, &|_| receive_once(rt, &rx)),
         || {
             // So that they are likely to wait by then.
             thread::sleep(rt, Duration::from_millis(30));
@@ -29,7 +30,7 @@ fn close_ten_receivers<R: ThreadHost, A: Allocator + Copy + Send + Sync>(
     );
     expect_true(rt, was_open, "a close before");
     let answers = answers.expect(rt, "memory");
-    expect_equal(rt, answers.len(), 10);
+    expect_equal(rt, answers.len(), count);
     for answer in answers {
         expect_equal(rt, answer, Err(RecvFault::Closed(RecvError)));
     }
@@ -46,7 +47,19 @@ fn receive_once<R: Host + Clone, A: Allocator + Copy>(
 #[test]
 fn a_close_ends_ten_receiving_threads(rt: HostRuntime) {
     let ends = bounded(&rt, rt.alloc(), 10).expect(&rt, "a channel");
-    within(&rt, "ten receives", || close_ten_receivers(&rt, ends));
+    within(&rt, "ten receives", || close_receivers(&rt, ends, 10));
+}
+
+#[test]
+fn a_close_ends_ten_threads_that_wait_in_an_unbounded_channel(rt: HostRuntime) {
+    let ends = unbounded(&rt, rt.alloc()).expect(&rt, "a channel");
+    within(&rt, "ten receives", || close_receivers(&rt, ends, 10));
+}
+
+#[test]
+fn a_close_ends_the_one_thread_that_waits(rt: HostRuntime) {
+    let ends = unbounded(&rt, rt.alloc()).expect(&rt, "a channel");
+    within(&rt, "a receive", || close_receivers(&rt, ends, 1));
 }
 
 // Gives no numbers, as one that receives does.

@@ -6,7 +6,7 @@ use crate::run::prio_run;
 use refusing::Refusing;
 use std::alloc::AllocGlobal;
 
-// each request for memory is refused in turn
+// each request for memory of a script is refused in turn
 #[test]
 fn stops_where_memory_is_refused(rt: HostRuntime) {
     let alloc = Refusing::new(rt.alloc());
@@ -84,7 +84,7 @@ fn answers_a_send_that_is_refused_memory(rt: HostRuntime) {
     );
 }
 
-// each request for memory is refused in turn
+// each request for memory of a script with bulk sends is refused in turn
 #[test]
 fn answers_a_bulk_send_that_is_refused_memory(rt: HostRuntime) {
     assert_answers_refusals(

@@ -73,7 +73,7 @@ fn refuse_in_turn<R: ThreadHost, A: Allocator + Copy + Send + Sync>(
 // if any. Calls ask for more of them: with room for eight the last receive, whose entry is the
 // ninth.
 //
-// each request for memory is refused in turn
+// each request for memory of a recorded channel is refused in turn
 #[test]
 fn a_recorder_refuses_what_has_no_memory(rt: HostRuntime) {
     let memory = Refusing::new(rt.alloc());
