@@ -1,4 +1,4 @@
--- What a future gives back is left of what it kept, also if it answers after a try that had to wait.
+-- What a future gives back is left of what it kept, also if its second poll answers.
 use Rattle.std.proofs.Common.{◌≡◌, Option, None, Some, IfSome, is_some}
 use Rattle.futures.specs.declared.task.Poll.{Poll}
 use Rattle.futures.specs.declared.task.Poll.TheVariants as poll

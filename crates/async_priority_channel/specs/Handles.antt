@@ -1,10 +1,8 @@
 -- What handles and futures show of their channel. No value shows what is behind its lock.
-use Rattle.std.specs.Prelude.{◌≡◌, ⊤, ℕ, Bool, true, List, [], Option, None}
+use Rattle.std.specs.Prelude.{◌≡◌, ℕ, Bool, true, List, [], Option, None}
 use Rattle.priority_channel_core.specs.declared.side.Side.{Side}
 use Rattle.priority_channel_core.specs.declared.side.Side.TheVariants.{Room, Message}
 use Rattle.priority_channel_waiting.specs.Holding.{Holding}
-use Rattle.futures.specs.declared.task.Poll.{Poll}
-use Rattle.futures.specs.Poll.{OnPending}
 
 -- the parts of a channel that never change: its capacity, and the sources at which tasks wait on
 -- the send side (`room`), on the receive side (`message`), and for the close (`closing`)
@@ -33,6 +31,15 @@ pub record Leased (T P : Type 0) : Type 0 where
   pub channel : Channel
   pub pair : T × P
 
+-- the same lease with this message
+abbrev pub with_message : {T P : Type 0} → Leased T P → T → Leased T P
+with_message lease msg = record lease { pair = (msg, lease.pair.1) }
+
+-- a loop over a channel's messages, and a bound on how many are still to come
+pub record Looping : Type 0 where
+  pub channel : Channel
+  pub left : ℕ
+
 -- a stream of a channel's messages, and whether it has ended
 pub record Streaming : Type 0 where
   pub channel : Channel
@@ -55,7 +62,3 @@ pub record Watching : Type 0 where
   pub channel : Channel
   pub ticket : Option ℕ
   pub is_done : Bool
-
--- a future that is pending may give any answer, as before
-abbrev pub MayAnswerAlike : {X : Type 0} → Poll X → Type 0
-MayAnswerAlike {X} polled = OnPending polled ((answer : X) → ⊤ → ⊤)

@@ -1,2 +1,3 @@
 pub mod Handles
 pub mod Batches
+pub mod Lending

@@ -1,6 +1,7 @@
 //! A guard that closes its channel.
 use crate::end::{End, Role};
 use crate::handle::Handle;
+use priority_channel_calls::ends::Close;
 use priority_channel_core::side::Side;
 use std::alloc::{Allocator, Global};
 use std::sync::Wait;
@@ -20,7 +21,7 @@ impl<T, P: Ord, R: Wait + Clone, A: Allocator + Copy> Drop for CloseOnDrop<'_, T
         if lets_go {
             handle.let_go_at_last();
         }
-        handle.close();
+        handle.call(Close);
     }
 }
 

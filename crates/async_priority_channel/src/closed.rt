@@ -7,11 +7,13 @@ use crate::end::{End, Role};
 use crate::handle::Handle;
 use crate::waiting::Closed;
 use futures::task::{Context, Poll};
-use priority_channel_waiting::closing::{SeenClosed, Watch};
+use priority_channel_waiting::seeking::{Sought, UntilClosed};
+use priority_channel_waiting::selecting::Sight;
+use priority_channel_waiting::timeouts::Ended;
 use priority_channel_waiting::until::{Deadline, Endless, Until};
 use priority_channel_waiting::waiter::Waiter;
 use std::alloc::{AllocError, Allocator};
-use std::sync::{Wait, WaitMethods};
+use std::sync::Wait;
 use std::time::{Clock, Duration, Instant};
 
 impl<S: Role, T, P: Ord, R: Wait + Clone, A: Allocator + Copy> End<S, T, P, R, A> {
@@ -44,8 +46,8 @@ impl<S: Role, T, P: Ord, R: Wait + Clone, A: Allocator + Copy> End<S, T, P, R, A
     /// Messages do not wake the thread. If nobody closes the channel, it waits without end. It
     /// blocks an executor, so a task uses `closed`.
     ///
-    /// Cost: no comparison. Memory for its waiter and for its entry in the waiting list, if the
-    /// channel is open.
+    /// Cost: no comparison. Memory for its waiter and for its entry in a list, if the channel is
+    /// open. The first wait for the close or with a condition also takes memory for these lists.
     ///
     /// ```
     /// let (tx, rx) = unbounded(&rt, rt.alloc())?;
@@ -108,104 +110,54 @@ impl<S: Role, T, P: Ord, R: Wait + Clone, A: Allocator + Copy> End<S, T, P, R, A
 }
 
 impl<T, P: Ord, R: Wait + Clone, A: Allocator + Copy> Handle<T, P, R, A> {
-    fn see_closed(&self) -> Option<SeenClosed> {
-        SeenClosed::of(self.look().core())
-    }
-
-    fn listen(&self, ticket: Option<u64>, waiter: &Waiter<A>) -> Watch {
-        let mut held = self.hold();
-        let watch = held.listen_for_close(ticket, waiter);
-        self.unlock(held);
-        watch
-    }
-
     /// Takes a waiter for the close off the list, if it has a ticket.
     pub fn unlisten(&self, ticket: Option<u64>) {
         if let Some(ticket) = ticket {
             let mut held = self.hold();
-            held.unlisten_for_close(ticket);
+            held.unlisten(Sight::Close, ticket);
             self.unlock(held);
         }
     }
 
-    // Waits until the channel is seen closed, or the time is over. The clock is read before each
-    // look, so a look that is the last one comes at the deadline or later.
-    fn wait_closed<U: Until>(&self, until: &U) -> Result<Result<SeenClosed, U::Over>, AllocError>
+    // Waits until the channel is seen closed, or the time is over.
+    fn wait_closed<U: Until>(&self, until: &U) -> Result<Result<(), U::Over>, AllocError>
         ensures { IfOk result (λ waited. IfErr waited (U.has_come until.now)) }
     {
-        let left = until.left();
-        if let Some(seen) = self.see_closed() {
-            return Ok(Ok(seen));
-        }
-        if let Err(over) = left {
-            return Ok(Err(over));
-        }
-        let waiter = Waiter::new(self.alloc())?;
-        match self.listen(None, &waiter) {
-            Watch::Listed(ticket) => Ok(self.sleep_until_closed(ticket, until, &waiter)),
-            Watch::Closed(seen) => Ok(Ok(seen)),
-            Watch::Refused => Err(AllocError),
+        match self.wait_sought(&UntilClosed, until) {
+            Ok(never) => match never {},
+            Err(Ended::Closed(())) => Ok(Ok(())),
+            Err(Ended::Over((), over)) => Ok(Err(over)),
+            Err(Ended::Memory(())) => Err(AllocError),
         }
     }
 
-    // Sleeps while it is listed, and looks again after each wake.
-    fn sleep_until_closed<U: Until>(
-        &self,
-        ticket: u64,
-        until: &U,
-        waiter: &Waiter<A>,
-    ) -> Result<SeenClosed, U::Over>
-        ensures { IfErr result (U.has_come until.now) }
-    {
-        for _ in self.rt().forever() {
-            match until.left() {
-                Ok(left) => waiter.park(self.rt(), left),
-                Err(over) => return self.look_last(ticket).ok_or(over),
-            }
-            if let Some(seen) = self.see_closed() {
-                return Ok(seen);
-            }
-        }
-        unreachable!()
-    }
-
-    // Takes the thread off the list, and looks a last time.
-    fn look_last(&self, ticket: u64) -> Option<SeenClosed> {
-        let mut held = self.hold();
-        held.unlisten_for_close(ticket);
-        let seen = SeenClosed::of(held.shown());
-        self.unlock(held);
-        seen
-    }
-
-    /// A poll of a future that waits for the close: over its fields, and not done.
+    /// A poll of a future that waits for the close: over its fields, and not done. The first look
+    /// takes no memory for waiting.
     pub fn poll_closed(
         &self,
         cx: &mut Context<'_>,
         ticket: &mut Option<u64>,
         waiter: &mut Option<Waiter<A>>,
-    ) -> Poll<Result<SeenClosed, AllocError>>
+    ) -> Poll<Result<(), AllocError>>
         ensures registered { OnPending result (Covers cx.new (λ source.
             source ≡ self.now.closing)) }
         ensures kept { Keeps cx.old cx.new }
         ensures answered { IfReady result (λ _. ticket.new ≡ None) }
         ensures listed { OnPending result (IsSome ticket.new) }
     {
-        let given = ticket.take();
-        if let Some(seen) = self.see_closed() {
-            return Poll::Ready(Ok(seen));
+        if self.look().core().is_closed() {
+            *ticket = None;
+            return Poll::Ready(Ok(()));
         }
         let Some(waiter) = self.register_for_close(cx, waiter) else {
-            self.unlisten(given);
+            self.unlisten(ticket.take());
             return Poll::Ready(Err(AllocError));
         };
-        match self.listen(given, waiter) {
-            Watch::Listed(listed) => {
-                *ticket = Some(listed);
-                Poll::Pending
-            }
-            Watch::Closed(seen) => Poll::Ready(Ok(seen)),
-            Watch::Refused => Poll::Ready(Err(AllocError)),
+        match self.seek_or_listen(&UntilClosed, ticket, waiter) {
+            Ok(Sought::Found(never)) => match never {},
+            Ok(Sought::Over) => Poll::Ready(Ok(())),
+            Ok(Sought::NotYet(_)) => Poll::Pending,
+            Err(AllocError) => Poll::Ready(Err(AllocError)),
         }
     }
 }

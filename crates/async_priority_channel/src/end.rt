@@ -3,9 +3,8 @@ ghost use Rattle.std.specs.Prelude.{◌≡◌};
 ghost use Rattle.priority_channel_core.specs.Prelude.{capacity_told};
 
 use crate::handle::Handle;
-use priority_channel_core::awaitable_atomics::Wakes;
+use priority_channel_calls::ends::{Close, CloseWhenDone, Join, Leave};
 use priority_channel_core::side::Side;
-use priority_channel_waiting::waiter::{Core, Waiter};
 use std::alloc::{AllocError, Allocator, Global};
 use std::marker::Model;
 use std::random::RandomSource;
@@ -84,7 +83,7 @@ impl<S: Role, T, P: Ord, R: Wait + Clone, A: Allocator + Copy> End<S, T, P, R, A
     /// assert_eq!(rt; rx.try_recv(), Err(TryRecvError::Closed));
     /// ```
     pub fn close(&self) -> bool {
-        self.handle.close()
+        self.handle.call(Close)
     }
 
     /// From now on the channel closes as soon as all is done: no message is pending, and no place
@@ -112,7 +111,7 @@ impl<S: Role, T, P: Ord, R: Wait + Clone, A: Allocator + Copy> End<S, T, P, R, A
     /// assert!(rt; tx.is_closed());
     /// ```
     pub fn close_when_done(&self) {
-        self.handle.close_when_done();
+        self.handle.call(CloseWhenDone)
     }
 
     /// Whether the channel is closed: by a call of `close`, by the drop of the last sender or
@@ -248,10 +247,7 @@ impl<S: Role, T: Drop, P: Ord + Drop, R: Wait + Clone, A: Allocator + Copy> Clon
     fn clone(&self) -> Result<Self, AllocError> {
         let handle = self.handle.share()?;
         // This comes last, so that a refusal above leaves the count unchanged.
-        let mut held = self.handle.hold();
-        let has_joined = join(S::SIDE, held.core());
-        self.handle.unlock(held);
-        if !has_joined {
+        if !self.handle.call(Join { side: S::SIDE }) {
             return Err(AllocError);
         }
         Ok(End::new(handle, self.role))
@@ -262,34 +258,10 @@ impl<S: Role, T: Drop, P: Ord + Drop, R: Wait + Clone, A: Allocator + Copy> Drop
     for End<S, T, P, R, A> {
     fn drop(self) {
         let End { handle, role: _ } = self;
-        let mut held = handle.hold();
-        let receivers = held.core().receiver_count();
-        let wakes = leave(S::SIDE, held.core());
-        let was_last = receivers > 0 && held.core().receiver_count() == 0;
-        handle.release(held, wakes);
+        let others = handle.call(Leave { side: S::SIDE });
+        let was_last = S::SIDE == Side::Message && others == Some(0);
         if was_last {
             handle.let_go();
         }
-    }
-}
-
-/// Counts another sender or receiver. It returns false, and changes nothing, if there are too many.
-pub(crate) fn join<T, P: Ord, A: Allocator + Copy>(side: Side, core: &mut Core<T, P, A>) -> bool {
-    match side {
-        Side::Room => core.clone_sender(),
-        Side::Message => core.clone_receiver(),
-    }
-}
-
-// Counts one sender or receiver less. The last one closes the channel. The prover does not know
-// that the count behind the lock includes this handle, so we test it.
-fn leave<T, P: Ord, A: Allocator + Copy>(
-    side: Side,
-    core: &mut Core<T, P, A>,
-) -> Wakes<Waiter<A>, A> {
-    match side {
-        Side::Room if core.sender_count() > 0 => core.drop_sender(),
-        Side::Message if core.receiver_count() > 0 => core.drop_receiver(),
-        _ => core.nobody(),
     }
 }

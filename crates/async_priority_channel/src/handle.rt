@@ -10,6 +10,9 @@ ghost use Rattle.async_priority_channel.specs.Handles.{source_of};
 use crate::identity::Identity;
 use crate::lock::Lock;
 use futures::task::{Context, Source};
+use priority_channel_calls::call::CoreCall;
+use priority_channel_calls::places::{Fill, Place};
+use priority_channel_calls::receives::TryRecv;
 use priority_channel_core::awaitable_atomics::Wakes;
 use priority_channel_core::side::Side;
 use priority_channel_waiting::guarded::{Guarded, Held, Look};
@@ -56,6 +59,8 @@ struct Shared<T, P: Ord, A: Allocator + Copy> {
     capacity: u64,
     room: Waits<A>,
     message: Waits<A>,
+    // A waiter that no task and no thread hears.
+    unheard: Waiter<A>,
     // The source of the tasks that wait for the close.
     closing: Source,
     guarded: Lock<Guarded<T, P, A>>,
@@ -115,6 +120,7 @@ impl<T: Drop, P: Ord + Drop, R: Wait + Clone, A: Allocator + Copy> Handle<T, P, 
                     capacity,
                     room: Waits::new(alloc),
                     message: Waits::new(alloc),
+                    unheard: Waiter::new(alloc)?,
                     closing: Source::new(),
                     guarded: Lock::new(Guarded::new(alloc, core)),
                     lets_go: AtomicBool::new(false),
@@ -185,6 +191,11 @@ impl<T, P: Ord, R: Wait + Clone, A: Allocator + Copy> Handle<T, P, R, A> {
         &self.rt
     }
 
+    /// A waiter that nobody hears, for a poll that need not wait.
+    pub fn unheard(&self) -> &Waiter<A> {
+        &self.shared.unheard
+    }
+
     pub fn alloc(&self) -> A {
         self.shared.alloc
     }
@@ -230,41 +241,29 @@ impl<T, P: Ord, R: Wait + Clone, A: Allocator + Copy> Handle<T, P, R, A> {
         self.shared.identity.bits(&self.rt) == other.shared.identity.bits(&other.rt)
     }
 
-    pub fn close(&self) -> bool {
+    /// Makes a call in one hold of the lock, and wakes the waiters that it took off their lists
+    /// once the lock is free. It returns the call's own answer: this code knows neither which call
+    /// it makes nor what an answer is, and drops neither.
+    #[inline(always)]
+    pub fn call<C: CoreCall<T, P, Waiter<A>, A>>(&self, call: C) -> C::Answer
+        requires { C.can_make call }
+        ensures { C.gives call result }
+    {
         let mut held = self.hold();
-        let (was_open, wakes) = held.core().close();
+        let (answer, wakes) = call.make_on(held.core());
         self.release(held, wakes);
-        was_open
+        answer
     }
 
-    /// From now on the channel closes once nothing is pending and no place is held.
-    pub fn close_when_done(&self) {
-        let mut held = self.hold();
-        let wakes = held.core().close_when_done();
-        self.release(held, wakes);
-    }
-
-    /// Frees a place that the caller holds.
-    pub fn free(&self) {
-        let mut held = self.hold();
-        let (_, wakes) = held.core().free();
-        self.release(held, wakes);
-    }
-
-    // Sends a message into a place that the caller holds, and returns whether there is a receiver.
-    // The place is held, so the first try succeeds. The prover does not know what is behind the
-    // lock, and by a loop no message is lost.
-    fn fill(&self, msg: T, priority: P) -> bool {
-        let mut pair = (msg, priority);
+    // Sends a message into a held place, and returns whether there is a receiver. The place is
+    // held, so the first try succeeds. The prover does not know what is behind the lock, and by a
+    // loop no message is lost.
+    fn fill(&self, fill: Fill<T, P>) -> bool {
+        let mut fill = fill;
         for _ in self.rt.forever() {
-            let (msg, priority) = pair;
-            let mut held = self.hold();
-            let has_receiver = held.core().receiver_count() > 0;
-            let (filled, wakes) = held.core().put(msg, priority);
-            self.release(held, wakes);
-            match filled {
-                Ok(()) => return has_receiver,
-                Err(back) => pair = back,
+            match self.call(fill) {
+                (receivers, Ok(())) => return receivers > 0,
+                (_, Err(back)) => fill = back,
             }
         }
         unreachable!()
@@ -283,9 +282,14 @@ impl<T, P: Ord, R: Wait + Clone, A: Allocator + Copy> Handle<T, P, R, A> {
 }
 
 impl<T: Drop, P: Ord + Drop, R: Wait + Clone, A: Allocator + Copy> Handle<T, P, R, A> {
-    /// Sends a message into a place that the caller holds.
-    pub fn put(&self, msg: T, priority: P) {
-        if !self.fill(msg, priority) {
+    /// Sends a message into a held place.
+    pub fn put(&self, place: Place, msg: T, priority: P) {
+        let fill = Fill {
+            place,
+            msg,
+            priority,
+        };
+        if !self.fill(fill) {
             self.let_go();
         }
     }
@@ -298,10 +302,7 @@ impl<T: Drop, P: Ord + Drop, R: Wait + Clone, A: Allocator + Copy> Handle<T, P, 
         }
         let pending = self.look().core().len();
         for _ in 0..pending {
-            let mut held = self.hold();
-            let (received, wakes) = held.core().try_recv();
-            self.release(held, wakes);
-            drop(received);
+            drop(self.call(TryRecv));
         }
     }
 }

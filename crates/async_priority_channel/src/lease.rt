@@ -1,12 +1,14 @@
 //! Messages that are worked on, and hold their places meanwhile.
-ghost use Rattle.std.specs.Prelude.{◌≡◌, ◌<◌, IfOk, IfSome, None, false};
-ghost use Rattle.std.specs.Iterator.{at_most};
+ghost use Rattle.std.specs.Prelude.{◌≡◌, IfOk, None, false};
+ghost use Rattle.std.specs.Borrow.{sem};
+ghost use Rattle.async_priority_channel.specs.Lending.{LendsMessage};
 
 use crate::handle::Handle;
-use crate::iter::Waits;
+use crate::iter::{Leases, Messages};
 use crate::permit::Permit;
 use crate::receiver::Receiver;
 use crate::waiting::{Calling, LeaseNext};
+use priority_channel_calls::places::{Place, TryLease};
 use priority_channel_core::errors::{RecvFault, TryRecvManyError};
 use priority_channel_waiting::attempts::ReceiveHeld;
 use priority_channel_waiting::timeouts::RecvTimeoutError;
@@ -59,13 +61,13 @@ impl<'a, T: Drop, P: Ord + Drop, R: Wait + Clone, A: Allocator + Copy> Model
 }
 
 impl<'a, T: Drop, P: Ord + Drop, R: Wait + Clone, A: Allocator + Copy> Lease<'a, T, P, R, A> {
-    // For a pair that was received from this channel and whose place is held.
-    pub(crate) fn of(handle: &'a Handle<T, P, R, A>, pair: (T, P)) -> Self
-        ensures { result ≡ record { channel = handle.now; pair = pair } }
+    // For a pair that was received from this channel, and its place, which is held.
+    pub(crate) fn of(handle: &'a Handle<T, P, R, A>, leased: (Place, (T, P))) -> Self
+        ensures { result ≡ record { channel = handle.now; pair = leased.1 } }
     {
-        let (msg, priority) = pair;
+        let (place, (msg, priority)) = leased;
         Lease {
-            permit: Permit::of(handle),
+            permit: Permit::of(handle, place),
             msg,
             priority,
         }
@@ -95,7 +97,9 @@ impl<'a, T: Drop, P: Ord + Drop, R: Wait + Clone, A: Allocator + Copy> Lease<'a,
     /// assert_eq!(rt; rx.try_recv(), Ok((4, 0)));
     /// ```
     pub fn message_mut(&mut self) -> &mut T
-        ensures { result.now ≡ self.old.pair.0 }
+        ensures value { result.now ≡ self.old.pair.0 }
+        ensures* writes_back { sem 𝓛 (LendsMessage T.row P.row R.row A.row P.Ord R.Clone
+            A.Allocator self.entry result) }
     {
         &mut self.msg
     }
@@ -201,10 +205,7 @@ impl<T: Drop, P: Ord + Drop, R: Wait + Clone, A: Allocator + Copy> Receiver<T, P
     pub fn try_lease(&self) -> Result<Lease<'_, T, P, R, A>, TryRecvManyError>
         ensures { IfOk result (λ lease. lease.channel ≡ self.now) }
     {
-        let mut held = self.handle.hold();
-        let leased = held.core().try_lease();
-        self.handle.unlock(held);
-        Ok(Lease::of(&self.handle, leased?))
+        Ok(Lease::of(&self.handle, self.handle.call(TryLease)?))
     }
 
     /// Receives a message, or waits for one on this thread, and keeps its place held. Its errors
@@ -223,8 +224,8 @@ impl<T: Drop, P: Ord + Drop, R: Wait + Clone, A: Allocator + Copy> Receiver<T, P
     pub fn lease_blocking(&self) -> Result<Lease<'_, T, P, R, A>, RecvFault>
         ensures { IfOk result (λ lease. lease.channel ≡ self.now) }
     {
-        let pair = self.handle.wait(ReceiveHeld, &Endless, &mut None)?;
-        Ok(Lease::of(&self.handle, pair))
+        let leased = self.handle.wait(ReceiveHeld, &Endless, &mut None)?;
+        Ok(Lease::of(&self.handle, leased))
     }
 
     /// As `lease_blocking`, but waits no longer than `timeout`, as `recv_timeout` does.
@@ -247,8 +248,8 @@ impl<T: Drop, P: Ord + Drop, R: Wait + Clone, A: Allocator + Copy> Receiver<T, P
         ensures { IfOk result (λ lease. lease.channel ≡ self.now) }
     {
         let deadline = Deadline::after(self.handle.rt(), timeout);
-        let pair = self.handle.wait(ReceiveHeld, &deadline, &mut None)?;
-        Ok(Lease::of(&self.handle, pair))
+        let leased = self.handle.wait(ReceiveHeld, &deadline, &mut None)?;
+        Ok(Lease::of(&self.handle, leased))
     }
 
     /// As `lease_timeout`, but waits no longer than until `deadline`.
@@ -272,8 +273,8 @@ impl<T: Drop, P: Ord + Drop, R: Wait + Clone, A: Allocator + Copy> Receiver<T, P
         ensures { IfOk result (λ lease. lease.channel ≡ self.now) }
     {
         let deadline = Deadline::at(self.handle.rt(), deadline);
-        let pair = self.handle.wait(ReceiveHeld, &deadline, &mut None)?;
-        Ok(Lease::of(&self.handle, pair))
+        let leased = self.handle.wait(ReceiveHeld, &deadline, &mut None)?;
+        Ok(Lease::of(&self.handle, leased))
     }
 
     /// As `lease_blocking`, for a task. This is a future, which does nothing until it is polled. If
@@ -312,44 +313,9 @@ impl<T: Drop, P: Ord + Drop, R: Wait + Clone, A: Allocator + Copy> Receiver<T, P
     /// }
     /// assert!(rt; tx.is_closed());
     /// ```
-    pub fn leases(&self) -> Leases<'_, T, P, R, A> {
-        Leases {
-            receiver: self,
-            waits: Waits::new(),
-        }
-    }
-}
-
-/// The messages of a channel, each with its place held. `Receiver::leases` makes it.
-///
-/// It waits as an `Iter` does, and never fails.
-///
-/// Cost: as `lease_blocking` for each message. All waits share one waiter.
-#[must_use = "it receives nothing until it is asked for the next message"]
-pub struct Leases<'a, T: Drop, P: Ord + Drop, R: Wait + Clone, A: Allocator + Copy = Global> {
-    receiver: &'a Receiver<T, P, R, A>,
-    waits: Waits<A>,
-}
-
-impl<'a, T: Drop, P: Ord + Drop, R: Wait + Clone, A: Allocator + Copy> Drop
-    for Leases<'a, T, P, R, A> {
-    fn drop(self) {
-        let Leases {
-            receiver: _,
-            waits: _,
-        } = self;
-    }
-}
-
-impl<'a, T: Drop, P: Ord + Drop, R: Wait + Clone, A: Allocator + Copy> Iterator
-    for Leases<'a, T, P, R, A> {
-    type Item = Lease<'a, T, P, R, A>;
-
-    ghost remaining = { λ s. at_most s.waits.left };
-
-    fn next(&mut self) -> Option<Lease<'a, T, P, R, A>> {
-        let receiver = self.receiver;
-        let pair = self.waits.next_on(&receiver.handle, ReceiveHeld)?;
-        Some(Lease::of(&receiver.handle, pair))
+    pub fn leases(&self) -> Leases<'_, T, P, R, A>
+        ensures { result.channel ≡ self.now }
+    {
+        Messages::new(self, ReceiveHeld)
     }
 }

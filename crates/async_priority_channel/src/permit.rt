@@ -4,6 +4,7 @@ ghost use Rattle.std.specs.Prelude.{◌≡◌, IfOk, None, false};
 use crate::handle::Handle;
 use crate::sender::Sender;
 use crate::waiting::{Calling, Reserve};
+use priority_channel_calls::places::{Free, Place, TryReserve};
 use priority_channel_core::errors::{SendFault, TrySendError};
 use priority_channel_waiting::timeouts::SendTimeoutError;
 use priority_channel_waiting::until::{Deadline, Endless};
@@ -31,6 +32,7 @@ use std::time::{Clock, Duration, Instant};
 #[must_use = "its place becomes free as soon as it is dropped"]
 pub struct Permit<'a, T, P: Ord, R: Wait + Clone, A: Allocator + Copy = Global> {
     handle: &'a Handle<T, P, R, A>,
+    place: Place,
 }
 
 impl<'a, T, P: Ord, R: Wait + Clone, A: Allocator + Copy> Model for Permit<'a, T, P, R, A> {
@@ -42,11 +44,11 @@ impl<'a, T, P: Ord, R: Wait + Clone, A: Allocator + Copy> Model for Permit<'a, T
 }
 
 impl<'a, T, P: Ord, R: Wait + Clone, A: Allocator + Copy> Permit<'a, T, P, R, A> {
-    // For a place of this channel that is held, and that no other permit stands for.
-    pub(crate) fn of(handle: &'a Handle<T, P, R, A>) -> Self
+    // For a place that was got of this channel.
+    pub(crate) fn of(handle: &'a Handle<T, P, R, A>, place: Place) -> Self
         ensures { result ≡ handle.now }
     {
-        Permit { handle }
+        Permit { handle, place }
     }
 }
 
@@ -59,15 +61,15 @@ impl<T: Drop, P: Ord + Drop, R: Wait + Clone, A: Allocator + Copy> Permit<'_, T,
     ///
     /// Cost: O(log n) comparisons, at most as many as n + 1 has binary digits. No memory.
     pub fn send(self, msg: T, priority: P) {
-        let Permit { handle } = self;
-        handle.put(msg, priority);
+        let Permit { handle, place } = self;
+        handle.put(place, msg, priority);
     }
 }
 
 impl<T, P: Ord, R: Wait + Clone, A: Allocator + Copy> Drop for Permit<'_, T, P, R, A> {
     fn drop(self) {
-        let Permit { handle } = self;
-        handle.free();
+        let Permit { handle, place } = self;
+        handle.call(Free { place });
     }
 }
 
@@ -97,11 +99,8 @@ impl<T, P: Ord, R: Wait + Clone, A: Allocator + Copy> Sender<T, P, R, A> {
     pub fn try_reserve(&self) -> Result<Permit<'_, T, P, R, A>, TrySendError<()>>
         ensures { IfOk result (λ permit. permit ≡ self.now) }
     {
-        let mut held = self.handle.hold();
-        let reserved = held.core().try_reserve();
-        self.handle.unlock(held);
-        reserved?;
-        Ok(Permit::of(&self.handle))
+        let place = self.handle.call(TryReserve)?;
+        Ok(Permit::of(&self.handle, place))
     }
 
     /// Holds a place for a message still to come, and waits for room on this thread, as
@@ -122,8 +121,8 @@ impl<T, P: Ord, R: Wait + Clone, A: Allocator + Copy> Sender<T, P, R, A> {
     pub fn reserve_blocking(&self) -> Result<Permit<'_, T, P, R, A>, SendFault<()>>
         ensures { IfOk result (λ permit. permit ≡ self.now) }
     {
-        self.handle.wait((), &Endless, &mut None)?;
-        Ok(Permit::of(&self.handle))
+        let place = self.handle.wait((), &Endless, &mut None)?;
+        Ok(Permit::of(&self.handle, place))
     }
 
     /// As `reserve_blocking`, but waits no longer than `timeout`, as `send_timeout` does.
@@ -147,8 +146,8 @@ impl<T, P: Ord, R: Wait + Clone, A: Allocator + Copy> Sender<T, P, R, A> {
         ensures { IfOk result (λ permit. permit ≡ self.now) }
     {
         let deadline = Deadline::after(self.handle.rt(), timeout);
-        self.handle.wait((), &deadline, &mut None)?;
-        Ok(Permit::of(&self.handle))
+        let place = self.handle.wait((), &deadline, &mut None)?;
+        Ok(Permit::of(&self.handle, place))
     }
 
     /// As `reserve_timeout`, but waits no longer than until `deadline`.
@@ -173,8 +172,8 @@ impl<T, P: Ord, R: Wait + Clone, A: Allocator + Copy> Sender<T, P, R, A> {
         ensures { IfOk result (λ permit. permit ≡ self.now) }
     {
         let deadline = Deadline::at(self.handle.rt(), deadline);
-        self.handle.wait((), &deadline, &mut None)?;
-        Ok(Permit::of(&self.handle))
+        let place = self.handle.wait((), &deadline, &mut None)?;
+        Ok(Permit::of(&self.handle, place))
     }
 
     /// As `reserve_blocking`, for a task. This is a future, which does nothing until it is polled.

@@ -4,6 +4,7 @@ ghost use Rattle.priority_channel_waiting.specs.Holding.{unpolled};
 
 use crate::end::{End, Role};
 use crate::waiting::{Recv, RecvState, Task, Waiting};
+use priority_channel_calls::receives::TryRecv;
 use priority_channel_core::errors::TryRecvError;
 use priority_channel_core::side::Side;
 use std::alloc::{Allocator, Global};
@@ -81,10 +82,7 @@ impl<T, P: Ord, R: Wait + Clone, A: Allocator + Copy> Receiver<T, P, R, A> {
     /// assert_eq!(rt; rx.try_recv(), Err(TryRecvError::Closed));
     /// ```
     pub fn try_recv(&self) -> Result<(T, P), TryRecvError> {
-        let mut held = self.handle.hold();
-        let (received, wakes) = held.core().try_recv();
-        self.handle.release(held, wakes);
-        received
+        self.handle.call(TryRecv)
     }
 }
 

@@ -1,12 +1,13 @@
-//! Receives that wait until a pending message meets a condition.
+//! Waits with a condition: the receives until a pending message meets one, and their loop, which is
+//! also that of the wait for the close.
 //!
-//! The thread looks at the pending messages. If none is for it, it is listed in the same hold of
-//! the lock, and sleeps until something has changed of what it looks at, or an instant has come for
-//! which it asked.
-ghost use Rattle.std.specs.Prelude.{true, IfOk, IfErr};
+//! The thread looks at the channel. If nothing is for it, it is listed in the same hold of the lock,
+//! and sleeps until something has changed of what it looks at, or an instant has come for which it
+//! asked.
+ghost use Rattle.std.specs.Prelude.{◌≡◌, true, None, IfOk, IfErr, IsSome, OnErr};
 ghost use Rattle.priority_channel_core.specs.bag.Prelude.{Tells};
 ghost use Rattle.priority_channel_waiting.specs.Ends.{OnOver};
-ghost use Rattle.priority_channel_waiting.specs.Seeking.{ComesDue, IfFound};
+ghost use Rattle.priority_channel_waiting.specs.Seeking.{ComesDue, IfFound, IfNotYet, IfOver};
 
 use crate::handle::Handle;
 use crate::receiver::Receiver;
@@ -36,7 +37,8 @@ impl<T, P: Ord, R: Wait + Clone, A: Allocator + Copy> Receiver<T, P, R, A> {
     /// is woken by each change, and one of them receives.
     ///
     /// Cost: at each look a call of `when` under the lock, and that of `try_recv`. Memory for a
-    /// waiter and its entry in a list, if it waits.
+    /// waiter and its entry in a list, if it waits. The first wait for the close or with a condition
+    /// also takes memory for these lists.
     ///
     /// ```
     /// let (tx, rx) = unbounded(&rt, rt.alloc())?;
@@ -131,8 +133,7 @@ impl<T, P: Ord, R: Wait + Clone, A: Allocator + Copy> Receiver<T, P, R, A> {
     /// The test is called under the channel's lock (see `End`), once on each pending message at
     /// each look. Each of several threads that wait so is woken by each change.
     ///
-    /// Cost: at each look that of `try_recv_where`. Memory for a waiter and its entry in a list, if
-    /// it waits.
+    /// Cost: at each look that of `try_recv_where`. Memory as for `recv_when_blocking`.
     ///
     /// ```
     /// let (tx, rx) = unbounded(&rt, rt.alloc())?;
@@ -204,20 +205,20 @@ impl<T, P: Ord, R: Wait + Clone, A: Allocator + Copy> Receiver<T, P, R, A> {
 }
 
 impl<T, P: Ord, R: Wait + Clone, A: Allocator + Copy> Handle<T, P, R, A> {
-    // The clock is read before each look, so a look that is the last one comes at the deadline or
-    // later.
-    fn wait_sought<S: Seek<T, P, A>, U: Until>(
+    /// Waits until something meets the condition, or the wait is over. The clock is read before
+    /// each look, so a look that is the last one comes at the deadline or later.
+    pub fn wait_sought<S: Seek<T, P, A>, U: Until>(
         &self,
         seek: &S,
         until: &U,
-    ) -> Result<(T, P), Ended<(), U::Over>>
+    ) -> Result<S::Found, Ended<(), U::Over>>
         requires { S.can_seek seek.now }
         ensures found { IfOk result (S.meets seek.now) }
         ensures over { IfErr result (λ ended. OnOver ended (U.has_come until.now)) }
     {
         let left = until.left();
         match self.seek(seek) {
-            Sought::Found(pair) => return Ok(pair),
+            Sought::Found(found) => return Ok(found),
             Sought::Over => return Err(Ended::Closed(())),
             Sought::NotYet(_) => {}
         }
@@ -231,7 +232,7 @@ impl<T, P: Ord, R: Wait + Clone, A: Allocator + Copy> Handle<T, P, R, A> {
     }
 
     // Looks once, without memory for waiting.
-    fn seek<S: Seek<T, P, A>>(&self, seek: &S) -> Sought<T, P>
+    fn seek<S: Seek<T, P, A>>(&self, seek: &S) -> Sought<S::Found>
         requires { S.can_seek seek.now }
         ensures { IfFound result (S.meets seek.now) }
     {
@@ -247,7 +248,7 @@ impl<T, P: Ord, R: Wait + Clone, A: Allocator + Copy> Handle<T, P, R, A> {
         seek: &S,
         until: &U,
         waiter: &Waiter<A>,
-    ) -> Result<(T, P), Ended<(), U::Over>>
+    ) -> Result<S::Found, Ended<(), U::Over>>
         requires { S.can_seek seek.now }
         ensures found { IfOk result (S.meets seek.now) }
         ensures over { IfErr result (λ ended. OnOver ended (U.has_come until.now)) }
@@ -259,7 +260,7 @@ impl<T, P: Ord, R: Wait + Clone, A: Allocator + Copy> Handle<T, P, R, A> {
                 Err(over) => return self.seek_last(seek, ticket, over, until),
             };
             match self.seek_or_listen(seek, &mut ticket, waiter) {
-                Ok(Sought::Found(pair)) => return Ok(pair),
+                Ok(Sought::Found(found)) => return Ok(found),
                 Ok(Sought::Over) => return Err(Ended::Closed(())),
                 Ok(Sought::NotYet(within)) => waiter.park(self.rt(), sooner(left, within)),
                 Err(AllocError) => return Err(Ended::Memory(())),
@@ -268,16 +269,19 @@ impl<T, P: Ord, R: Wait + Clone, A: Allocator + Copy> Handle<T, P, R, A> {
         unreachable!()
     }
 
-    // Looks, and if nothing is found has the waiter listed in the same hold. The error is that this
-    // was refused.
-    fn seek_or_listen<S: Seek<T, P, A>>(
+    /// Looks, and if nothing is found has the waiter listed in the same hold. The error is that
+    /// this was refused.
+    pub fn seek_or_listen<S: Seek<T, P, A>>(
         &self,
         seek: &S,
         ticket: &mut Option<u64>,
         waiter: &Waiter<A>,
-    ) -> Result<Sought<T, P>, AllocError>
+    ) -> Result<Sought<S::Found>, AllocError>
         requires { S.can_seek seek.now }
-        ensures { IfOk result (λ sought. IfFound sought (S.meets seek.now)) }
+        ensures found { IfOk result (λ sought. IfFound sought (S.meets seek.now)) }
+        ensures listed { IfOk result (λ sought. IfNotYet sought (IsSome ticket.new)) }
+        ensures over { IfOk result (λ sought. IfOver sought (ticket.new ≡ None)) }
+        ensures refused { OnErr result (ticket.new ≡ None) }
     {
         let given = ticket.take();
         let mut held = self.hold();
@@ -291,7 +295,9 @@ impl<T, P: Ord, R: Wait + Clone, A: Allocator + Copy> Handle<T, P, R, A> {
         };
         let (listed, others) = held.listen(self.alloc(), S::sight(), given, waiter);
         self.release(held, wakes);
-        others.wake(self.rt());
+        if let Some(others) = others {
+            others.wake(self.rt());
+        }
         match listed {
             Listed::Under(listed) => {
                 *ticket = Some(listed);
@@ -309,7 +315,7 @@ impl<T, P: Ord, R: Wait + Clone, A: Allocator + Copy> Handle<T, P, R, A> {
         ticket: Option<u64>,
         over: U::Over,
         until: &U,
-    ) -> Result<(T, P), Ended<(), U::Over>>
+    ) -> Result<S::Found, Ended<(), U::Over>>
         requires can { S.can_seek seek.now }
         requires over { U.has_come until.now over }
         ensures found { IfOk result (S.meets seek.now) }
@@ -322,7 +328,7 @@ impl<T, P: Ord, R: Wait + Clone, A: Allocator + Copy> Handle<T, P, R, A> {
         let (sought, wakes) = seek.seek(held.core());
         self.release(held, wakes);
         match sought {
-            Sought::Found(pair) => Ok(pair),
+            Sought::Found(found) => Ok(found),
             Sought::Over => Err(Ended::Closed(())),
             Sought::NotYet(_) => Err(Ended::Over((), over)),
         }

@@ -7,6 +7,8 @@ ghost use Rattle.priority_channel_waiting.specs.Holding.{HoldsTail, unpolled};
 
 use crate::end::{End, Role};
 use crate::waiting::{Send, SendState, Sendv, SendvState, Task, Waiting};
+use priority_channel_calls::bulk::TrySendv;
+use priority_channel_calls::sends::{TrySend, TrySendEvicting};
 use priority_channel_core::errors::TrySendError;
 use priority_channel_core::side::Side;
 use std::alloc::{Allocator, Global};
@@ -69,10 +71,7 @@ impl<T: Drop, P: Ord + Drop, R: Wait + Clone, A: Allocator + Copy> Sender<T, P, 
             (rest_of error)) }
         ensures callable { IfErr result (λ error. peekable_can I.can_next (rest_of error)) }
     {
-        let mut held = self.handle.hold();
-        let (sent, wakes) = held.core().try_sendv(msgs);
-        self.handle.release(held, wakes);
-        sent
+        self.handle.call(TrySendv { msgs })
     }
 
     /// Sends a message as soon as there is room. This is a future, which does nothing until it is
@@ -154,10 +153,7 @@ impl<T, P: Ord, R: Wait + Clone, A: Allocator + Copy> Sender<T, P, R, A> {
     pub fn try_send(&self, msg: T, priority: P) -> Result<(), TrySendError<(T, P)>>
         ensures { IfErr result (λ error. rest_of error ≡ (msg, priority)) }
     {
-        let mut held = self.handle.hold();
-        let (sent, wakes) = held.core().try_send(msg, priority);
-        self.handle.release(held, wakes);
-        sent
+        self.handle.call(TrySend { msg, priority })
     }
 
     /// Sends a message at once, into a full channel in the place of the pending message of least
@@ -194,10 +190,7 @@ impl<T, P: Ord, R: Wait + Clone, A: Allocator + Copy> Sender<T, P, R, A> {
         ensures less_urgent { IfOk result (λ displaced. IfSome displaced (λ out.
             P.cmp out.1 priority ≡ Less)) }
     {
-        let mut held = self.handle.hold();
-        let (sent, wakes) = held.core().try_send_evicting(msg, priority);
-        self.handle.release(held, wakes);
-        sent
+        self.handle.call(TrySendEvicting { msg, priority })
     }
 }
 

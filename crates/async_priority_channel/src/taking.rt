@@ -1,12 +1,13 @@
 //! Calls that count, change, receive or take out the messages that a test chooses.
-ghost use Rattle.std.specs.Prelude.{true, false, All, IfOk, IfSome};
-ghost use Rattle.priority_channel_core.specs.bag.Prelude.{Tells};
+ghost use Rattle.std.specs.Prelude.{List, true, false, All, IfOk, IfSome};
+ghost use Rattle.std.specs.List.{FoldsTo};
+ghost use Rattle.priority_channel_core.specs.bag.Prelude.{Folds, Tells};
 
 use crate::end::{End, Role};
 use crate::receiver::Receiver;
-use priority_channel_core::awaitable_atomics::Wakes;
+use priority_channel_calls::receives::{TryRecvIf, TryRecvWhere};
+use priority_channel_calls::taking::{ChangePriority, Retain, TakeWhere};
 use priority_channel_core::errors::TryRecvError;
-use priority_channel_waiting::waiter::{Core, Waiter};
 use std::alloc::{AllocError, Allocator};
 use std::sync::Wait;
 
@@ -39,10 +40,7 @@ impl<S: Role, T, P: Ord, R: Wait + Clone, A: Allocator + Copy> End<S, T, P, R, A
         requires { F.IsAlwaysCallable test }
         ensures { IfSome result (λ pair. Tells F.Fn test pair true) }
     {
-        let mut held = self.handle.hold();
-        let (taken, wakes) = held.core().take_where(&test);
-        self.handle.release(held, wakes);
-        taken
+        self.handle.call(TakeWhere { test: &test })
     }
 
     /// Gives another priority to the pending message that was accepted first among those for which
@@ -76,10 +74,11 @@ impl<S: Role, T, P: Ord, R: Wait + Clone, A: Allocator + Copy> End<S, T, P, R, A
         requires { F.IsAlwaysCallable test }
         ensures { IfSome result (λ was. (msg : T) × Tells F.Fn test (msg, was) true) }
     {
-        let mut held = self.handle.hold();
-        let changed = held.core().change_priority(&test, priority);
-        self.handle.unlock(held);
-        changed.ok()
+        let change = ChangePriority {
+            test: &test,
+            priority,
+        };
+        self.handle.call(change).ok()
     }
 
     /// The number of pending messages for which the test returns true. The test is called as by
@@ -119,6 +118,7 @@ impl<S: Role, T, P: Ord, R: Wait + Clone, A: Allocator + Copy> End<S, T, P, R, A
     where
         F: Drop,
         requires { F.IsAlwaysCallable step }
+        ensures { (pairs : List (T × P)) × FoldsTo (Folds F.Fn step) init pairs result }
     {
         self.handle.look().core().fold_pending(init, &step)
     }
@@ -151,11 +151,11 @@ impl<S: Role, T, P: Ord, R: Wait + Clone, A: Allocator + Copy> End<S, T, P, R, A
         requires { F.IsAlwaysCallable test }
         ensures { IfOk result (λ taken. All (λ pair. Tells F.Fn test pair false) taken.items) }
     {
-        let alloc = self.handle.alloc();
-        let mut held = self.handle.hold();
-        let (retained, wakes) = retain_on(held.core(), &test, alloc);
-        self.handle.release(held, wakes);
-        retained
+        let retain = Retain {
+            test: &test,
+            alloc: self.handle.alloc(),
+        };
+        self.handle.call(retain)
     }
 }
 
@@ -188,10 +188,7 @@ impl<T, P: Ord, R: Wait + Clone, A: Allocator + Copy> Receiver<T, P, R, A> {
         requires { F.IsAlwaysCallable test }
         ensures { IfOk result (λ taken. IfSome taken (λ pair. Tells F.Fn test pair true)) }
     {
-        let mut held = self.handle.hold();
-        let (received, wakes) = held.core().try_recv_where(&test);
-        self.handle.release(held, wakes);
-        received
+        self.handle.call(TryRecvWhere { test: &test })
     }
 
     /// Receives the message of greatest priority, if the test returns true for it. Otherwise it
@@ -218,26 +215,6 @@ impl<T, P: Ord, R: Wait + Clone, A: Allocator + Copy> Receiver<T, P, R, A> {
         requires { F.IsAlwaysCallable test }
         ensures { IfOk result (λ taken. IfSome taken (λ pair. Tells F.Fn test pair true)) }
     {
-        let mut held = self.handle.hold();
-        let (received, wakes) = held.core().try_recv_if(&test);
-        self.handle.release(held, wakes);
-        received
-    }
-}
-
-fn retain_on<T, P: Ord, F: Fn(&T, &P) -> bool, A: Allocator + Copy>(
-    core: &mut Core<T, P, A>,
-    test: &F,
-    alloc: A,
-) -> (Result<Vec<(T, P), A>, AllocError>, Wakes<Waiter<A>, A>)
-    requires { F.IsAlwaysCallable test.now }
-    ensures { IfOk result.0 (λ taken. All (λ pair. Tells F.Fn test.now pair false) taken.items) }
-{
-    match Vec::with_capacity(alloc, core.len() as usize) {
-        Err(refused) => (Err(refused), core.nobody()),
-        Ok(mut taken) => {
-            let wakes = core.retain(test, &mut taken);
-            (Ok(taken), wakes)
-        }
+        self.handle.call(TryRecvIf { test: &test })
     }
 }

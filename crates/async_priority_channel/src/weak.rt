@@ -2,10 +2,11 @@
 ghost use Rattle.std.specs.Prelude.{IfOk, IfSome};
 ghost use Rattle.async_priority_channel.specs.Handles.{SameChannel};
 
-use crate::end::{End, Role, join};
+use crate::end::{End, Role};
 use crate::handle::Handle;
 use crate::receiver::Receiving;
 use crate::sender::Sending;
+use priority_channel_calls::ends::JoinOpen;
 use std::alloc::{AllocError, Allocator, Global};
 use std::fmt;
 use std::marker::Model;
@@ -54,10 +55,7 @@ impl<S: Role, T: Drop, P: Ord + Drop, R: Wait + Clone, A: Allocator + Copy> Weak
     {
         let handle = self.handle.share().ok()?;
         // This comes last, so that a refusal above leaves the count unchanged.
-        let mut held = self.handle.hold();
-        let has_joined = !held.core().is_closed() && join(S::SIDE, held.core());
-        self.handle.unlock(held);
-        if !has_joined {
+        if self.handle.call(JoinOpen { side: S::SIDE }) != Some(true) {
             return None;
         }
         Some(End::new(handle, self.role))

@@ -1,10 +1,7 @@
 pub mod LeftOver
 pub mod Holdings
-pub mod Tries
 pub mod Ends
 pub mod Closers
-pub mod Listed
-pub mod Watchers
 pub mod Lines
 pub mod worlds
 pub mod queue

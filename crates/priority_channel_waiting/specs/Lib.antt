@@ -5,7 +5,6 @@ pub mod Tails
 pub mod Holding
 pub mod Polled
 pub mod Ends
-pub mod Closers
 pub mod Selecting
 pub mod Guarded
 pub mod Seeking

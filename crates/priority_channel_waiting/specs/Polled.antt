@@ -1,16 +1,14 @@
--- What each kind of future does at a poll, and at a try that has to wait.
-use Rattle.std.specs.Prelude.{◌≡◌, ◌*◌, ℕ, List, [], length, Option, Result, Err, IfErr, false}
+-- What each kind of future does at a poll.
+use Rattle.std.specs.Prelude.{◌*◌, ℕ, List, length, Option}
 use Rattle.priority_channel_core.specs.bag.Prelude.{digits}
 use Rattle.priority_channel_core.specs.declared.calls.Call.{Call}
 use Rattle.priority_channel_core.specs.declared.calls.Answer.{Answer}
 use Rattle.priority_channel_core.specs.declared.calls.CorePoll.{CorePoll}
 use Rattle.priority_channel_core.specs.declared.calls.Answer.TheVariants as answer
-use Rattle.priority_channel_core.specs.declared.calls.Call.TheVariants as call
-use Rattle.priority_channel_core.specs.declared.errors.TrySendError.TheVariants.{Full}
 use Rattle.priority_channel_waiting.specs.Future.Task.{Sendv}
-use Rattle.priority_channel_core.specs.Prelude.{State, CountedState, ComparesAtMost, search_bound, Handed, nobody, room, IsGoingOn, Step, Ordering, SendEnd, SendPoll, RecvEnd, RecvPoll, IsGood, Performs, PollsFront}
+use Rattle.priority_channel_core.specs.Prelude.{State, CountedState, ComparesAtMost, search_bound, Handed, Step, Ordering, SendPoll, RecvPoll, IsGood, Performs, PollsFront}
 use Rattle.priority_channel_waiting.specs.Future.{Task, poll_of, future_after}
-use Rattle.priority_channel_waiting.specs.Holding.{left_by, send_of, recv_of, IsKeptOf, TriesFront}
+use Rattle.priority_channel_waiting.specs.Holding.{left_by, send_of, recv_of, IsKeptOf}
 
 module _ {T P W M F K R : Type 0}
     (Performs : State T P W → Call T P W M F → Answer T P M → Handed W → State T P W → Type 0)
@@ -38,26 +36,6 @@ module _ {T P W : Type 0} (cmp : P → P → Ordering) (is_clone : W → W → T
       × ComparesAtMost (2 * digits (length old.state.pending)) (search_bound old.state.waiters) old
       new
 
--- a try that has to wait changes nothing
-module _ {T P W : Type 0} where
-  abbrev pub ChangesNothing : CountedState T P W → Handed W → CountedState T P W → Type 0
-  ChangesNothing old handed new = (handed ≡ nobody) × (new.state ≡ old.state)
-
-  abbrev pub SendTries : T × P → Option ℕ → Result (SendEnd (T × P)) (T × P) → CountedState T P W
-      → Handed W → CountedState T P W → Type 0
-  SendTries pair given tried old handed new =
-      IfErr tried (λ rest. (rest ≡ pair) × ChangesNothing old handed new
-      × (old.state.is_closed ≡ false) × (room old.state ≡ 0))
-      × ComparesAtMost (digits (length new.state.pending)) (search_bound old.state.waiters) old new
-
-  abbrev pub RecvTries : Unit {0} → Option ℕ → Result (RecvEnd (T × P)) (Unit {0})
-      → CountedState T P W → Handed W → CountedState T P W → Type 0
-  RecvTries kept given tried old handed new =
-      IfErr tried (λ rest. ChangesNothing old handed new
-      × IsGoingOn old.state × (old.state.pending ≡ []))
-      × ComparesAtMost (2 * digits (length old.state.pending)) (search_bound old.state.waiters) old
-      new
-
 -- a bulk send; the prefix that it sends is told whether or not the iterator has one list
 module _ {T P W M : Type 0} (holds : M → List (T × P) → Type 0) (cmp : P → P → Ordering)
     (is_clone : W → W → Type 0) where
@@ -67,16 +45,6 @@ module _ {T P W M : Type 0} (holds : M → List (T × P) → Type 0) (cmp : P �
         (λ reply. answer.PollSendv reply) msgs given waker old.state reply handed new.state
     pub front : (front : List (T × P))
         × PollsFront is_clone old.state given waker front handed new.state
-        × ComparesAtMost (length front * digits (length new.state.pending))
-        (search_bound old.state.waiters) old new
-    pub good : IsGood new.state
-
-  pub record SendvTries (msgs : M) (given : Option ℕ) (tried : Result (SendEnd M) M)
-      (old : CountedState T P W) (handed : Handed W) (new : CountedState T P W) : Type 0 where
-    pub step : IfErr tried (λ rest. Performs holds cmp is_clone old.state (call.TrySendv msgs)
-        (answer.TrySendv (Err (Full rest))) handed new.state)
-    pub front : (front : List (T × P))
-        × TriesFront old.state given front tried handed new.state
         × ComparesAtMost (length front * digits (length new.state.pending))
         (search_bound old.state.waiters) old new
     pub good : IsGood new.state

@@ -8,22 +8,23 @@ use Rattle.priority_channel_waiting.specs.declared.seeking.Due.TheVariants.{Neve
 use Rattle.priority_channel_waiting.specs.declared.seeking.Sought.{Sought}
 use Rattle.priority_channel_waiting.specs.declared.seeking.Sought.TheVariants.{Found, Over, NotYet}
 
-module _ {T P : Type 0} where
-  abbrev pub IfFound : Sought T P → (T × P → Type 0) → Type 0
-  IfFound (Found pair) fact = fact pair
+module _ {X : Type 0} where
+  abbrev pub IfFound : Sought X → (X → Type 0) → Type 0
+  IfFound (Found found) fact = fact found
   IfFound Over fact = ⊤
   IfFound (NotYet within) fact = ⊤
 
-  abbrev pub IfOver : Sought T P → Type 0 → Type 0
+  abbrev pub IfOver : Sought X → Type 0 → Type 0
   IfOver (Found pair) fact = ⊤
   IfOver Over fact = fact
   IfOver (NotYet within) fact = ⊤
 
-  abbrev pub IfNotYet : Sought T P → Type 0 → Type 0
+  abbrev pub IfNotYet : Sought X → Type 0 → Type 0
   IfNotYet (Found pair) fact = ⊤
   IfNotYet Over fact = ⊤
   IfNotYet (NotYet within) fact = fact
 
+module _ {T P : Type 0} where
   -- a call of `when` on this message may tell when it is due
   abbrev pub ComesDue : {F : Type 0} → Shared F (Bor T × (Bor P × Unit {0})) Due → F → T × P
       → Type 0

@@ -1,5 +1,5 @@
 -- What a call that waits on its thread does, and what it returns without success.
-use Rattle.std.specs.Prelude.{◌≡◌, ℕ, List, Option, Some, None, Ok, Err, codes}
+use Rattle.std.specs.Prelude.{◌≡◌, ℕ, List, Option, Some, None, Result, Ok, Err, codes}
 use Rattle.priority_channel_core.specs.declared.errors.SendFault.{SendFault}
 use Rattle.priority_channel_core.specs.declared.errors.RecvError.{RecvError}
 use Rattle.priority_channel_core.specs.declared.errors.RecvFault.{RecvFault}
@@ -18,7 +18,9 @@ use Rattle.priority_channel_waiting.specs.declared.timeouts.SendTimeoutError.{Se
 use Rattle.priority_channel_waiting.specs.declared.timeouts.SendTimeoutError.TheVariants as send_timeout
 use Rattle.priority_channel_waiting.specs.declared.timeouts.RecvTimeoutError.{RecvTimeoutError}
 use Rattle.priority_channel_waiting.specs.declared.timeouts.RecvTimeoutError.TheVariants as recv_timeout
-use Rattle.priority_channel_core.specs.Prelude.{SendReply, RecvReply, LeaseReply}
+use Rattle.priority_channel_core.specs.declared.errors.TrySendError.{TrySendError}
+use Rattle.priority_channel_core.specs.declared.errors.TryRecvManyError.{TryRecvManyError}
+use Rattle.priority_channel_core.specs.Prelude.{RecvReply}
 
 module _ {D C : Type 0} where
   abbrev pub left_over : Outcome D C → Option C
@@ -28,7 +30,7 @@ module _ {D C : Type 0} where
   left_over (Memory rest) = Some rest
 
 -- the outcome of a try
-abbrev pub outcome_of_try : {C : Type 0} → SendReply C → Outcome (Unit {0}) C
+abbrev pub outcome_of_try : {D C : Type 0} → Result D (TrySendError C) → Outcome D C
 outcome_of_try (Ok done) = Done done
 outcome_of_try (Err (try_send.Full rest)) = Blocked rest
 outcome_of_try (Err (try_send.Closed rest)) = Closed rest
@@ -39,7 +41,8 @@ recv_tried call (Ok pair) = Done pair
 recv_tried call (Err try_recv.Empty) = Blocked call
 recv_tried call (Err try_recv.Closed) = Closed call
 
-abbrev pub lease_tried : {X : Type 0} → ReceiveHeld → LeaseReply X → Outcome X ReceiveHeld
+abbrev pub lease_tried : {X : Type 0} → ReceiveHeld → Result X TryRecvManyError
+    → Outcome X ReceiveHeld
 lease_tried call (Ok pair) = Done pair
 lease_tried call (Err try_lease.Empty) = Blocked call
 lease_tried call (Err try_lease.Closed) = Closed call

@@ -4,4 +4,3 @@ pub mod WaitingLaw
 pub mod Threads
 pub mod ThreadEvents
 pub mod QueueLaw
-pub mod CloseLaw

@@ -5,6 +5,7 @@ ghost use Rattle.std.proofs.Common.{◌∙◌};
 ghost use Rattle.std.specs.Iterator.Adapters.{peekable_can};
 ghost use Rattle.priority_channel_core.specs.declared.side.Side.{Side};
 ghost use Rattle.priority_channel_core.specs.Prelude.{HasList, Step, Performs};
+ghost use Rattle.priority_channel_calls.specs.Told.{beside_place, without_place};
 ghost use Rattle.priority_channel_waiting.specs.Holding.{HoldsTail};
 ghost use Rattle.priority_channel_waiting.specs.Ends.{OnOver};
 ghost use Rattle.priority_channel_waiting.specs.Waits.{left_over, given_back, outcome_of_try, recv_tried, lease_tried};
@@ -12,6 +13,8 @@ ghost use Rattle.priority_channel_waiting.specs.Tails.{tail_of_itself, tail_of_t
 
 use crate::timeouts::Ended;
 use crate::waiter::{Core, Waiter};
+use priority_channel_calls::call::CoreCall;
+use priority_channel_calls::places::{Place, TryLease, TryReserve};
 use priority_channel_core::awaitable_atomics::Wakes;
 use priority_channel_core::calls::{Answer, Call};
 use priority_channel_core::errors::{TryRecvError, TryRecvManyError, TrySendError};
@@ -115,7 +118,7 @@ impl<T, P: Ord, A: Allocator + Copy> Attempt<T, P, A> for Receive {
 pub struct ReceiveHeld;
 
 impl<T, P: Ord, A: Allocator + Copy> Attempt<T, P, A> for ReceiveHeld {
-    type Done = (T, P);
+    type Done = (Place, (T, P));
 
     ghost leaves = { λ _ _. ⊤ };
 
@@ -129,27 +132,36 @@ impl<T, P: Ord, A: Allocator + Copy> Attempt<T, P, A> for ReceiveHeld {
         Side::Message
     }
 
-    fn try_on(self, core: &mut Core<T, P, A>) -> (Outcome<(T, P), Self>, Wakes<Waiter<A>, A>)
+    fn try_on(
+        self,
+        core: &mut Core<T, P, A>,
+    ) -> (Outcome<(Place, (T, P)), Self>, Wakes<Waiter<A>, A>)
         ensures step { (reply : _) × (result.0 ≡ lease_tried self reply)
             × Step P.cmp ⟦<Waiter<A> as Clone>⟧.is_clone core.old.state
-            Call.TryLease (Answer.TryLease reply) result.1 core.new.state }
+            Call.TryLease (Answer.TryLease (beside_place reply)) result.1 core.new.state }
     {
-        let outcome = match core.try_lease() {
-            Ok(pair) => Outcome::Done(pair),
-            Err(TryRecvManyError::Empty) => Outcome::Blocked(ReceiveHeld),
-            Err(TryRecvManyError::Closed) => Outcome::Closed(ReceiveHeld),
-            Err(TryRecvManyError::Memory) => Outcome::Memory(ReceiveHeld),
-        };
-        (outcome, core.nobody())
+        let (leased, wakes) = TryLease.make_on(core);
+        (lease_outcome(leased), wakes)
+    }
+}
+
+fn lease_outcome<D>(leased: Result<D, TryRecvManyError>) -> Outcome<D, ReceiveHeld>
+    ensures { result ≡ lease_tried (record {}) leased }
+{
+    match leased {
+        Ok(done) => Outcome::Done(done),
+        Err(TryRecvManyError::Empty) => Outcome::Blocked(ReceiveHeld),
+        Err(TryRecvManyError::Closed) => Outcome::Closed(ReceiveHeld),
+        Err(TryRecvManyError::Memory) => Outcome::Memory(ReceiveHeld),
     }
 }
 
 #[inline(always)]
-fn send_tried<C>(sent: Result<(), TrySendError<C>>) -> Outcome<(), C>
+fn send_tried<D, C>(sent: Result<D, TrySendError<C>>) -> Outcome<D, C>
     ensures { result ≡ outcome_of_try sent }
 {
     match sent {
-        Ok(()) => Outcome::Done(()),
+        Ok(done) => Outcome::Done(done),
         Err(TrySendError::Full(rest)) => Outcome::Blocked(rest),
         Err(TrySendError::Closed(rest)) => Outcome::Closed(rest),
         Err(TrySendError::Memory(rest)) => Outcome::Memory(rest),
@@ -219,7 +231,7 @@ impl<T: Drop, P: Ord + Drop, A: Allocator + Copy, I: Iterator<Item = (T, P)>> At
 
 /// A reserve of a place for a pair that is still to come.
 impl<T, P: Ord, A: Allocator + Copy> Attempt<T, P, A> for () {
-    type Done = ();
+    type Done = Place;
 
     ghost leaves = { λ _ _. ⊤ };
 
@@ -233,12 +245,12 @@ impl<T, P: Ord, A: Allocator + Copy> Attempt<T, P, A> for () {
         Side::Room
     }
 
-    fn try_on(self, core: &mut Core<T, P, A>) -> (Outcome<(), Self>, Wakes<Waiter<A>, A>)
+    fn try_on(self, core: &mut Core<T, P, A>) -> (Outcome<Place, Self>, Wakes<Waiter<A>, A>)
         ensures step { (reply : _) × (result.0 ≡ outcome_of_try reply)
             × Step P.cmp ⟦<Waiter<A> as Clone>⟧.is_clone core.old.state
-            Call.TryReserve (Answer.TryReserve reply) result.1 core.new.state }
+            Call.TryReserve (Answer.TryReserve (without_place reply)) result.1 core.new.state }
     {
-        let reserved = core.try_reserve();
-        (send_tried(reserved), core.nobody())
+        let (reserved, wakes) = TryReserve.make_on(core);
+        (send_tried(reserved), wakes)
     }
 }

@@ -1,9 +1,9 @@
 //! What the channel's lock guards, and the holds of the lock.
-ghost use Rattle.std.specs.Prelude.{◌≡◌, ◌++◌, None, IsSomeAnd, box_value};
+ghost use Rattle.std.specs.Prelude.{◌≡◌, false, None, Some, IfSome, IsSomeAnd, box_value, option_map};
+ghost use Rattle.priority_channel_waiting.specs.Selecting.{TakesOff};
 
-use crate::closing::{Closing, Watch};
-use crate::selecting::{Listed, Selecting, Sight, Taken};
-use crate::waiter::{Core, Waiter, wake_all, wake_each};
+use crate::selecting::{Listed, OtherWakes, Selecting, Sight};
+use crate::waiter::{Core, Waiter, wake_all};
 use priority_channel_core::awaitable_atomics::Wakes;
 use std::alloc::Allocator;
 use std::marker::Model;
@@ -12,13 +12,14 @@ use std::sync::{MutexGuard, Wait};
 /// The core, and the waiters that it does not list: for the close, and for a message that meets a
 /// condition.
 ///
-/// While the lock is free, nobody waits for such a message who has not seen what is pending: the
-/// invariant says so, and the prover checks it at each release.
+/// While the lock is free, nobody waits so who has not seen what is there. In particular, nobody
+/// waits for the close of a closed channel. The invariant says so, and the prover checks it at each
+/// release.
 #[derive(Drop)]
 pub struct Guarded<T, P: Ord, A: Allocator + Copy> {
     core: Core<T, P, A>,
-    closing: Closing<A>,
-    // None until the first thread waits so, and while a call is made that may change the core.
+    // None until the first task or thread waits so, and while a call is made that may change the
+    // core.
     selecting: Option<Box<Selecting<A>, A>>,
 }
 
@@ -30,7 +31,6 @@ impl<T, P: Ord, A: Allocator + Copy> Model for Guarded<T, P, A> {
 
     ghost view = { λ g. record {
       core = g.core;
-      closing = g.closing;
       selecting = option_map box_value g.selecting;
     } };
 
@@ -41,7 +41,6 @@ impl<T, P: Ord, A: Allocator + Copy> Guarded<T, P, A> {
     pub fn new(alloc: A, core: Core<T, P, A>) -> Self {
         Guarded {
             core,
-            closing: Closing::new(alloc),
             selecting: None,
         }
     }
@@ -56,16 +55,15 @@ impl<T, P: Ord, A: Allocator + Copy> Guarded<T, P, A> {
 
     #[inline(always)]
     fn take_selecting(&mut self) -> Option<Box<Selecting<A>, A>>
-        ensures { self.new.selecting ≡ None }
+        ensures taken { option_map box_value result ≡ self.old.selecting }
+        ensures left { self.new.selecting ≡ None }
     {
         self.selecting.take()
     }
 
-    // Puts the waiters with a condition back, except for those that have to look again.
-    fn put_back(&mut self, alloc: A, selecting: Box<Selecting<A>, A>) -> (Taken<A>, Taken<A>)
-        ensures { IsSomeAnd self.new.selecting (λ kept.
-            (result.0.items ++ kept.first.waiters ≡ (box_value selecting).first.waiters)
-            × (result.1.items ++ kept.all.waiters ≡ (box_value selecting).all.waiters)) }
+    // Puts the waiters beside the core back, except for those that have to look again.
+    fn put_back(&mut self, alloc: A, selecting: Box<Selecting<A>, A>) -> Option<OtherWakes<A>>
+        ensures { IsSomeAnd self.new.selecting (TakesOff (box_value selecting) result) }
     {
         let mut selecting = selecting;
         let due = selecting.due(&self.core, alloc);
@@ -100,33 +98,6 @@ impl<T, P: Ord, A: Allocator + Copy> Guarded<T, P, A> {
     }
 }
 
-// The waiters with a condition, while a call is made that may change the core. Code outside this
-// file cannot forget them, since this is not `Drop`.
-struct Away<A: Allocator + Copy> {
-    selecting: Option<Box<Selecting<A>, A>>,
-}
-
-/// Waiters that were taken off their lists beside the core: for the close, and for a message that
-/// meets a condition. They are to be woken once the lock is free.
-pub struct OtherWakes<A: Allocator + Copy> {
-    closing: Taken<A>,
-    first: Taken<A>,
-    all: Taken<A>,
-}
-
-impl<A: Allocator + Copy> OtherWakes<A> {
-    pub fn wake<R: Wait>(self, rt: &R) {
-        let OtherWakes {
-            closing,
-            first,
-            all,
-        } = self;
-        wake_each(rt, closing);
-        wake_each(rt, first);
-        wake_each(rt, all);
-    }
-}
-
 /// The core under its lock. Code cannot forget it, since it is not `Drop`: a hold ends by
 /// `Handle::unlock`, or by `Handle::release`, which also wakes the waiters that a call took off the
 /// core's lists. These (`Wakes`) are not `Drop` either, and each call that may close the channel
@@ -134,7 +105,8 @@ impl<A: Allocator + Copy> OtherWakes<A> {
 /// type says so, since `Wakes::into_lists` is public.
 pub struct Held<'h, T, P: Ord, A: Allocator + Copy> {
     guarded: MutexGuard<'h, Guarded<T, P, A>>,
-    away: Away<A>,
+    // The waiters beside the core, while a call is made that may change it.
+    away: Option<Box<Selecting<A>, A>>,
 }
 
 impl<'h, T, P: Ord, A: Allocator + Copy> Held<'h, T, P, A> {
@@ -142,17 +114,28 @@ impl<'h, T, P: Ord, A: Allocator + Copy> Held<'h, T, P, A> {
     pub fn of(guarded: MutexGuard<'h, Guarded<T, P, A>>) -> Self {
         Held {
             guarded,
-            away: Away { selecting: None },
+            away: None,
         }
     }
 
     /// The core, for a call that may change it.
     #[inline(always)]
     pub fn core(&mut self) -> &mut Core<T, P, A> {
-        if let Some(selecting) = self.guarded.take_selecting() {
-            self.away.selecting = Some(selecting);
-        }
+        self.set_aside();
         self.guarded.core()
+    }
+
+    // Takes the waiters beside the core out of what the lock guards.
+    #[inline(always)]
+    fn set_aside(&mut self)
+        ensures left { self.new.guarded.value.selecting ≡ None }
+        ensures away { IfSome self.old.guarded.value.selecting
+            (λ selecting. option_map box_value self.new.away ≡ Some selecting) }
+        ensures same { self.old.guarded.value.selecting ≡ None → self.new.away ≡ self.old.away }
+    {
+        if let Some(selecting) = self.guarded.take_selecting() {
+            self.away = Some(selecting);
+        }
     }
 
     /// The core, for a query.
@@ -161,34 +144,23 @@ impl<'h, T, P: Ord, A: Allocator + Copy> Held<'h, T, P, A> {
         &self.guarded.core
     }
 
-    /// Lists a waiter for the close, as `Closing` does.
-    pub fn listen_for_close(&mut self, ticket: Option<u64>, waiter: &Waiter<A>) -> Watch {
-        let guarded = &mut *self.guarded;
-        guarded.closing.listen(&guarded.core, ticket, waiter)
-    }
-
-    /// Takes a waiter for the close off the list.
-    pub fn unlisten_for_close(&mut self, ticket: u64) {
-        self.guarded.closing.unlisten(ticket);
-    }
-
-    /// Lists a waiter that has just looked at the pending messages, and found none that meets its
-    /// condition. The others that are returned are to be woken.
+    /// Lists a waiter that has just looked, and has to wait. The others that are returned are to be
+    /// woken.
     pub fn listen(
         &mut self,
         alloc: A,
         sight: Sight,
         ticket: Option<u64>,
         waiter: &Waiter<A>,
-    ) -> (Listed, OtherWakes<A>) {
+    ) -> (Listed, Option<OtherWakes<A>>) {
         let others = self.settle(alloc);
         let listed = self.guarded.listen(alloc, sight, ticket, waiter);
         (listed, others)
     }
 
-    /// Takes a waiter with a condition off its list.
+    /// Takes a waiter off its list beside the core.
     pub fn unlisten(&mut self, sight: Sight, ticket: u64) {
-        match &mut self.away.selecting {
+        match &mut self.away {
             Some(selecting) => selecting.unlisten(sight, ticket),
             None => self.guarded.unlisten(sight, ticket),
         }
@@ -212,7 +184,9 @@ impl<'h, T, P: Ord, A: Allocator + Copy> Held<'h, T, P, A> {
         let others = self.settle(alloc);
         self.end();
         wake_all(rt, wakes);
-        others.wake(rt);
+        if let Some(others) = others {
+            others.wake(rt);
+        }
     }
 
     /// The same after calls that took no waiter off the core's lists.
@@ -229,42 +203,37 @@ impl<'h, T, P: Ord, A: Allocator + Copy> Held<'h, T, P, A> {
     fn unlock_watched<R: Wait>(mut self, rt: &R, alloc: A) {
         let others = self.settle(alloc);
         self.end();
-        others.wake(rt);
+        if let Some(others) = others {
+            others.wake(rt);
+        }
     }
 
     // Whether waiters beside the core may have to be woken.
     #[inline(always)]
-    fn is_watched(&self) -> bool {
-        self.away.selecting.is_some() || self.guarded.closing.due(&self.guarded.core).is_some()
+    fn is_watched(&self) -> bool
+        ensures { result ≡ false → self.now.away ≡ None }
+    {
+        self.away.is_some()
     }
 
-    // Releases the lock. No waiters are away any more.
+    // Puts the waiters beside the core back, except for those that have to look again.
+    fn settle(&mut self, alloc: A) -> Option<OtherWakes<A>>
+        ensures back { self.new.away ≡ None }
+        ensures kept { IfSome self.old.away (λ away. IsSomeAnd self.new.guarded.value.selecting
+            (TakesOff (box_value away) result)) }
+    {
+        let selecting = self.away.take()?;
+        self.guarded.put_back(alloc, selecting)
+    }
+
+    // Releases the lock. All waiters are back under it.
     #[inline(always)]
-    fn end(self) {
-        let Held {
-            guarded,
-            away: Away { selecting },
-        } = self;
-        drop(selecting);
+    fn end(self)
+        requires { self.away ≡ None }
+    {
+        let Held { guarded, away } = self;
+        drop(away);
         drop(guarded);
-    }
-
-    // Takes off the waiters beside the core that have to be woken.
-    fn settle(&mut self, alloc: A) -> OtherWakes<A> {
-        let guarded = &mut *self.guarded;
-        let closing = match guarded.closing.due(&guarded.core) {
-            Some(seen) => guarded.closing.take(seen, alloc),
-            None => Vec::new(alloc),
-        };
-        let (first, all) = match self.away.selecting.take() {
-            Some(selecting) => self.guarded.put_back(alloc, selecting),
-            None => (Vec::new(alloc), Vec::new(alloc)),
-        };
-        OtherWakes {
-            closing,
-            first,
-            all,
-        }
     }
 }
 

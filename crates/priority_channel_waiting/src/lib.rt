@@ -7,7 +7,6 @@
 #![tactic(auto)]
 
 pub mod attempts;
-pub mod closing;
 pub mod guarded;
 pub mod laws;
 pub mod line;

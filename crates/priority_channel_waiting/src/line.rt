@@ -349,7 +349,8 @@ pub fn list_waiter<T, P: Ord, A: Allocator + Copy>(
     }
 }
 
-fn is_blocked<T, P: Ord, A: Allocator + Copy>(side: Side, core: &Core<T, P, A>) -> bool
+/// Whether a call on this side has to wait.
+pub fn is_blocked<T, P: Ord, A: Allocator + Copy>(side: Side, core: &Core<T, P, A>) -> bool
     ensures { IsTrue result ↔ IsBlocked side core.now.state }
 {
     match side {

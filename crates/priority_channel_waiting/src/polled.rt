@@ -1,21 +1,19 @@
 //! What futures do at each poll: a receive, a send, a bulk send.
-ghost use Rattle.std.specs.Prelude.{◌≡◌, ⊤, ℕ, Option, None, Some, Result, Err, IfSome, IfOk, IfErr, MatchOption, refl};
+ghost use Rattle.std.specs.Prelude.{◌≡◌, ⊤, ℕ, Option, None, Err, IfSome, refl};
 ghost use Rattle.std.proofs.Common.{◌∙◌};
 ghost use Rattle.std.specs.Iterator.Adapters.{peekable_can};
 ghost use Rattle.priority_channel_core.specs.declared.calls.CorePoll.{CorePoll};
 ghost use Rattle.priority_channel_core.specs.declared.side.Side.{Side};
-ghost use Rattle.priority_channel_core.specs.Prelude.{CountedState, ComparesAtMost, Handed, HasList, recv_answer, search_bound};
+ghost use Rattle.priority_channel_core.specs.Prelude.{CountedState, ComparesAtMost, Handed, HasList, search_bound};
 ghost use Rattle.priority_channel_waiting.specs.Future.{GivesUpTicket};
-ghost use Rattle.priority_channel_waiting.specs.Holding.{at_once, left_after, left_now, unsent_of, HoldsTail};
-ghost use Rattle.priority_channel_waiting.specs.Polled.{RecvPolls, RecvTries, SendPolls, SendTries, SendvPolls, SendvTries};
+ghost use Rattle.priority_channel_waiting.specs.Holding.{left_after, unsent_of, HoldsTail};
+ghost use Rattle.priority_channel_waiting.specs.Polled.{RecvPolls, SendPolls, SendvPolls};
 ghost use Rattle.priority_channel_waiting.specs.Tails.{tail_of_itself, tail_of_tail};
 
 use priority_channel_core::awaitable_atomics::Wakes;
 use priority_channel_core::calls::CorePoll;
 use priority_channel_core::channel::PriorityQueueChannel;
-use priority_channel_core::errors::{
-    RecvError, RecvFault, SendError, SendFault, TryRecvError, TrySendError,
-};
+use priority_channel_core::errors::{RecvFault, SendFault};
 use priority_channel_core::side::Side;
 use std::alloc::Allocator;
 use std::iter::Peekable;
@@ -42,23 +40,6 @@ pub trait Polled<T, P: Ord, W: Clone, A: Allocator + Copy>: Sized {
     // What a poll with this ticket and waker does on the core.
     ghost polls: { Self → Option ℕ → W → CountedState T P W → CorePoll Self.Answer Self → Handed W
         → CountedState T P W → Type 0 };
-
-    // What a try with this ticket does on the core, whose result is an answer or the rest.
-    ghost tries: { Self → Option ℕ → Result Self.Answer Self → CountedState T P W → Handed W
-        → CountedState T P W → Type 0 };
-
-    /// Does what a poll with any waker would, if it need not wait. Otherwise it returns what is
-    /// left to do, which stays listed under its ticket.
-    fn try_on(
-        self,
-        core: &mut PriorityQueueChannel<T, P, W, A>,
-        ticket: Option<u64>,
-    ) -> (Result<Self::Answer, Self>, Wakes<W, A>)
-        requires { can_poll self }
-        ensures answered { IfOk result.0 (λ answer. (waker : W)
-            → polls self ticket waker core.old (CorePoll.Ready answer) result.1 core.new) }
-        ensures tried { tries self ticket result.0 core.old result.1 core.new }
-        ensures left { IfSome (left_now back result.0) (λ rest. can_poll rest × leaves self rest) };
 
     /// Makes the call, or has the waker listed.
     fn poll_on(
@@ -96,21 +77,6 @@ impl<T, P: Ord, W: Clone, A: Allocator + Copy> Polled<T, P, W, A> for () {
 
     ghost polls = { RecvPolls P.cmp W.is_clone };
 
-    ghost tries = { RecvTries };
-
-    fn try_on(
-        self,
-        core: &mut PriorityQueueChannel<T, P, W, A>,
-        ticket: Option<u64>,
-    ) -> (Result<Result<(T, P), RecvFault>, ()>, Wakes<W, A>) {
-        let (received, wakes) = core.try_recv();
-        let Some(answer) = answer_of(received) else {
-            return (Err(()), wakes);
-        };
-        give_up_given(ticket, core);
-        (Ok(answer), wakes)
-    }
-
     fn poll_on(
         self,
         core: &mut PriorityQueueChannel<T, P, W, A>,
@@ -131,18 +97,6 @@ impl<T, P: Ord, W: Clone, A: Allocator + Copy> Polled<T, P, W, A> for () {
     }
 }
 
-// The answer of a receive, unless the channel is empty and may still get a message.
-fn answer_of<X>(received: Result<X, TryRecvError>) -> Option<Result<X, RecvFault>>
-    ensures { MatchOption result (received ≡ Err TryRecvError.Empty)
-        (λ answer. recv_answer received None ≡ Some (CorePoll.Ready answer)) }
-{
-    match received {
-        Ok(pair) => Some(Ok(pair)),
-        Err(TryRecvError::Closed) => Some(Err(RecvFault::Closed(RecvError))),
-        Err(TryRecvError::Empty) => None,
-    }
-}
-
 /// A send of one pair.
 impl<T, P: Ord, W: Clone, A: Allocator + Copy> Polled<T, P, W, A> for (T, P) {
     type Answer = Result<(), SendFault<(T, P)>>;
@@ -156,18 +110,6 @@ impl<T, P: Ord, W: Clone, A: Allocator + Copy> Polled<T, P, W, A> for (T, P) {
     ghost back = { unsent_of };
 
     ghost polls = { SendPolls P.cmp W.is_clone };
-
-    ghost tries = { SendTries };
-
-    fn try_on(
-        self,
-        core: &mut PriorityQueueChannel<T, P, W, A>,
-        ticket: Option<u64>,
-    ) -> (Result<Result<(), SendFault<(T, P)>>, (T, P)>, Wakes<W, A>) {
-        let (msg, priority) = self;
-        let (tried, wakes) = core.try_send(msg, priority);
-        (end_try(tried, ticket, core), wakes)
-    }
 
     fn poll_on(
         self,
@@ -211,20 +153,6 @@ impl<T: Drop, P: Ord + Drop, W: Clone, A: Allocator + Copy, I: Iterator<Item = (
 
     ghost polls = { SendvPolls (HasList I.next_gives) P.cmp W.is_clone };
 
-    ghost tries = { SendvTries (HasList I.next_gives) P.cmp W.is_clone };
-
-    fn try_on(
-        self,
-        core: &mut PriorityQueueChannel<T, P, W, A>,
-        ticket: Option<u64>,
-    ) -> (
-        Result<Result<(), SendFault<Peekable<I>>>, Peekable<I>>,
-        Wakes<W, A>,
-    ) {
-        let (tried, wakes) = core.try_sendv(self);
-        (end_try(tried, ticket, core), wakes)
-    }
-
     fn poll_on(
         self,
         core: &mut PriorityQueueChannel<T, P, W, A>,
@@ -246,28 +174,6 @@ impl<T: Drop, P: Ord + Drop, W: Clone, A: Allocator + Copy, I: Iterator<Item = (
     fn side() -> Side {
         Side::Room
     }
-}
-
-// Ends a try of a send. If that is answered, it gives up its ticket.
-fn end_try<K, T, P: Ord, W: Clone, A: Allocator + Copy>(
-    tried: Result<(), TrySendError<K>>,
-    ticket: Option<u64>,
-    core: &mut PriorityQueueChannel<T, P, W, A>,
-) -> Result<Result<(), SendFault<K>>, K>
-    ensures told { result ≡ at_once tried }
-    ensures answered { IfOk result (λ _. GivesUpTicket P.cmp W.is_clone core.old.state ticket
-        core.new.state) }
-    ensures waits { IfErr result (λ _. core.new ≡ core.old) }
-    ensures cost { ComparesAtMost 0 (search_bound core.old.state.waiters) core.old core.new }
-{
-    let answer = match tried {
-        Ok(()) => Ok(()),
-        Err(TrySendError::Closed(unsent)) => Err(SendFault::Closed(SendError(unsent))),
-        Err(TrySendError::Memory(unsent)) => Err(SendFault::Memory(unsent)),
-        Err(TrySendError::Full(unsent)) => return Err(unsent),
-    };
-    give_up_given(ticket, core);
-    Ok(answer)
 }
 
 // Takes this ticket, if there is one, off the waiting list.

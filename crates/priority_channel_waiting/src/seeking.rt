@@ -1,6 +1,6 @@
-//! Receives that choose their message by a condition.
-ghost use Rattle.std.specs.Prelude.{◌≡◌, ◌≢◌, ℕ, true, false, All, IfOk, IfErr, Ok, Err, Some};
-ghost use Rattle.priority_channel_core.specs.bag.Prelude.{Tells};
+//! Waits with a condition: receives that choose their message by one, and the wait for the close.
+ghost use Rattle.std.specs.Prelude.{◌≡◌, ◌≢◌, ⊤, true, false, length, All, IfOk, IfErr, Ok, Err, Some};
+ghost use Rattle.priority_channel_core.specs.bag.Prelude.{PassesGreatest, TakesOne, Tells};
 ghost use Rattle.priority_channel_core.specs.Prelude.{nobody, Step};
 ghost use Rattle.priority_channel_waiting.specs.Seeking.{ComesDue, IfFound, IfNotYet, IfOver, NoneDue};
 
@@ -11,6 +11,7 @@ use priority_channel_core::awaitable_atomics::Wakes;
 use priority_channel_core::calls::{Answer, Call};
 use priority_channel_core::errors::TryRecvError;
 use std::alloc::Allocator;
+use std::convert::Infallible;
 use std::time::{Clock, Duration, Instant};
 
 /// When the first pending message is to be received.
@@ -30,29 +31,31 @@ pub enum Due {
     Never,
 }
 
-/// What came of a look at the pending messages.
-pub enum Sought<T, P> {
-    Found((T, P)),
-    /// No message can come any more.
+/// What came of a look.
+pub enum Sought<F> {
+    Found(F),
+    /// Nothing can come any more.
     Over,
-    /// None meets the condition. One may meet it within this time, if there is one, although
-    /// nothing else changes.
+    /// Nothing meets the condition. Something may meet it within this time, if there is one,
+    /// although nothing else changes.
     NotYet(Option<Duration>),
 }
 
-/// A receive with a condition.
+/// A wait with a condition.
 pub trait Seek<T, P: Ord, A: Allocator + Copy> {
+    type Found;
+
     // Holds for a condition that may be asked.
     ghost can_seek: { Self → Type 0 };
 
-    // Holds for a message that may have met the condition.
-    ghost meets: { Self → T × P → Type 0 };
+    // Holds for what may have met the condition.
+    ghost meets: { Self → Self.Found → Type 0 };
 
-    /// At which messages it looks.
+    /// At what it looks.
     fn sight() -> Sight;
 
-    /// Receives a message that meets the condition, if there is one.
-    fn seek(&self, core: &mut Core<T, P, A>) -> (Sought<T, P>, Wakes<Waiter<A>, A>)
+    /// Looks, and receives what meets the condition, if anything does.
+    fn seek(&self, core: &mut Core<T, P, A>) -> (Sought<Self::Found>, Wakes<Waiter<A>, A>)
         requires { can_seek self.now }
         ensures { IfFound result.0 (meets self.now) };
 }
@@ -84,6 +87,8 @@ impl<F, C: Clock> When<'_, F, C> {
 
 impl<T, P: Ord, A: Allocator + Copy, F: Fn(&T, &P) -> Due, C: Clock> Seek<T, P, A>
     for When<'_, F, C> {
+    type Found = (T, P);
+
     ghost can_seek = { λ s. F.IsAlwaysCallable s.when.now };
 
     ghost meets = { λ s pair. ComesDue F.Fn s.when.now pair };
@@ -94,7 +99,7 @@ impl<T, P: Ord, A: Allocator + Copy, F: Fn(&T, &P) -> Due, C: Clock> Seek<T, P, 
         Sight::First
     }
 
-    fn seek(&self, core: &mut Core<T, P, A>) -> (Sought<T, P>, Wakes<Waiter<A>, A>)
+    fn seek(&self, core: &mut Core<T, P, A>) -> (Sought<(T, P)>, Wakes<Waiter<A>, A>)
         requires { F.IsAlwaysCallable self.now.when.now }
         ensures received { IfFound result.0 (λ pair. Step P.cmp ⟦<Waiter<A> as Clone>⟧.is_clone
             core.old.state Call.TryRecv (Answer.TryRecv (Ok pair)) result.1 core.new.state) }
@@ -127,6 +132,8 @@ pub struct Where<'a, F> {
 }
 
 impl<T, P: Ord, A: Allocator + Copy, F: Fn(&T, &P) -> bool> Seek<T, P, A> for Where<'_, F> {
+    type Found = (T, P);
+
     ghost can_seek = { λ s. F.IsAlwaysCallable s.test.now };
 
     ghost meets = { λ s pair. Tells F.Fn s.test.now pair true };
@@ -137,11 +144,15 @@ impl<T, P: Ord, A: Allocator + Copy, F: Fn(&T, &P) -> bool> Seek<T, P, A> for Wh
         Sight::All
     }
 
-    fn seek(&self, core: &mut Core<T, P, A>) -> (Sought<T, P>, Wakes<Waiter<A>, A>)
+    fn seek(&self, core: &mut Core<T, P, A>) -> (Sought<(T, P)>, Wakes<Waiter<A>, A>)
         requires { F.IsAlwaysCallable self.now.test.now }
-        ensures taken { IfFound result.0 (λ pair. (place : ℕ)
-            × Step P.cmp ⟦<Waiter<A> as Clone>⟧.is_clone core.old.state (Call.TakeWhere place)
-            (Answer.TakeWhere (Some pair)) result.1 core.new.state) }
+        ensures taken { IfFound result.0 (λ pair.
+            (one : TakesOne core.old.state.pending pair core.new.state.pending)
+            × Step P.cmp ⟦<Waiter<A> as Clone>⟧.is_clone core.old.state
+            (Call.TakeWhere (length one.before)) (Answer.TakeWhere (Some pair)) result.1
+            core.new.state
+            × PassesGreatest P.cmp (λ pair. Tells F.Fn self.now.test.now pair true)
+            (λ pair. Tells F.Fn self.now.test.now pair false) one) }
         ensures met { IfFound result.0 (λ pair. Tells F.Fn self.now.test.now pair true) }
         ensures over { IfOver result.0 (Step P.cmp ⟦<Waiter<A> as Clone>⟧.is_clone core.old.state
             Call.TryRecv (Answer.TryRecv (Err TryRecvError.Closed)) result.1 core.new.state) }
@@ -155,5 +166,34 @@ impl<T, P: Ord, A: Allocator + Copy, F: Fn(&T, &P) -> bool> Seek<T, P, A> for Wh
             Ok(None) | Err(TryRecvError::Empty) => Sought::NotYet(None),
         };
         (sought, wakes)
+    }
+}
+
+/// A wait for the close of the channel. It finds nothing, and is over once the channel is closed.
+#[derive(Drop)]
+pub struct UntilClosed;
+
+impl<T, P: Ord, A: Allocator + Copy> Seek<T, P, A> for UntilClosed {
+    type Found = Infallible;
+
+    ghost can_seek = { λ _. ⊤ };
+
+    ghost meets = { λ _ _. ⊤ };
+
+    fn sight() -> Sight
+        ensures { result ≡ Sight.Close }
+    {
+        Sight::Close
+    }
+
+    fn seek(&self, core: &mut Core<T, P, A>) -> (Sought<Infallible>, Wakes<Waiter<A>, A>)
+        ensures over { IfOver result.0 (core.old.state.is_closed ≡ true) }
+        ensures kept { IfNotYet result.0 (core.old.state.is_closed ≡ false) }
+        ensures unchanged { (core.new ≡ core.old) × (result.1 ≡ nobody) }
+    {
+        if core.is_closed() {
+            return (Sought::Over, core.nobody());
+        }
+        (Sought::NotYet(None), core.nobody())
     }
 }

@@ -5,7 +5,7 @@ ghost use Rattle.std.specs.Option.{ForSome};
 ghost use Rattle.futures.specs.Poll.{IfReady, OnPending};
 ghost use Rattle.priority_channel_core.specs.Prelude.{nobody, ComparesAtMost, search_bound};
 ghost use Rattle.priority_channel_waiting.specs.Future.{GivesUpTicket};
-ghost use Rattle.priority_channel_waiting.specs.Holding.{unpolled, done, told_by, left_by, IsRestOf, PollsKept, TriesKept};
+ghost use Rattle.priority_channel_waiting.specs.Holding.{unpolled, done, told_by, left_by, IsRestOf, PollsKept};
 
 use crate::polled::{Polled, give_up_given};
 use futures::task::Poll;
@@ -16,8 +16,8 @@ use std::alloc::Allocator;
 use std::marker::{Model, PhantomData};
 
 /// The state of a future: its remaining work, until it has answered or was given up, and its
-/// ticket. A try or a poll of a state that is done returns `Pending` and changes nothing. `N` is
-/// `One` or `Many`.
+/// ticket. A poll of a state that is done returns `Pending` and changes nothing. `N` is `One` or
+/// `Many`.
 #[derive(Drop)]
 pub struct State<K, N = One> {
     kept: Option<K>,
@@ -124,39 +124,6 @@ impl<K: Drop, N> State<K, N> {
         let (kept, ticket) = self.take()?;
         give_up_given(ticket, core);
         Some(kept)
-    }
-
-    /// Does what a poll with any waker would, if it need not wait. Otherwise it returns `Pending`,
-    /// and waits on under the ticket that it had.
-    pub fn try_on<T, P: Ord, W: Clone, A: Allocator + Copy>(
-        &mut self,
-        core: &mut PriorityQueueChannel<T, P, W, A>,
-    ) -> (Poll<K::Answer>, Wakes<W, A>)
-    where
-        K: Polled<T, P, W, A>,
-        requires { ForSome self.old.kept K.can_poll }
-        ensures step { IfReady result.0 (λ _. (waker : W) → PollsKept K.polls self.old waker
-            core.old result core.new self.new) }
-        ensures tried { TriesKept K.tries self.old core.old result core.new self.new }
-        ensures done { self.old.kept ≡ None → (result.0 ≡ Poll.Pending) × (result.1 ≡ nobody)
-            × (self.new ≡ self.old) × (core.new ≡ core.old) }
-        ensures answered { IfReady result.0 (λ _. self.new ≡ done) }
-        ensures waits { OnPending result.0 (is_some self.new.kept ≡ is_some self.old.kept) }
-        ensures handed_back { IfReady result.0 (λ answer.
-            IsRestOf K.can_poll K.leaves self.old (K.back answer)) }
-        ensures kept { IsRestOf K.can_poll K.leaves self.old self.new.kept }
-    {
-        let Some((kept, ticket)) = self.take() else {
-            return (Poll::Pending, core.nobody());
-        };
-        let (tried, wakes) = kept.try_on(core, ticket);
-        match tried {
-            Ok(answer) => (Poll::Ready(answer), wakes),
-            Err(rest) => {
-                *self = State::of(Some(rest), ticket);
-                (Poll::Pending, wakes)
-            }
-        }
     }
 
     /// Receives or sends, or waits with the waker.

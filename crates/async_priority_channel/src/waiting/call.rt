@@ -1,8 +1,10 @@
 //! The futures that wait for a place, or for a message that keeps its place.
-ghost use Rattle.std.specs.Prelude.{◌≡◌, ⊤, true, false, None, IsSome};
+ghost use Rattle.std.specs.Prelude.{◌≡◌, ⊤, true, false, None, IfOk, IsSome, Result};
 ghost use Rattle.futures.specs.Task.{Covers, Keeps};
 ghost use Rattle.futures.specs.Poll.{IfReady, OnPending};
-ghost use Rattle.async_priority_channel.specs.Handles.{source_of, MayAnswerAlike};
+ghost use Rattle.priority_channel_core.specs.declared.errors.RecvFault.{RecvFault};
+ghost use Rattle.priority_channel_core.specs.declared.errors.SendFault.{SendFault};
+ghost use Rattle.async_priority_channel.specs.Handles.{source_of, Channel, Leased};
 
 use crate::end::{End, Role};
 use crate::handle::Handle;
@@ -90,7 +92,8 @@ impl<T, P: Ord, R: Wait + Clone, A: Allocator + Copy> Handle<T, P, R, A> {
 /// Once it has answered it is done. A poll of a done future is pending, and asks to be polled
 /// again; nothing else changes.
 ///
-/// Cost: as a `Waiting`.
+/// Cost: as a `Waiting`, but a poll also makes a second try if what it waits for comes before it is
+/// listed.
 #[must_use = "a future does nothing until it is polled: `block_on`, or a call in `_blocking`"]
 pub struct Calling<'a, S: Role, C: Copy, T, P: Ord, R: Wait + Clone, A: Allocator + Copy = Global> {
     end: &'a End<S, T, P, R, A>,
@@ -162,10 +165,15 @@ impl<'a, T, P: Ord, R: Wait + Clone, A: Allocator + Copy> Future for Reserve<'a,
 
     ghost needs = { λ f source. source ≡ f.channel.room };
 
+    ghost gives = { λ f answer. IfOk answer (λ permit. permit ≡ f.channel) };
+
     fn poll(&mut self, cx: &mut Context<'_>) -> Poll<Self::Output>
-        ensures value { IfReady result (λ _. ⊤) }
+        ensures value { IfReady result (λ answer. IfOk answer (λ permit.
+            permit ≡ self.old.channel)) }
         ensures again { OnPending result ⊤ }
-        ensures same { MayAnswerAlike result }
+        ensures same { OnPending result ((x : Result Channel (SendFault ⊤))
+            → IfOk x (λ permit. permit ≡ self.new.channel)
+            → IfOk x (λ permit. permit ≡ self.old.channel)) }
         ensures registered { OnPending result (Covers cx.new (λ source.
             source ≡ self.new.channel.room)) }
         ensures kept { Keeps cx.old cx.new }
@@ -186,7 +194,7 @@ impl<'a, T, P: Ord, R: Wait + Clone, A: Allocator + Copy> Future for Reserve<'a,
         };
         self.is_done = true;
         Poll::Ready(match reserved {
-            Ok(()) => Ok(Permit::of(handle)),
+            Ok(place) => Ok(Permit::of(handle, place)),
             Err(ended) => Err(SendFault::from(ended)),
         })
     }
@@ -205,10 +213,15 @@ impl<'a, T: Drop, P: Ord + Drop, R: Wait + Clone, A: Allocator + Copy> Future
 
     ghost needs = { λ f source. source ≡ f.channel.message };
 
+    ghost gives = { λ f answer. IfOk answer (λ lease. lease.channel ≡ f.channel) };
+
     fn poll(&mut self, cx: &mut Context<'_>) -> Poll<Self::Output>
-        ensures value { IfReady result (λ _. ⊤) }
+        ensures value { IfReady result (λ answer. IfOk answer (λ lease.
+            lease.channel ≡ self.old.channel)) }
         ensures again { OnPending result ⊤ }
-        ensures same { MayAnswerAlike result }
+        ensures same { OnPending result ((x : Result (Leased T P) RecvFault)
+            → IfOk x (λ lease. lease.channel ≡ self.new.channel)
+            → IfOk x (λ lease. lease.channel ≡ self.old.channel)) }
         ensures registered { OnPending result (Covers cx.new (λ source.
             source ≡ self.new.channel.message)) }
         ensures kept { Keeps cx.old cx.new }
@@ -229,7 +242,7 @@ impl<'a, T: Drop, P: Ord + Drop, R: Wait + Clone, A: Allocator + Copy> Future
         };
         self.is_done = true;
         Poll::Ready(match leased {
-            Ok(pair) => Ok(Lease::of(handle, pair)),
+            Ok(leased) => Ok(Lease::of(handle, leased)),
             Err(ended) => Err(RecvFault::from(ended)),
         })
     }

@@ -9,6 +9,7 @@ ghost use Rattle.async_priority_channel.specs.Handles.{source_of};
 use crate::handle::Handle;
 use crate::waiting::RecvState;
 use futures::task::{Context, Poll};
+use priority_channel_waiting::line::is_blocked;
 use priority_channel_waiting::polled::Polled;
 use priority_channel_waiting::states::{One, State};
 use priority_channel_waiting::waiter::Waiter;
@@ -50,7 +51,8 @@ impl<K: Drop, N, A: Allocator + Copy> Task<K, N, A> {
         unsent
     }
 
-    // Makes the call at once and without memory for waiting, or else waits with the task's waker.
+    // Makes the call at once, in one hold of the lock and without a waiter of its own, or else waits
+    // with the task's waker.
     pub(crate) fn poll<T, P: Ord, R: Wait + Clone>(
         &mut self,
         handle: &Handle<T, P, R, A>,
@@ -75,9 +77,15 @@ impl<K: Drop, N, A: Allocator + Copy> Task<K, N, A> {
             return cx.yield_now();
         }
         let mut held = handle.hold();
-        let (tried, wakes) = self.state.try_on(held.core());
+        if is_blocked(K::side(), held.shown()) {
+            handle.unlock(held);
+            return self.wait(handle, cx);
+        }
+        // Only a bulk send can be pending here: one that sent a part. It is listed with a waiter
+        // that nobody hears, and then again with its own.
+        let (polled, wakes) = self.state.poll_on(held.core(), handle.unheard());
         handle.release(held, wakes);
-        match tried {
+        match polled {
             Poll::Ready(answer) => Poll::Ready(answer),
             Poll::Pending => self.wait(handle, cx),
         }

@@ -49,7 +49,7 @@ pub type Sendv<'a, T, P, M, R, A = Global> = Waiting<'a, Sending, M, Many, T, P,
 /// If it is polled again after its answer, it is pending, changes nothing, and asks to be polled
 /// once more. So it should not be polled any more.
 ///
-/// Cost: a poll makes one try, and a second one if it has to wait. It compares O(log w) tickets,
+/// Cost: a poll makes one try, or two where a bulk send sends a part. It compares O(log w) tickets,
 /// where w waiters are listed. A poll that waits takes memory for its waiter, which is kept, and
 /// for its entry in the waiting list.
 #[must_use = "a future does nothing until it is polled: `block_on`, or a call that ends in `_blocking`"]

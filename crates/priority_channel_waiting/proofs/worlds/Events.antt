@@ -1,6 +1,5 @@
 -- What holds of a world holds after each event.
-use Rattle.std.proofs.Common.{◌≡◌, ◌≢◌, ℕ, ◌<◌, ◌≤◌, ◌⊎◌, List, [], ◌∷◌, length, set, refl, ap, sym, ◌∙◌, inl, inr, arith, Option, Some, None, Err, slice_get}
-use Rattle.priority_channel_core.specs.declared.errors.TrySendError.TheVariants.{Full}
+use Rattle.std.proofs.Common.{◌≡◌, ◌≢◌, ℕ, ◌<◌, ◌≤◌, ◌⊎◌, List, [], ◌∷◌, length, set, refl, ap, sym, ◌∙◌, inl, inr, arith, Option, Some, None, slice_get}
 use Rattle.priority_channel_core.specs.declared.side.Side.{Side}
 use Rattle.priority_channel_core.specs.declared.side.Side.TheVariants.{Room, Message}
 use Rattle.priority_channel_core.specs.Prelude.{State, Handed, nobody, without_given, IsGood, Step, Answers, Waiters, on_side, unlist, Ordering}
@@ -8,15 +7,13 @@ use Rattle.priority_channel_waiting.specs.Future.{Tasks, Standing, Futures, tick
 use Rattle.priority_channel_waiting.specs.Future.Standing.{New, Waiting, Called, Done}
 use Rattle.priority_channel_waiting.specs.laws.WaitingLaw.{waker_of, side_of, CanGoOn, NobodyIsForgotten, GivenOnce, CalledBy}
 use Rattle.priority_channel_waiting.specs.laws.World.{World, Event, standing_after, call_out, PollsFuture, Happens, Leads, IsOpening}
-use Rattle.priority_channel_core.specs.declared.calls.Call.TheVariants.{TrySendv}
-use Rattle.priority_channel_core.specs.declared.calls.Answer.TheVariants as answer
-use Rattle.priority_channel_waiting.specs.laws.World.Event.{Makes, Polls, SendsPart, GivesUp}
+use Rattle.priority_channel_waiting.specs.laws.World.Event.{Makes, Polls, GivesUp}
 use Rattle.priority_channel_waiting.proofs.worlds.Positions.{all_at, at_mapped, changed_at}
 use Rattle.priority_channel_core.proofs.runs.Hands.{Hands}
 use Rattle.priority_channel_core.proofs.runs.Effects.{hands}
 use Rattle.priority_channel_waiting.proofs.worlds.Worlds.{Keeps, Changes, had_ticket, keeps-call_out, keeps-change, called_from}
 use Rattle.priority_channel_waiting.proofs.worlds.PollEnds.{unlist_side, lists_of, stays_or_leaves, still_given, poll_end}
-use Rattle.priority_channel_waiting.proofs.worlds.Standings.{Keeps-same, Keeps-none, ends, stays, waits}
+use Rattle.priority_channel_waiting.proofs.worlds.Standings.{Keeps-same, Keeps-none, ends, waits}
 use Rattle.priority_channel_waiting.proofs.worlds.Callings.{called-ticket}
 
 called_nobody : {W : Type 0} (s : Standing W) → standing_after nobody s ≡ s
@@ -76,7 +73,7 @@ module _ {T P W : Type 0} where
       changed_world : (i : ℕ) (f : Futures T P W) (at : slice_get old.futures i ≡ Some f) (new : World T P W) (g : Futures T P W) (lists' : Side → List (ℕ × W)) (next' : ℕ)
           → Changes is_clone (lists_of mid) mid.waiters.next_ticket (call_out handed old.futures) called_world i (record { task = f.task; standing = standing_after handed f.standing }) g
           (at_mapped _ old.futures i f at) lists' next'
-          → ((t : ℕ) (w : W) → g.standing ≡ Called t w → standing_after handed f.standing ≡ Called t w)
+          → ((t : ℕ) (w : W) → g.standing ≢ Called t w)
           → ((side : Side) → lists_of new.state side ≡ lists' side) → new.state.waiters.next_ticket ≡ next' → new.futures ≡ set (call_out handed old.futures) i g → IsGood new.state
           → IsNext old handed new
       changed_world i f at new g lists' next' c not_called same nexts futures good =
@@ -97,9 +94,7 @@ module _ {T P W : Type 0} where
             },
             λ j u t w there is.
                 elim (came j u there) [
-                  | inl s ↦
-                      let is' = not_called t w (ap (λ (x : Futures T P W). x.standing) s.1 ∙ is) in
-                      woken_from j _ t w (ap (slice_get (call_out handed old.futures)) (sym s.0) ∙ at_mapped _ old.futures i f at) is'
+                  | inl s ↦ absurd (not_called t w (ap (λ (x : Futures T P W). x.standing) s.1 ∙ is))
                   | inr s ↦ woken_from j u t w s.1 is
                 ],
           )
@@ -115,12 +110,12 @@ module _ {T P W : Type 0} where
         elim (poll_end cmp is_clone old.state new.state handed (ticket_of f.standing) waker f.task reply step.moves) [
           | inl e ↦
               changed_world old k e.mid handed e.handing which f at new _ _ _ (ends is_clone _ _ _ _ which _ _ _ (ticket_of f.standing) own e.done)
-              (λ t w is. let d = e.done in absurd (cc)) (unlisted_lists (ticket_of f.standing) e.mid new.state e.left) (ap (λ (w : Waiters W). w.next_ticket) e.left) futures step.good
+              (λ t w is. let d = e.done in cc) (unlisted_lists (ticket_of f.standing) e.mid new.state e.left) (ap (λ (w : Waiters W). w.next_ticket) e.left) futures step.good
           | inr w ↦
               changed_world old k w.mid handed w.handing which f at new _ (lists_of new.state) new.state.waiters.next_ticket
               (waits is_clone _ _ _ _ which _ _ _ (ticket_of f.standing) w.kept waker (side_of f.task) (lists_of new.state) new.state.waiters.next_ticket own w.clone refl w.goes_on
               (still_given old.state w.mid handed w.handing k.good (side_of f.task)) w.mine w.others w.nexts w.stands)
-              (λ t v is. let d = w.stands in absurd (cc)) (λ side. refl) refl futures step.good
+              (λ t v is. let d = w.stands in cc) (λ side. refl) refl futures step.good
         ]
 
     polls_kept : (cmp : P → P → Ordering) (old new : World T P W) (which : ℕ) (waker : W) (task : Tasks T P) (standing : Standing W) (handed : Handed W)
@@ -153,15 +148,12 @@ module _ {T P W : Type 0} where
           λ j f t w at is. woken_from old k new.state handed handing j f t w (rw h.3 at at) is,
         )
     happens_kept cmp old new (Polls which waker) handed h k = polls_kept cmp old new which waker h.0.task h.0.standing handed h.1 h.2 k
-    happens_kept cmp old new (SendsPart which) handed h k =
-        let handing = hands cmp is_clone old.state new.state handed (TrySendv h.0) (answer.TrySendv (Err (Full h.1))) tt h.4.moves in
-        changed_world old k new.state handed handing which _ h.3 new _ _ _ (stays is_clone _ _ _ _ which _ _ _ refl refl) (λ t w is. is) (λ side. refl) refl h.5 h.4.good
     happens_kept cmp old new (GivesUp which) handed h k =
         let given = ticket_of h.0.standing in
         let handing : Hands old.state old.state nobody = record { room = inl (refl, refl); message = inl (refl, refl); next = refl } in
         let left = gives_up_left cmp old.state new.state given k.good h.3 in
         rw h.2 (changed_world old k old.state nobody handing which h.0 h.1 new (record { task = h.0.task; standing = Done }) _ _
-        (ends is_clone _ _ _ _ which _ _ _ given (sym (called-ticket nobody h.0.standing)) refl) (λ t w is. absurd (cc))
+        (ends is_clone _ _ _ _ which _ _ _ given (sym (called-ticket nobody h.0.standing)) refl) (λ t w is. cc)
         (unlisted_lists given old.state new.state left.1) (ap (λ (w : Waiters W). w.next_ticket) left.1) (rw (call_out_nobody old.futures) h.4) left.0)
 
     leads_kept : (cmp : P → P → Ordering) (old new : World T P W) (events : List (Event T P W)) → Leads cmp is_clone old events new → IsKept old → IsKept new × Passes old new

@@ -1,4 +1,4 @@
--- A future ends, waits, or has another task of its side: the changes that this makes in a world.
+-- A future ends or waits: the changes that this makes in a world.
 use Rattle.std.proofs.Common.{eq-eqb, ◌≡◌, ◌≢◌, ℕ, ◌<◌, ◌⊎◌, true, List, [], refl, ap, sym, ◌∙◌, inl, inr, arith, Option, Some, None, slice_get, ◌==◌, All}
 use Rattle.std.proofs.lemmas.Bool.Decides.{eqb_tells}
 use Rattle.priority_channel_core.specs.declared.side.Side.{Side}
@@ -20,9 +20,6 @@ gone_only xs (Some u) t k h = let p : put u t None (waker_of t xs) ≡ Some k = 
 
 pub same_side : (a b : Side) → (a ≡ b) ⊎ (a ≢ b)
 same_side a b = grind arith
-
-has_ticket : (given : Option ℕ) (t : ℕ) → (given ≡ Some t) ⊎ (given ≢ Some t)
-has_ticket given t = grind arith
 
 module _ {T P W : Type 0} (is_clone : W → W → Type 0) where
   pub Keeps-same : (lists lists' : Side → List (ℕ × W)) (next next' : ℕ) (futures : List (Futures T P W))
@@ -63,19 +60,6 @@ module _ {T P W : Type 0} (is_clone : W → W → Type 0) where
         let same : i ≡ found.which = keeps.differ i found.which f found.future t at found.there has (ap ticket_of found.waits) in
         let one : f ≡ found.future = Some-same _ f found.future at (ap (slice_get futures) same ∙ found.there) in
         (found.waker, ap (λ (x : Futures T P W). side_of x.task) one ∙ found.on_side, ap (λ (x : Futures T P W). x.standing) one ∙ found.waits, found.clone)
-
-    pub stays : side_of g.task ≡ side_of f.task → g.standing ≡ f.standing → Changes is_clone lists next futures keeps i f g at lists next
-    stays side standing = record {
-      grows = omega arith;
-      same = λ s t lt ne. refl;
-      own = λ t w waits. let k = keeps.kept i f t w at (sym standing ∙ waits) in (k.0, k.1, ap (λ (s : Side). waker_of t (lists s)) side ∙ k.2);
-      only = λ s t k here.
-          elim (has_ticket (ticket_of f.standing) t) [
-            | inr none ↦ inl (here, none)
-            | inl has ↦ let mine = owner s t k here has in inr (mine.0, side ∙ mine.1, standing ∙ mine.2, mine.3)
-          ];
-      ticket = λ t has. let mine : ticket_of f.standing ≡ Some t = ap ticket_of (sym standing) ∙ has in (keeps.below i f t at mine, inl mine);
-    }
 
     pub waits : (given : Option ℕ) (kept waker : W) (side : Side) (lists' : Side → List (ℕ × W)) (next' : ℕ)
         → given ≡ ticket_of f.standing → is_clone waker kept → side_of f.task ≡ side → side_of g.task ≡ side

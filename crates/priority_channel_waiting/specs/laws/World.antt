@@ -1,23 +1,18 @@
 -- A channel with its futures, and what may happen to them.
-use Rattle.std.specs.Prelude.{◌≡◌, ℕ, ◌||◌, Bool, if◌then◌else◌, List, [], ◌∷◌, map, slice_get, slice_set, Some, Err, All}
-use Rattle.priority_channel_core.specs.declared.calls.Call.TheVariants.{TrySendv}
-use Rattle.priority_channel_core.specs.declared.calls.Answer.TheVariants as answer
-use Rattle.priority_channel_core.specs.declared.errors.TrySendError.TheVariants.{Full}
+use Rattle.std.specs.Prelude.{◌≡◌, ℕ, ◌||◌, Bool, if◌then◌else◌, List, [], ◌∷◌, map, slice_get, slice_set, Some, All}
 use Rattle.priority_channel_core.specs.Prelude.{State, Handed, nobody, opening, is_listed, IsGood, Step, Calls, Answers, Ordering}
 use Rattle.priority_channel_core.specs.laws.Direct.{IsDirect}
 use Rattle.priority_channel_waiting.specs.Future.{Tasks, Standing, Futures, ticket_of, poll_of, future_after, GivesUpTicket}
 use Rattle.priority_channel_waiting.specs.Future.Standing.{New, Waiting, Called, Done}
-use Rattle.priority_channel_waiting.specs.Future.Task.{Sendv}
 
 pub record World (T P W : Type 0) : Type 0 where
   pub state : State T P W
   pub futures : List (Futures T P W)
 
--- A direct call; or the future at this place is polled, tries a bulk send without a poll, or ends.
+-- A direct call; or the future at this place is polled, or ends.
 pub data Event (T P W : Type 0) : Type 0 where
   Makes : Calls T P W → Event T P W
   Polls : ℕ → W → Event T P W
-  SendsPart : ℕ → Event T P W
   GivesUp : ℕ → Event T P W
 
 module _ {W : Type 0} where
@@ -63,16 +58,6 @@ module _ {T P W : Type 0} (cmp : P → P → Ordering) (is_clone : W → W → T
     Happens (Polls which waker) handed new =
         (future : Futures T P W) × (slice_get old.futures which ≡ Some future)
         × PollsFuture which waker future.task future.standing handed new
-    -- there was no room for all of the bulk send, and it is left as it was, with the rest
-    Happens (SendsPart which) handed new =
-        (pairs rest : List (T × P)) × (standing : Standing W)
-        × (slice_get old.futures which ≡ Some (record { task = Sendv pairs; standing = standing }))
-        × Step cmp is_clone old.state (TrySendv pairs) (answer.TrySendv (Err (Full rest))) handed
-        new.state
-        × (new.futures ≡ slice_set (call_out handed old.futures) which (record {
-          task = Sendv rest;
-          standing = standing_after handed standing;
-        }))
     Happens (GivesUp which) handed new =
         (future : Futures T P W) × (slice_get old.futures which ≡ Some future) × (handed ≡ nobody)
         × GivesUpTicket cmp is_clone old.state (ticket_of future.standing) new.state

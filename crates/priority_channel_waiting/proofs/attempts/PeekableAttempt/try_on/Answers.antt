@@ -1,7 +1,7 @@
 use Rattle.priority_channel_core.specs.Prelude.{HasList}
 use Rattle.priority_channel_waiting.specs.Holding.{HoldsTail}
 use Rattle.priority_channel_waiting.proofs.LeftOver.{left_of_try}
-use Rattle.priority_channel_waiting.proofs.Holdings.{refused_tail}
+use Rattle.priority_channel_calls.proofs.Tails.{refused_tail}
 use Rattle.priority_channel_waiting.proofs.attempts.PeekableAttempt.try_on.Goals as goal
 
 pub returns-clause-handed_back : goal.returns-clause-handed_back

@@ -1,8 +1,7 @@
 use Rattle.std.specs.Iterator.Adapters.{peekable_can}
 use Rattle.priority_channel_core.specs.Prelude.{HasList}
 use Rattle.priority_channel_waiting.specs.Holding.{HoldsTail}
-use Rattle.priority_channel_waiting.proofs.Holdings.{left_kept, polled_tail}
-use Rattle.priority_channel_waiting.proofs.Tries.{if_both}
+use Rattle.priority_channel_waiting.proofs.Holdings.{left_kept, polled_tail, if_both}
 use Rattle.priority_channel_waiting.proofs.polled.PeekablePolled.poll_on.Goals as goal
 
 pub returns-clause-left : goal.returns-clause-left
