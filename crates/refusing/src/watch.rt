@@ -5,8 +5,13 @@ use std::thread::{self, Threads};
 use std::time::{Clock, Duration};
 
 // For how many milliseconds a step may last, and somewhat longer on a busy machine. What takes a
-// moment on an idle one takes seconds beside many other processes.
+// moment on an idle one takes seconds beside many other processes, and longer where the step itself
+// keeps the processors busy, as by many threads.
 const PATIENCE: u64 = 25_000;
+
+// The same for a step that ends in milliseconds, also on a busy machine. A lost wake costs each test
+// that it hangs so long.
+const BRIEF: u64 = 10_000;
 
 /// Watches the steps of a test, as the cases of a table, and names one that lasts too long. Only a
 /// test may end the process, so it says how it fails.
@@ -25,14 +30,25 @@ const PATIENCE: u64 = 25_000;
 pub struct Watch<N: Drop + Send> {
     step: Mutex<N>,
     begun: AtomicU64,
+    patience: u64,
 }
 
 impl<N: Drop + Send> Watch<N> {
-    /// A watch that stands at the first step.
+    /// A watch that stands at the first step. A step may last for 25 seconds.
     pub fn new(step: N) -> Self {
+        Watch::with(step, PATIENCE)
+    }
+
+    /// The same for steps that end in milliseconds. A step may last for 10 seconds.
+    pub fn brief(step: N) -> Self {
+        Watch::with(step, BRIEF)
+    }
+
+    fn with(step: N, patience: u64) -> Self {
         Watch {
             step: Mutex::new(step),
             begun: AtomicU64::new(0),
+            patience,
         }
     }
 
@@ -72,7 +88,7 @@ impl<N: Drop + Send> Watch<N> {
         requires { E.IsAlwaysCallable fail.now }
     {
         let mut seen = self.begun.load(Ordering::SeqCst);
-        let mut left = PATIENCE;
+        let mut left = self.patience;
         for _ in rt.forever() {
             if are_over.load(Ordering::SeqCst) {
                 return;
@@ -80,7 +96,7 @@ impl<N: Drop + Send> Watch<N> {
             let begun = self.begun.load(Ordering::SeqCst);
             if begun != seen {
                 seen = begun;
-                left = PATIENCE;
+                left = self.patience;
             }
             if left == 0 {
                 return fail(&self.step.lock(rt));

@@ -1,6 +1,11 @@
 //! What a caller knows by the contracts: the prover shows each `prove!` before a test runs.
-use async_priority_channel::{bounded, unbounded};
+ghost use Rattle.std.specs.Prelude.{◌≡◌, IfSome};
+
+use async_priority_channel::{Lease, Permit, Receiver, Sender, bounded, unbounded};
 use futures::executor::block_on;
+use std::alloc::{AllocGlobal, Allocator};
+use std::random::RandomSource;
+use std::sync::Wait;
 
 // Both handles are of one channel.
 #[test]
@@ -56,4 +61,69 @@ fn a_caller_knows_what_a_future_gives_back(rt: HostRuntime) {
     if let Ok(Err(fault)) = block_on(&rt, tx.send(7u64, 1u64)) {
         prove!(fault.into_inner() == (7, 1));
     }
+}
+
+// A message that was changed is the one that is given on.
+#[test]
+fn a_caller_knows_what_it_has_written_into_a_lease(rt: HostRuntime) {
+    let (tx, rx) = unbounded(&rt, rt.alloc()).expect(&rt, "a channel");
+    tx.try_send(7u64, 1u64).expect(&rt, "room");
+    if let Ok(mut lease) = rx.try_lease() {
+        let priority = *lease.priority();
+        let job = lease.message_mut();
+        *job = 8;
+        prove!(*lease.message() == 8);
+        prove!(lease.finish() == (8, priority));
+    }
+}
+
+// A permit that a future gives is of the channel of its sender.
+fn reserve_in_a_task<'a, R: Wait + Clone + RandomSource + AllocGlobal, A: Allocator + Copy>(
+    rt: &R,
+    tx: &'a Sender<u64, u64, R, A>,
+) -> Option<Permit<'a, u64, u64, R, A>>
+    ensures { IfSome result (λ permit. permit ≡ tx.now) }
+{
+    match block_on(rt, tx.reserve()) {
+        Ok(Ok(permit)) => Some(permit),
+        _ => None,
+    }
+}
+
+// A lease that a future gives is of the channel of its receiver.
+fn lease_in_a_task<'a, R: Wait + Clone + RandomSource + AllocGlobal, A: Allocator + Copy>(
+    rt: &R,
+    rx: &'a Receiver<u64, u64, R, A>,
+) -> Option<Lease<'a, u64, u64, R, A>>
+    ensures { IfSome result (λ lease. lease.channel ≡ rx.now) }
+{
+    match block_on(rt, rx.lease()) {
+        Ok(Ok(lease)) => Some(lease),
+        _ => None,
+    }
+}
+
+// The second lease of a loop is of the channel of its receiver, as the first.
+fn second_lease<'a, R: Wait + Clone, A: Allocator + Copy>(
+    rx: &'a Receiver<u64, u64, R, A>,
+) -> Option<Lease<'a, u64, u64, R, A>>
+    ensures { IfSome result (λ lease. lease.channel ≡ rx.now) }
+{
+    let mut leases = rx.leases();
+    leases.next()?.finish();
+    leases.next()
+}
+
+#[test]
+fn a_caller_knows_of_which_channel_a_held_place_is(rt: HostRuntime) {
+    let (tx, rx) = unbounded(&rt, rt.alloc()).expect(&rt, "a channel");
+    let permit = reserve_in_a_task(&rt, &tx).expect(&rt, "a permit");
+    permit.send(7, 1);
+    let lease = lease_in_a_task(&rt, &rx).expect(&rt, "a lease");
+    assert_eq!(rt; lease.finish(), (7, 1));
+    for msg in 8..10u64 {
+        tx.try_send(msg, 1).expect(&rt, "room");
+    }
+    let second = second_lease(&rx).expect(&rt, "a second lease");
+    assert_eq!(rt; second.finish(), (9, 1));
 }

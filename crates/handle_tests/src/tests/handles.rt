@@ -1,7 +1,7 @@
 //! Weak handles, to which channel handles belong, and what they print.
 use super::script::Host;
 use super::{expect_equal, expect_equal_at};
-use async_priority_channel::{End, Role, bounded, unbounded};
+use async_priority_channel::{End, Ends, Role, bounded, bounded_reserved, unbounded};
 use std::alloc::AllocGlobal;
 use std::fmt::Debug;
 use std::process::Abort;
@@ -40,6 +40,80 @@ fn the_last_handle_closes_beside_weak_ones(rt: HostRuntime) {
     expect_closed_by_last(&rt, rx, &tx);
 }
 
+type Named<R> = (&'static str, Ends<char, u64, R>);
+
+// A channel of each kind, with room for three.
+fn open_each<R: Host>(rt: &R) -> [Named<R>; 3] {
+    [
+        ("bounded", bounded(rt, rt.alloc(), 3)),
+        ("reserved", bounded_reserved(rt, rt.alloc(), 3)),
+        ("unbounded", unbounded(rt, rt.alloc())),
+    ]
+    .map(|(kind, made)| (kind, made.expect(rt, "a channel")))
+}
+
+type Looks = (bool, usize, usize, u64);
+
+fn look<S: Role, R: Host>(end: &End<S, char, u64, R>) -> Looks {
+    let counts = (end.sender_count(), end.receiver_count());
+    (end.is_closed(), counts.0, counts.1, end.len())
+}
+
+// No handle that goes here is the last of its side.
+fn expect_open_beside<S: Role, R: Host>(rt: &R, kind: &str, end: &End<S, char, u64, R>) {
+    let wanted = (false, 1, 1, end.len());
+    drop(end.clone().expect(rt, "a handle"));
+    expect_equal_at(rt, (kind, "a clone", S::SIDE), look(end), wanted);
+    let weak = end.downgrade().expect(rt, "a weak handle");
+    drop(weak.clone().expect(rt, "a weak handle"));
+    expect_equal_at(rt, (kind, "a weak clone", S::SIDE), look(end), wanted);
+    drop(weak.upgrade().expect(rt, "a handle"));
+    expect_equal_at(rt, (kind, "an upgraded one", S::SIDE), look(end), wanted);
+    drop(weak);
+    expect_equal_at(rt, (kind, "a weak one", S::SIDE), look(end), wanted);
+}
+
+fn expect_open_beside_both<R: Host>(rt: &R, kind: &str, ends: Ends<char, u64, R>) {
+    let (tx, rx) = ends;
+    for _ in 0..2u32 {
+        expect_open_beside(rt, kind, &tx);
+        expect_open_beside(rt, kind, &rx);
+        expect_equal_at(rt, kind, tx.try_send('x', 1), Ok(()));
+    }
+}
+
+// Where nothing is pending, and where something is.
+#[test]
+fn a_handle_that_is_not_the_last_closes_nothing(rt: HostRuntime) {
+    for (kind, ends) in open_each(&rt) {
+        expect_open_beside_both(&rt, kind, ends);
+    }
+}
+
+// How a hold ends, and how many are held and pending then. One is pending before.
+fn end_each_hold<R: Host>(rt: &R, kind: &str, ends: Ends<char, u64, R>) {
+    let (tx, rx) = ends;
+    expect_equal(rt, tx.try_send('x', 1), Ok(()));
+    let left = || (tx.held(), tx.len());
+    drop(tx.try_reserve().expect(rt, "a place"));
+    expect_equal_at(rt, (kind, "a permit that goes"), left(), (0, 1));
+    tx.try_reserve().expect(rt, "a place").send('y', 2);
+    expect_equal_at(rt, (kind, "a permit that is used"), left(), (0, 2));
+    drop(rx.try_lease().expect(rt, "a lease"));
+    expect_equal_at(rt, (kind, "a lease that goes"), left(), (0, 2));
+    rx.try_lease().expect(rt, "a lease").put_back(0);
+    expect_equal_at(rt, (kind, "a lease that is put back"), left(), (0, 2));
+    rx.try_lease().expect(rt, "a lease").finish();
+    expect_equal_at(rt, (kind, "a lease that is finished"), left(), (0, 1));
+}
+
+#[test]
+fn a_hold_that_has_ended_holds_nothing(rt: HostRuntime) {
+    for (kind, ends) in open_each(&rt) {
+        end_each_hold(&rt, kind, ends);
+    }
+}
+
 // It goes with the last receiver, and only by a receiver's guard, also one of a closed channel.
 #[test]
 fn a_receivers_guard_lets_go_with_the_last_receiver(rt: HostRuntime) {
@@ -72,6 +146,24 @@ fn a_receivers_guard_lets_go_where_no_sender_is_left(rt: HostRuntime) {
     drop(tx);
     drop(rx);
     expect_equal(&rt, (weak.is_closed(), answers.is_closed()), (true, true));
+}
+
+// What goes holds no place, nor does what is sent once the last receiver has gone.
+#[test]
+fn what_a_receivers_guard_lets_go_leaves_no_place_held(rt: HostRuntime) {
+    let (tx, rx) = bounded(&rt, rt.alloc(), 5).expect(&rt, "a channel");
+    for msg in ['a', 'b', 'c'] {
+        expect_equal(&rt, tx.try_send(msg, 1u64), Ok(()));
+    }
+    let permit = tx.try_reserve().expect(&rt, "a place");
+    let other = tx.try_reserve().expect(&rt, "a place");
+    drop(rx.close_on_drop());
+    drop(rx);
+    expect_equal(&rt, (tx.len(), tx.held()), (0, 2));
+    permit.send('d', 1);
+    expect_equal(&rt, (tx.len(), tx.held()), (0, 1));
+    drop(other);
+    expect_equal(&rt, (tx.len(), tx.held()), (0, 0));
 }
 
 // Of each two channels of many, those are the same that are one.

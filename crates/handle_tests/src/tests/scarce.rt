@@ -61,8 +61,20 @@ fn a_refused_clone_of_a_priority_is_an_error(rt: HostRuntime) {
 }
 
 // What is pending keeps its memory, and so does a held place.
-fn shrink<R: Host, A: Allocator + Copy>(rt: &R, memory: &Refusing<Global>, alloc: A) {
+fn shrink<R: Host, A: Allocator + Copy>(
+    rt: &R,
+    memory: &Refusing<Global>,
+    alloc: A,
+    by_sender: bool,
+) {
     let (tx, rx) = unbounded(rt, alloc).expect(rt, "a channel");
+    let shrink_to_fit = || {
+        if by_sender {
+            tx.shrink_to_fit()
+        } else {
+            rx.shrink_to_fit()
+        }
+    };
     for number in 0..100u64 {
         expect_equal(rt, tx.try_send(number, number), Ok(()));
     }
@@ -71,12 +83,12 @@ fn shrink<R: Host, A: Allocator + Copy>(rt: &R, memory: &Refusing<Global>, alloc
     }
     let permit = tx.try_reserve().expect(rt, "a place");
     memory.refuse_all();
-    rx.shrink_to_fit();
+    shrink_to_fit();
     // A smaller block was refused, so nothing has changed.
     expect_equal(rt, tx.try_send(7, 7), Ok(()));
     expect_equal(rt, rx.try_recv(), Ok((7, 7)));
     memory.refuse_none();
-    rx.shrink_to_fit();
+    shrink_to_fit();
     memory.refuse_all();
     expect_equal(rt, tx.try_send(8, 8), Err(TrySendError::Memory((8, 8))));
     permit.send(9, 9);
@@ -87,8 +99,10 @@ fn shrink<R: Host, A: Allocator + Copy>(rt: &R, memory: &Refusing<Global>, alloc
 
 #[test]
 fn the_memory_of_a_longer_queue_is_given_back(rt: HostRuntime) {
-    let memory = Refusing::new(rt.alloc());
-    shrink(&rt, &memory, &memory);
+    for by_sender in [false, true] {
+        let memory = Refusing::new(rt.alloc());
+        shrink(&rt, &memory, &memory, by_sender);
+    }
 }
 
 fn shrink_reserved<R: Host, A: Allocator + Copy>(rt: &R, memory: &Refusing<Global>, alloc: A) {

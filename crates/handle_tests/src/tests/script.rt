@@ -153,7 +153,7 @@ pub fn run<R: Host>(rt: &R, script: Text) {
             memory: &memory,
             alloc: &memory,
             title,
-            watch: Watch::new(title),
+            watch: Watch::brief(title),
         };
         watch_story(&ground, steps);
     }

@@ -87,7 +87,7 @@ fn drop_each_test<R: Host>(rt: &R, watch: &Watch<&'static str>) {
 
 #[test]
 fn the_test_is_dropped_once_the_lock_is_free(rt: HostRuntime) {
-    let watch = Watch::new("");
+    let watch = Watch::brief("");
     let fail = |call: &&str| panic!(rt; "the test of {call} is dropped under the lock");
     watch.over(&rt, fail, || drop_each_test(&rt, &watch));
 }

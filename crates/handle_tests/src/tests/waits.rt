@@ -130,6 +130,12 @@ fn a_future_that_has_answered_does_nothing_more(rt: HostRuntime) {
         rx try_recv = Ok(('1', 1)); tx try_send 4 4; r poll task = Pending; rest task
         tx try_send 5 5; woken =; tx looks = 2 of 1+1; c by tx closed; tx close = true; c poll task
         woken =; c poll task = Pending; woken = task
+        -- a reserve and a lease, which is put back at once
+        channel 1
+        lend tx rx
+        p by tx reserve; p poll task = Ok(Permit { .. }); woken =; p poll task = Pending
+        woken = task; tx try_send x 1; l by rx lease; l poll task = Ok(Lease { .. }); woken =
+        l poll task = Pending; woken = task; tx looks = 1 of 1+1
         -- a stream ends for good
         channel 9; tx try_send a 1; tx try_send b 3; tx try_send c 3; tx try_send d 2
         lend rx
@@ -171,6 +177,21 @@ fn what_is_refused_memory_is_done_and_leaves_no_place(rt: HostRuntime) {
         l by rx lease; m by rx lease; refuse_nth 1; l poll task = Err(Memory); refuse_nth 2
         m poll task = Err(Memory); refuse_none = false; rest task; tx try_send x 1; woken =
         l poll task = Pending; m poll task = Pending; woken = task; rx try_recv = Ok(('x', 1))
+        -- for its place, as it is polled again after a wake in vain
+        channel 1
+        lend rx
+        r by rx recv; b by rx recv_many 2; l by rx lease; r poll task = Pending
+        b poll task = Pending; l poll task = Pending; tx try_send x 1; woken = task
+        rx try_recv = Ok(('x', 1)); refuse_all; r poll task = Err(Memory); b poll task = Err(Memory)
+        l poll task = Err(Memory); refuse_none = false; rest task; tx try_send y 2; woken =
+        --
+        channel 1; tx try_send x 1
+        lend tx
+        s by tx send y 2; v by tx sendv z 3 w 4; p by tx reserve; s poll task = Pending
+        v poll task = Pending; p poll task = Pending; rx try_recv = Ok(('x', 1)); woken = task
+        tx try_send x 1; refuse_all; s poll task = Err(Memory(..)); v poll task = Err(2)
+        p poll task = Err(Memory(..)); refuse_none = false; rest task; rx try_recv = Ok(('x', 1))
+        woken =
         -- waits for the close, one of which waits on without more memory
         channel 1
         lend tx

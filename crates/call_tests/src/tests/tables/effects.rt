@@ -234,7 +234,7 @@ fn poll_sender<R: Host>(
 
 #[test]
 fn a_task_is_woken_by_what_it_waits_for(rt: HostRuntime) {
-    let watch = Watch::new(None);
+    let watch = Watch::brief(None);
     watch_rounds(&rt, &watch, || {
         for situation in SITUATIONS {
             for waiting in WAITING {

@@ -2,7 +2,7 @@
 //! and whom that wakes.
 use super::{Mirrored, input, watch_rounds};
 use crate::tests::driver::all::ALL;
-use crate::tests::driver::calls::{Call, Pair, Side, Way};
+use crate::tests::driver::calls::{Call, Pair, Side, Way, is_choosy};
 use crate::tests::{Host, expect_equal_at, expect_true, is_pending, make_all, new_task, ready};
 use async_priority_channel::{Permit, Receiver, RecvError, RecvFault, Sender, bounded};
 use futures::Future;
@@ -19,6 +19,8 @@ struct Round {
     call: Call,
     /// Made before the permits are sent or dropped.
     after: Option<Call>,
+    /// The message that the call takes where it takes one of its choice.
+    chosen: u64,
 }
 
 // What was called before: nothing, what closes the channel, or what is to close it later.
@@ -30,6 +32,13 @@ const BEFORE: [Option<Call>; 4] = [
 ];
 
 const AFTER: [Option<Call>; 2] = [None, Some(Call::Drop(Side::Receiver))];
+
+fn chooses(call: Call) -> bool {
+    match call {
+        Call::TakeWhere(_) | Call::Retain(_) | Call::ChangePriority(_) | Call::RecvIf => true,
+        _ => is_choosy(call),
+    }
+}
 
 fn hold<'a, R: Host>(
     rt: &R,
@@ -47,7 +56,8 @@ fn play<R: Host>(rt: &R, round: Round) {
     for _ in 0..round.held {
         mirrored.model.hold();
     }
-    let of_call = input(50, 2, 2);
+    let mut of_call = input(50, 2, 2);
+    of_call.chosen = round.chosen;
     // One more, so that a sender is left for looks.
     mirrored.agree(rt, round, Call::Clone(Side::Sender), of_call);
     mirrored.agree(rt, round, Call::Sendv(Way::Try), input(1, round.pending, 0));
@@ -75,9 +85,21 @@ fn play<R: Host>(rt: &R, round: Round) {
     }
 }
 
+// The first message is pending wherever something is.
+fn play_choices<R: Host>(rt: &R, watch: &Watch<Option<Round>>, round: Round) {
+    for chosen in [1, 2] {
+        if chosen == round.chosen || chooses(round.call) {
+            let mut round = round;
+            round.chosen = chosen;
+            watch.begin(rt, Some(round));
+            play(rt, round);
+        }
+    }
+}
+
 #[test]
 fn each_call_answers_as_the_model_beside_held_places(rt: HostRuntime) {
-    let watch = Watch::new(None);
+    let watch = Watch::brief(None);
     watch_rounds(&rt, &watch, || {
         for held in 0..=CAPACITY {
             for pending in 0..=CAPACITY.saturating_sub(held) {
@@ -90,9 +112,9 @@ fn each_call_answers_as_the_model_beside_held_places(rt: HostRuntime) {
                                 before,
                                 call,
                                 after,
+                                chosen: 2,
                             };
-                            watch.begin(&rt, Some(round));
-                            play(&rt, round);
+                            play_choices(&rt, &watch, round);
                         }
                     }
                 }

@@ -101,7 +101,7 @@ fn refuse<R: Host, A: Allocator + Copy>(
 #[test]
 fn no_call_loses_what_is_refused_memory(rt: HostRuntime) {
     let memory = Refusing::new(rt.alloc());
-    let watch = Watch::new(None);
+    let watch = Watch::brief(None);
     watch_rounds(&rt, &watch, || {
         for pending in PENDING {
             for call in ALL {
@@ -133,7 +133,7 @@ fn is_blocked(call: Call, pending: u64, is_closed: bool) -> bool {
 #[test]
 fn a_reserved_channel_takes_memory_for_waiting_alone(rt: HostRuntime) {
     let memory = Refusing::new(rt.alloc());
-    let watch = Watch::new(None);
+    let watch = Watch::brief(None);
     watch_rounds(&rt, &watch, || {
         for pending in PENDING {
             for is_closed in [false, true] {
@@ -160,7 +160,7 @@ fn refuse_constructors<R: Host, A: Allocator + Copy>(rt: &R, (memory, alloc): Me
     let unbounded_made = unbounded::<u64, u64, _, _>(rt, alloc).is_ok();
     let made = (bounded_made, unbounded_made);
     expect_equal_at(rt, "made", made, (false, false));
-    for n in 1..=2u64 {
+    for n in 1..=3u64 {
         memory.refuse_nth(n);
         let made = bounded_reserved::<u64, u64, _, _>(rt, alloc, 1);
         expect_equal_at(rt, n, made.is_err(), true);

@@ -60,7 +60,7 @@ fn draw_input(dice: &mut Dice, round: u64, spread: u64) -> Input {
 fn mirror<R: Threaded>(rt: &R, ends: Ends<u64, u64, R>, capacity: u64, spread: u64) {
     let mut mirrored = Mirrored::new(rt, rt.alloc(), ends, capacity, (1, 1));
     let mut dice = Dice::new(capacity);
-    let watch = Watch::new(None);
+    let watch = Watch::brief(None);
     watch_rounds(rt, &watch, || {
         for round in 0..CALLS {
             let call = draw_call(&mut dice, round);

@@ -1,6 +1,6 @@
 //! Calls that threads make at the same moment, again and again: each is one step.
 use super::Threaded;
-use super::watch::within;
+use super::watch::{under_load, within};
 use crate::tests::{expect_equal_at, new_task, ready};
 use async_priority_channel::{RecvError, RecvFault, TryRecvManyError, bounded};
 use std::sync::atomic::{AtomicUsize, Ordering};
@@ -85,7 +85,7 @@ fn close_by_many<R: Threaded>(rt: &R, round: u64) {
 #[test]
 fn one_of_many_closes_the_channel(rt: HostRuntime) {
     for round in 0..ROUNDS / 4 {
-        within(
+        under_load(
             &rt,
             ("many closes at once", round),
             || close_by_many(&rt, round),

@@ -1,7 +1,7 @@
 //! Threads that wait for a message with a condition: each change after which one has to look again
 //! wakes it, and it sleeps on otherwise.
 use super::either::long;
-use super::watch::{beside, within};
+use super::watch::{beside, under_load, within};
 use super::{Threaded, let_others_wait, wait_until};
 use crate::tests::driver::calls::{Call, Input, Pairs, Way};
 use crate::tests::driver::receive::receive;
@@ -350,7 +350,7 @@ fn receive_in_three_ways<R: Threaded>(rt: &R, capacity: u64, ends: Ends<u64, u64
 fn those_with_conditions_and_those_without_receive_each_message_once(rt: HostRuntime) {
     for capacity in [1u64, 8, MESSAGES] {
         let ends = bounded(&rt, rt.alloc(), capacity).expect(&rt, "a channel");
-        within(
+        under_load(
             &rt,
             ("threads that receive in three ways", capacity),
             || receive_in_three_ways(&rt, capacity, ends),

@@ -24,7 +24,7 @@ use std::time::{Duration, Instant};
 enum Halt<'a> {
     /// At a reading of the clock, which then tells that the time is over, or that it is not.
     Reading(&'a Times, bool),
-    /// At a request for memory, before the thread is listed.
+    /// At a request for memory, while the channel's lock is free.
     Request(&'a Refusing<Global>),
 }
 
@@ -233,14 +233,24 @@ fn a_thread_behind_another_finds_what_has_come_in_time(rt: HostRuntime) {
     find_in_time(&rt, Place::Second);
 }
 
+// The first request that the call makes while the lock is free. A bulk send as a future makes one
+// before, under the lock: it sends a part, and is listed in the same step.
+fn request_of(call: Call) -> u64 {
+    match call {
+        Call::Sendv(Way::Poll | Way::Future) => 2,
+        _ => 1,
+    }
+}
+
 fn wait_with_a_request<R: Threaded, A: Allocator + Copy + Send + Sync>(
     rt: &R,
     (memory, alloc): Memory<'_, A>,
     call: Call,
 ) {
     let ends = block(rt, alloc, call);
-    memory.hold_nth(1);
-    let round = (call, Place::First, Coming::Early, 1);
+    let number = request_of(call);
+    memory.hold_nth(number);
+    let round = (call, Place::First, Coming::Early, number);
     let halt = Halt::Request(memory);
     wait_with_a_halt(rt, round, (rt, alloc), &ends, halt);
 }

@@ -1,7 +1,7 @@
 //! Pools of workers over leases: what a worker gives up comes to another one, and a channel that is
 //! told to close when all is done closes neither early nor never.
 use super::either::{long, waits};
-use super::watch::{beside, within};
+use super::watch::{beside, under_load};
 use super::{Threaded, let_others_wait, wait_until};
 use crate::tests::dice::Dice;
 use crate::tests::driver::all::ALL;
@@ -87,7 +87,7 @@ fn run_unsteady<R: Threaded>(rt: &R, ends: Ends<u64, u64, R>, capacity: u64) {
 fn workers_that_fail_at_random_finish_each_message_once(rt: HostRuntime) {
     for capacity in [1u64, 5, 40] {
         let ends = bounded(&rt, rt.alloc(), capacity).expect(&rt, "a channel");
-        within(
+        under_load(
             &rt,
             ("unsteady workers", capacity),
             || run_unsteady(&rt, ends, capacity),
@@ -238,7 +238,7 @@ fn a_channel_closes_once_jobs_that_lead_to_others_are_done(rt: HostRuntime) {
     for (workers, jobs, rounds) in DIGS {
         for round in 0..rounds {
             let what = ("jobs that lead to others", workers, jobs, round);
-            within(&rt, what, || dig(&rt, workers, jobs));
+            under_load(&rt, what, || dig(&rt, workers, jobs));
         }
     }
 }

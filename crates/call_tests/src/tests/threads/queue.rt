@@ -1,6 +1,6 @@
 //! Threads that wait for the same, in a queue: whoever leaves it, and however, those behind go on.
 use super::either::{Either, SIDES, block, long};
-use super::watch::within;
+use super::watch::under_load;
 use super::{Threaded, let_others_wait};
 use crate::tests::driver::calls::{Call, Side, Way};
 use crate::tests::driver::reply::Outcome;
@@ -82,7 +82,7 @@ fn each_of_many_goes_on(rt: HostRuntime) {
             };
             let pending = other.len();
             let waiting = begin_all(&rt, &blocked, 2);
-            within(&rt, ("each of six waits", (side, at_once)), || {
+            under_load(&rt, ("each of six waits", (side, at_once)), || {
                 expect_true(&rt, help_six(&rt, &other, at_once), "the channel is open");
                 expect_all(&rt, waiting, side, Outcome::Done);
             });
@@ -109,7 +109,7 @@ fn a_close_ends_many_waits(rt: HostRuntime) {
             }
         }
         let waiting = begin_all(&rt, &blocked, 8);
-        within(&rt, ("the end of many waits by a close", side), || {
+        under_load(&rt, ("the end of many waits by a close", side), || {
             expect_true(&rt, other.close(), "it was open");
             expect_all(&rt, waiting, side, Outcome::Closed);
             expect_all(&rt, closing, side, Outcome::Done);
@@ -132,7 +132,7 @@ fn leave<R: Threaded>(rt: &R, side: Side, before: u64) {
         begin(rt, queue, &blocked, side.call(way), limit);
         let_others_wait(rt);
     }
-    within(rt, ("those beside one that has left", (side, before)), || {
+    under_load(rt, ("those beside one that has left", (side, before)), || {
         expect_all(rt, leaving, side, Outcome::Timeout);
         expect_true(rt, other.help() && other.help(), "the channel is open");
         expect_all(rt, waiting, side, Outcome::Done);

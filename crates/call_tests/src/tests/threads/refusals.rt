@@ -11,6 +11,7 @@ use crate::tests::{Memory, expect_equal_at, expect_true};
 use async_priority_channel::{bounded, bounded_reserved};
 use refusing::Refusing;
 use std::alloc::Allocator;
+use std::sync::atomic::{AtomicBool, Ordering};
 use std::thread;
 use std::time::{Duration, Instant};
 
@@ -145,6 +146,63 @@ fn refuse_a_loop<R: Threaded, A: Allocator + Copy + Send + Sync>(
 fn a_loop_asks_once_a_wait_and_goes_on_without_memory(rt: HostRuntime) {
     let memory = Refusing::new(rt.alloc());
     refuse_a_loop(&rt, (&memory, &memory));
+}
+
+// What a worker has in hand comes back once the thread has asked for memory some times in vain.
+fn refuse_beside_a_lease<R: Threaded, A: Allocator + Copy + Send + Sync>(
+    rt: &R,
+    (memory, alloc): Memory<'_, A>,
+    (call, is_closed): (Call, bool),
+) {
+    let (tx, rx) = bounded_reserved(rt, alloc, 1).expect(rt, "a channel");
+    let other = rx.clone().expect(rt, "a receiver");
+    expect_true(rt, tx.try_send(7, 7).is_ok(), "there is room");
+    let lease = other.try_lease().expect(rt, "a message is pending");
+    if is_closed {
+        expect_true(rt, tx.close(), "it was open");
+    }
+    let waiting = Either::Receiver(rx);
+    let asked = memory.count().wrapping_add(5);
+    memory.refuse_all();
+    let has_answered = AtomicBool::new(false);
+    let (answer, waits_on) = beside(
+        rt,
+        ("a loop beside a lease", (call, is_closed)),
+        || {
+            let answer = waiting.make(rt, alloc, call, long());
+            has_answered.store(true, Ordering::SeqCst);
+            answer
+        },
+        || {
+            let answers = || has_answered.load(Ordering::SeqCst);
+            wait_until(rt, || memory.count() >= asked || answers());
+            let waits_on = !answers();
+            drop(lease);
+            waits_on
+        },
+    );
+    expect_equal_at(
+        rt,
+        (call, is_closed),
+        (waits_on, answer),
+        (true, done(call)),
+    );
+}
+
+#[test]
+fn a_loop_without_memory_waits_for_what_is_in_hand(rt: HostRuntime) {
+    for call in [
+        Call::Iter,
+        Call::IntoIter,
+        Call::Leases,
+        Call::Stream(Way::Future),
+        Call::IntoStream(Way::Future),
+    ] {
+        for is_closed in [false, true] {
+            let memory = Refusing::new(rt.alloc());
+            refuse_beside_a_lease(&rt, (&memory, &memory), (call, is_closed));
+        }
+    }
 }
 
 fn wait_in_vain<R: Threaded, A: Allocator + Copy + Send + Sync>(

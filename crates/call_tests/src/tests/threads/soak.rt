@@ -4,7 +4,7 @@
 //!
 //! The test runs a few rounds, and `tools/soak` runs it for minutes, from another seed.
 use super::Threaded;
-use super::watch::within;
+use super::watch::under_load;
 use crate::tests::dice::Dice;
 use crate::tests::driver::all::ALL;
 use crate::tests::driver::calls::{Call, Input, Pair, Pairs, Side, Way, is_choosy};
@@ -370,7 +370,7 @@ fn run_round<R: Threaded>(rt: &R, seed: u64) {
     let round = Round::draw(&mut dice, seed);
     let (tx, rx) = open(rt, &mut dice);
     let threads = start(rt, (tx, &rx), round, &mut dice);
-    let logs = within(rt, round, || join_all(rt, threads));
+    let logs = under_load(rt, round, || join_all(rt, threads));
     let left = (rx.len(), rx.held(), rx.sender_count(), rx.receiver_count());
     expect_equal_at(rt, (round, "what is left"), left, (0, 0, 0, 1));
     settle(rt, round, &logs);

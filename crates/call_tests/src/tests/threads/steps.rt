@@ -1,6 +1,6 @@
 //! A bulk call is one step beside those of other threads.
 use super::let_others_wait;
-use super::watch::{beside, within};
+use super::watch::{beside, under_load};
 use crate::tests::{Host, expect_equal_at};
 use async_priority_channel::{Receiver, Sender, TryRecvManyError, bounded};
 use std::sync::atomic::{AtomicBool, Ordering};
@@ -46,7 +46,7 @@ fn receive_fours<R: Host>(rt: &R, rx: &Receiver<u64, u64, R>) -> u64 {
 fn a_bulk_call_is_one_step(rt: HostRuntime) {
     let is_over = AtomicBool::new(false);
     let (tx, rx) = bounded(&rt, rt.alloc(), 4).expect(&rt, "a channel");
-    let odd = within(&rt, "many bulk calls", || {
+    let odd = under_load(&rt, "many bulk calls", || {
         thread::join(
             &rt,
             || send_sixes(&tx, &is_over),

@@ -5,9 +5,11 @@ use crate::tests::driver::calls::Way;
 use crate::tests::threads::Threaded;
 use crate::tests::threads::clocks::{Paced, Plan, Times};
 use crate::tests::threads::either::long;
-use crate::tests::threads::watch::within;
+use crate::tests::threads::watch::{under_load, within};
 use crate::tests::{Host, Memory, expect_equal_at, expect_true};
-use async_priority_channel::{Due, Receiver, RecvTimeoutError, Sender, unbounded};
+use async_priority_channel::{
+    Due, Receiver, RecvTimeoutError, Sender, bounded_reserved, unbounded,
+};
 use refusing::Refusing;
 use std::alloc::Allocator;
 use std::cmp::Reverse;
@@ -39,6 +41,51 @@ fn receive_due<T, R: Host, A: Allocator + Copy>(
     };
     let (msg, due) = received?;
     Some((msg, due.0, now(rt)))
+}
+
+const DUE: u64 = 100;
+
+// Each comes some moments after the thread has begun to wait for it, or just as its time is over.
+fn receive_many_due<R: Threaded, A: Allocator + Copy + Send + Sync>(
+    rt: &R,
+    (memory, alloc): Memory<'_, A>,
+    (way, is_last): (Way, bool),
+) {
+    let (tx, rx) = bounded_reserved(rt, alloc, 1).expect(rt, "a channel");
+    let begun = memory.count();
+    for round in 0..DUE {
+        let soon = after(rt, now(rt), Duration::from_millis(4));
+        expect_true(
+            rt,
+            tx.try_send(round, Reverse(soon)).is_ok(),
+            "there is room",
+        );
+        let msg = within(rt, ("a message that comes due", (way, round)), || {
+            if is_last {
+                let when = |_: &u64, due: &Reverse<Instant>| Due::At(due.0);
+                rx.recv_when_deadline(when, soon).ok().map(|(msg, _)| msg)
+            } else {
+                receive_due(rt, &rx, way).map(|(msg, ..)| msg)
+            }
+        });
+        expect_equal_at(rt, (way, round), msg, Some(round));
+    }
+    let asked = memory.count().saturating_sub(begun);
+    let most = DUE.saturating_add(REQUESTS).saturating_sub(1);
+    expect_equal_at(rt, (way, is_last, asked), asked <= most, true);
+}
+
+// Who found its message has left the list, so each wait but the first asks for its waiter alone.
+#[test]
+fn a_wait_whose_message_has_come_due_leaves_no_place_behind(rt: HostRuntime) {
+    for way in WAYS {
+        for is_last in [false, true] {
+            if !is_last || way == Way::Deadline {
+                let memory = Refusing::new(rt.alloc());
+                receive_many_due(&rt, (&memory, &memory), (way, is_last));
+            }
+        }
+    }
 }
 
 fn send_an_earlier_job<R: Threaded, A: Allocator + Copy + Send + Sync>(
@@ -186,7 +233,7 @@ fn send_delayed<R: Host>(rt: &R, tx: &Sender<u64, Reverse<Instant>, R>) {
 #[test]
 fn no_delayed_message_comes_early_or_is_lost(rt: HostRuntime) {
     let (tx, rx) = unbounded(&rt, rt.alloc()).expect(&rt, "a channel");
-    let told = within(&rt, "delayed messages", || {
+    let told = under_load(&rt, "delayed messages", || {
         thread::map_indices(
             &rt,
             rt.alloc(),
