@@ -11,7 +11,7 @@ module _ {K R : Type 0} (can : K → Type 0) (leaves : K → K → Type 0)
   abbrev IsLeft : Option K → Option K → Type 0
   IsLeft kept left = IfSome kept (λ k. IfSome left (λ rest. can rest × leaves k rest))
 
-  later : (first mid last : Option K) → is_some mid ≡ is_some first → IsLeft first mid → IsLeft mid last → IsLeft first last
+  pub later : (first mid last : Option K) → is_some mid ≡ is_some first → IsLeft first mid → IsLeft mid last → IsLeft first last
   later None mid last some h k = tt
   later (Some first) None last some h k = absurd (cc)
   later (Some first) (Some mid) None some h k = tt
