@@ -9,8 +9,8 @@ use std::time::{Clock, Duration};
 // keeps the processors busy, as by many threads.
 const PATIENCE: u64 = 25_000;
 
-// The same for a step that ends in milliseconds, also on a busy machine. A lost wake costs each test
-// that it hangs so long.
+// The same for a step that ends in milliseconds, also on a busy machine. A lost wake costs so much
+// of each test that it hangs.
 const BRIEF: u64 = 10_000;
 
 /// Watches the steps of a test, as the cases of a table, and names one that lasts too long. Only a
