@@ -1,9 +1,9 @@
 //! Waits with a condition: the receives until a pending message meets one, and their loop, which is
 //! also that of the wait for the close.
 //!
-//! The thread looks at the channel. If nothing is for it, it is listed in the same hold of the lock,
-//! and sleeps until something has changed of what it looks at, or an instant has come for which it
-//! asked.
+//! The thread looks at the channel. If nothing is for it, it is listed in the same hold of the
+//! lock, and sleeps until something has changed of what it looks at, or an instant has come for
+//! which it asked.
 ghost use Rattle.std.specs.Prelude.{◌≡◌, true, None, IfOk, IfErr, IsSome, OnErr};
 ghost use Rattle.priority_channel_core.specs.bag.Prelude.{Tells};
 ghost use Rattle.priority_channel_waiting.specs.Ends.{OnOver};
@@ -37,8 +37,8 @@ impl<T, P: Ord, R: Wait + Clone, A: Allocator + Copy> Receiver<T, P, R, A> {
     /// is woken by each change, and one of them receives.
     ///
     /// Cost: at each look a call of `when` under the lock, and that of `try_recv`. Memory for a
-    /// waiter and its entry in a list, if it waits. The first wait for the close or with a condition
-    /// also takes memory for these lists.
+    /// waiter and its entry in a list, if it waits. The first wait for the close or with a
+    /// condition also takes memory for these lists.
     ///
     /// ```
     /// let (tx, rx) = unbounded(&rt, rt.alloc())?;

@@ -46,8 +46,8 @@ pub fn queue_law<T, P: Ord>()
         × (thread.phase ≡ Sleeps 0) × CanGoOn world.state world.side }
 {}
 
-/// Nobody waits for the close of a channel that is closed. What a channel's lock guards always meets
-/// the premise: an invariant of its type.
+/// Nobody waits for the close of a channel that is closed. What a channel's lock guards always
+/// meets the premise: an invariant of its type.
 pub fn closing_law()
     ensures { (core : CountedState (Unit {0}) (Unit {0}) ℕ) (selection : Selection)
         → AllHaveSeen selection core → core.state.is_closed ≡ true

@@ -1,5 +1,5 @@
-//! The tasks and threads that wait until a pending message meets a condition of theirs, or until the
-//! channel is closed.
+//! The tasks and threads that wait until a pending message meets a condition of theirs, or until
+//! the channel is closed.
 //!
 //! Such a waiter looks at the channel. If it has to wait, it is listed together with what it has
 //! seen. Once that is no longer what is there, the waiters are taken off the list, to be woken and

@@ -17,8 +17,8 @@ use std::sync::Wait;
 /// does as a `Recv` (see `Waiting`).
 ///
 /// Cost: no comparison. A poll that has to wait takes memory for its waiter, which is kept, and for
-/// its entry in a list. The first wait for the close or with a condition also takes memory for these
-/// lists.
+/// its entry in a list. The first wait for the close or with a condition also takes memory for
+/// these lists.
 #[must_use = "a future does nothing until it is polled: `block_on`, or `closed_blocking`"]
 pub struct Closed<'a, S: Role, T, P: Ord, R: Wait + Clone, A: Allocator + Copy = Global> {
     end: &'a End<S, T, P, R, A>,

@@ -51,8 +51,8 @@ impl<K: Drop, N, A: Allocator + Copy> Task<K, N, A> {
         unsent
     }
 
-    // Makes the call at once, in one hold of the lock and without a waiter of its own, or else waits
-    // with the task's waker.
+    // Makes the call at once, in one hold of the lock and without a waiter of its own, or else
+    // waits with the task's waker.
     pub(crate) fn poll<T, P: Ord, R: Wait + Clone>(
         &mut self,
         handle: &Handle<T, P, R, A>,

@@ -21,9 +21,9 @@ pub fn waits(call: Call) -> bool {
 }
 
 /// How often a wait asks for memory: for a waiter, and for an entry in the list of those that wait.
-/// The first wait with a condition, as that for the close, also asks for these lists, which a channel
-/// makes only then. None where that is not told: a batch asks for its memory too, a loop never
-/// fails, and a task asks for more.
+/// The first wait with a condition, as that for the close, also asks for these lists, which a
+/// channel makes only then. None where that is not told: a batch asks for its memory too, a loop
+/// never fails, and a task asks for more.
 pub fn requests_of(call: Call) -> Option<u64> {
     match call {
         _ if !waits(call) || call.way() == Way::Future => None,

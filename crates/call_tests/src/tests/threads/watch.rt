@@ -4,8 +4,8 @@ use refusing::watch::Watch;
 use std::fmt::Debug;
 use std::thread;
 
-/// Waits for what another thread may have to bring, in milliseconds. The test fails where that lasts
-/// too long, and tells what was waited for.
+/// Waits for what another thread may have to bring, in milliseconds. The test fails where that
+/// lasts too long, and tells what was waited for.
 pub fn within<R, N, T, F>(rt: &R, what: N, wait: F) -> T
 where
     R: Threaded,
