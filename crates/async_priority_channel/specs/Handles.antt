@@ -35,11 +35,6 @@ pub record Leased (T P : Type 0) : Type 0 where
 abbrev pub with_message : {T P : Type 0} → Leased T P → T → Leased T P
 with_message lease msg = record lease { pair = (msg, lease.pair.1) }
 
--- a loop over a channel's messages, and a bound on how many are still to come
-pub record Looping : Type 0 where
-  pub channel : Channel
-  pub left : ℕ
-
 -- a stream of a channel's messages, and whether it has ended
 pub record Streaming : Type 0 where
   pub channel : Channel

@@ -2,32 +2,29 @@
 ghost use Rattle.std.specs.Prelude.{◌≡◌, ◌<◌, IfSome, IfNone, None};
 ghost use Rattle.std.specs.Iterator.{at_most};
 
-use crate::as_receiver::AsReceiver;
 use crate::handle::Handle;
-use crate::lease::Lease;
 use crate::receiver::Receiver;
-use priority_channel_waiting::attempts::{Attempt, Receive, ReceiveHeld};
+use priority_channel_waiting::attempts::{Attempt, Receive};
 use priority_channel_waiting::timeouts::Ended;
 use priority_channel_waiting::until::Endless;
 use priority_channel_waiting::waiter::Waiter;
 use std::alloc::{Allocator, Global};
 use std::iter::FusedIterator;
-use std::marker::Model;
 use std::sync::Wait;
 use std::thread::Parker;
 use std::time::Duration;
 
 // The waits of a loop. They share one waiter.
 #[derive(Drop)]
-struct Waits<A: Allocator> {
+pub(crate) struct Waits<A: Allocator> {
     waiter: Option<Waiter<A>>,
     // A bound by which the proof of a loop sees that it ends. No run reaches it. It is 0 once the
     // channel has ended.
-    left: u64,
+    pub(crate) left: u64,
 }
 
 impl<A: Allocator + Copy> Waits<A> {
-    fn new() -> Self {
+    pub(crate) fn new() -> Self {
         Waits {
             waiter: None,
             left: u64::MAX,
@@ -35,7 +32,7 @@ impl<A: Allocator + Copy> Waits<A> {
     }
 
     // What a `Receive` or a `ReceiveHeld` brings next.
-    fn next_on<T, P: Ord, R: Wait + Clone, C: Attempt<T, P, A> + Copy + Drop>(
+    pub(crate) fn next_on<T, P: Ord, R: Wait + Clone, C: Attempt<T, P, A> + Copy + Drop>(
         &mut self,
         handle: &Handle<T, P, R, A>,
         call: C,
@@ -83,84 +80,63 @@ fn pause<R: Wait>(rt: &R) {
     Parker::new().park_timeout(rt, Duration::from_millis(1));
 }
 
-/// The messages of a channel, each received by the same call: an `Iter`, an `IntoIter` or `Leases`.
-/// The thread waits for each of them. `H` is a receiver or a reference to one.
+/// The messages of a channel, until the channel is closed and empty. The thread waits for each of
+/// them. `Receiver::iter` and `for pair in &rx` make it.
 ///
 /// It never fails: if memory for waiting is refused, it sleeps for a millisecond and tries again.
 ///
 /// Cost: as `recv_blocking` for each message. All waits share one waiter.
-#[derive(Drop)]
 #[must_use = "it receives nothing until it is asked for the next message"]
-pub struct Messages<H: AsReceiver, C> {
-    receiver: H,
-    call: C,
-    waits: Waits<H::Alloc>,
+pub struct Iter<'a, T, P: Ord, R: Wait + Clone, A: Allocator + Copy = Global> {
+    receiver: &'a Receiver<T, P, R, A>,
+    waits: Waits<A>,
 }
 
-impl<H: AsReceiver, C> Model for Messages<H, C> {
-    ghost use Rattle.async_priority_channel.specs.Handles.{Looping};
-
-    ghost Value = { Looping };
-
-    ghost view = { λ s. record { channel = H.channel s.receiver; left = s.waits.left } };
-}
-
-impl<H: AsReceiver, C> Messages<H, C> {
-    pub(crate) fn new(receiver: H, call: C) -> Self
-        ensures { result.channel ≡ H.channel receiver }
-    {
-        Messages {
-            receiver,
-            call,
-            waits: Waits::new(),
-        }
+impl<'a, T, P: Ord, R: Wait + Clone, A: Allocator + Copy> Drop for Iter<'a, T, P, R, A> {
+    fn drop(self) {
+        let Iter {
+            receiver: _,
+            waits: _,
+        } = self;
     }
 }
 
-/// The messages of a channel, until the channel is closed and empty. `Receiver::iter` and
-/// `for pair in &rx` make it.
-///
-/// Cost: as `Messages`.
-pub type Iter<'a, T, P, R, A = Global> = Messages<&'a Receiver<T, P, R, A>, Receive>;
+impl<'a, T, P: Ord, R: Wait + Clone, A: Allocator + Copy> Iterator for Iter<'a, T, P, R, A> {
+    type Item = (T, P);
+
+    ghost remaining = { λ s. at_most s.waits.left };
+
+    fn next(&mut self) -> Option<(T, P)> {
+        let receiver = self.receiver;
+        self.waits.next_on(&receiver.handle, Receive)
+    }
+}
+
+impl<'a, T, P: Ord, R: Wait + Clone, A: Allocator + Copy> FusedIterator for Iter<'a, T, P, R, A> {}
 
 /// As `Iter`, with its own receiver, which is dropped with it. `for pair in rx` makes it.
 ///
-/// Cost: as `Messages`.
-pub type IntoIter<T, P, R, A = Global> = Messages<Receiver<T, P, R, A>, Receive>;
+/// Cost: as an `Iter`.
+#[derive(Drop)]
+#[must_use = "it receives nothing until it is asked for the next message"]
+pub struct IntoIter<T, P: Ord, R: Wait + Clone, A: Allocator + Copy = Global> {
+    receiver: Receiver<T, P, R, A>,
+    waits: Waits<A>,
+}
 
-impl<H: AsReceiver + Drop> Iterator for Messages<H, Receive> {
-    type Item = (H::Msg, H::Priority);
+impl<T: Drop, P: Ord + Drop, R: Wait + Clone, A: Allocator + Copy> Iterator
+    for IntoIter<T, P, R, A> {
+    type Item = (T, P);
 
-    ghost remaining = { λ s. at_most s.left };
+    ghost remaining = { λ s. at_most s.waits.left };
 
-    fn next(&mut self) -> Option<(H::Msg, H::Priority)> {
-        let receiver = self.receiver.as_receiver();
-        self.waits.next_on(&receiver.handle, self.call)
+    fn next(&mut self) -> Option<(T, P)> {
+        self.waits.next_on(&self.receiver.handle, Receive)
     }
 }
 
-impl<H: AsReceiver + Drop> FusedIterator for Messages<H, Receive> {}
-
-/// The messages of a channel, each with its place held. `Receiver::leases` makes it.
-///
-/// Cost: as `lease_blocking` for each message. All waits share one waiter.
-pub type Leases<'a, T, P, R, A = Global> = Messages<&'a Receiver<T, P, R, A>, ReceiveHeld>;
-
-impl<'a, T: Drop, P: Ord + Drop, R: Wait + Clone, A: Allocator + Copy> Iterator
-    for Leases<'a, T, P, R, A> {
-    type Item = Lease<'a, T, P, R, A>;
-
-    ghost next_gives = { λ s next t. IfSome next (λ lease. lease.channel ≡ s.channel)
-        × (t.channel ≡ s.channel) };
-
-    ghost remaining = { λ s. at_most s.left };
-
-    fn next(&mut self) -> Option<Lease<'a, T, P, R, A>> {
-        let receiver = self.receiver;
-        let leased = self.waits.next_on(&receiver.handle, self.call)?;
-        Some(Lease::of(&receiver.handle, leased))
-    }
-}
+impl<T: Drop, P: Ord + Drop, R: Wait + Clone, A: Allocator + Copy> FusedIterator
+    for IntoIter<T, P, R, A> {}
 
 /// The messages that are pending, until there is none. `Receiver::try_iter` makes it. Once it has
 /// found none, it stays ended.
@@ -227,7 +203,10 @@ impl<T: Drop, P: Ord + Drop, R: Wait + Clone, A: Allocator + Copy> IntoIterator
     type IntoIter = IntoIter<T, P, R, A>;
 
     fn into_iter(self) -> IntoIter<T, P, R, A> {
-        Messages::new(self, Receive)
+        IntoIter {
+            receiver: self,
+            waits: Waits::new(),
+        }
     }
 }
 
@@ -247,10 +226,11 @@ impl<T, P: Ord, R: Wait + Clone, A: Allocator + Copy> Receiver<T, P, R, A> {
     /// assert_eq!(rt; jobs.next(), Some("tidy up"));
     /// assert_eq!(rt; jobs.next(), None);
     /// ```
-    pub fn iter(&self) -> Iter<'_, T, P, R, A>
-        ensures { result.channel ≡ self.now }
-    {
-        Messages::new(self, Receive)
+    pub fn iter(&self) -> Iter<'_, T, P, R, A> {
+        Iter {
+            receiver: self,
+            waits: Waits::new(),
+        }
     }
 
     /// The messages that are pending, until there is none. It never waits, and stays ended.

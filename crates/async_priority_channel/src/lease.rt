@@ -1,10 +1,11 @@
 //! Messages that are worked on, and hold their places meanwhile.
-ghost use Rattle.std.specs.Prelude.{◌≡◌, IfOk, None, false};
+ghost use Rattle.std.specs.Prelude.{◌≡◌, ◌<◌, IfOk, IfSome, None, false};
 ghost use Rattle.std.specs.Borrow.{sem};
+ghost use Rattle.std.specs.Iterator.{at_most};
 ghost use Rattle.async_priority_channel.specs.Lending.{LendsMessage};
 
 use crate::handle::Handle;
-use crate::iter::{Leases, Messages};
+use crate::iter::Waits;
 use crate::permit::Permit;
 use crate::receiver::Receiver;
 use crate::waiting::{Calling, LeaseNext};
@@ -313,9 +314,44 @@ impl<T: Drop, P: Ord + Drop, R: Wait + Clone, A: Allocator + Copy> Receiver<T, P
     /// }
     /// assert!(rt; tx.is_closed());
     /// ```
-    pub fn leases(&self) -> Leases<'_, T, P, R, A>
-        ensures { result.channel ≡ self.now }
-    {
-        Messages::new(self, ReceiveHeld)
+    pub fn leases(&self) -> Leases<'_, T, P, R, A> {
+        Leases {
+            receiver: self,
+            waits: Waits::new(),
+        }
+    }
+}
+
+/// The messages of a channel, each with its place held. `Receiver::leases` makes it.
+///
+/// It waits as an `Iter` does, and never fails.
+///
+/// Cost: as `lease_blocking` for each message. All waits share one waiter.
+#[must_use = "it receives nothing until it is asked for the next message"]
+pub struct Leases<'a, T: Drop, P: Ord + Drop, R: Wait + Clone, A: Allocator + Copy = Global> {
+    receiver: &'a Receiver<T, P, R, A>,
+    waits: Waits<A>,
+}
+
+impl<'a, T: Drop, P: Ord + Drop, R: Wait + Clone, A: Allocator + Copy> Drop
+    for Leases<'a, T, P, R, A> {
+    fn drop(self) {
+        let Leases {
+            receiver: _,
+            waits: _,
+        } = self;
+    }
+}
+
+impl<'a, T: Drop, P: Ord + Drop, R: Wait + Clone, A: Allocator + Copy> Iterator
+    for Leases<'a, T, P, R, A> {
+    type Item = Lease<'a, T, P, R, A>;
+
+    ghost remaining = { λ s. at_most s.waits.left };
+
+    fn next(&mut self) -> Option<Lease<'a, T, P, R, A>> {
+        let receiver = self.receiver;
+        let leased = self.waits.next_on(&receiver.handle, ReceiveHeld)?;
+        Some(Lease::of(&receiver.handle, leased))
     }
 }

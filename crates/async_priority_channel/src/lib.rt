@@ -238,7 +238,6 @@
 //! ```
 #![tactic(auto)]
 
-mod as_receiver;
 mod blocking;
 mod channel;
 mod close_on_drop;
@@ -265,8 +264,8 @@ mod weak;
 pub use channel::{Ends, bounded, bounded_reserved, unbounded};
 pub use close_on_drop::CloseOnDrop;
 pub use end::{End, Role};
-pub use iter::{IntoIter, Iter, Leases, Messages, TryIter};
-pub use lease::Lease;
+pub use iter::{IntoIter, Iter, TryIter};
+pub use lease::{Lease, Leases};
 pub use many::RecvMany;
 pub use permit::Permit;
 pub use priority_channel_core::errors::{
@@ -277,6 +276,6 @@ pub use priority_channel_waiting::seeking::Due;
 pub use priority_channel_waiting::timeouts::{RecvTimeoutError, SendTimeoutError};
 pub use receiver::{Receiver, Receiving};
 pub use sender::{Sender, Sending};
-pub use stream::{IntoStream, MessageStream, RecvStream};
+pub use stream::{IntoStream, RecvStream};
 pub use waiting::{Closed, LeaseNext, Recv, Reserve, Send, Sendv};
 pub use weak::{Weak, WeakReceiver, WeakSender};

@@ -5,7 +5,6 @@ ghost use Rattle.futures.specs.Poll.{IfReady, OnPending};
 ghost use Rattle.futures.specs.Runs.{After, Within};
 ghost use Rattle.async_priority_channel.specs.Handles.{MayYield};
 
-use crate::as_receiver::AsReceiver;
 use crate::handle::Handle;
 use crate::receiver::Receiver;
 use crate::waiting::{RecvState, Task};
@@ -75,55 +74,41 @@ impl<A: Allocator + Copy> Receives<A> {
     }
 }
 
-/// The messages of a channel as a stream, which ends for good when the channel is closed and empty:
-/// a `RecvStream` or an `IntoStream`. `H` is a receiver or a reference to one.
+/// The messages of a channel as a stream, which ends for good when the channel is closed and empty.
+/// `Receiver::stream` makes it.
 ///
 /// If memory for waiting is refused, the task asks to be polled again at once.
 ///
 /// Cost: as `try_recv` for a pending message. A wait takes memory for the task's waker, which is
 /// kept over all waits, and for an entry in the waiting list.
-#[must_use = "a stream does nothing until it is polled: `block_on`, or a loop over the receiver"]
-pub struct MessageStream<H: AsReceiver> {
-    receiver: H,
-    receives: Receives<H::Alloc>,
+#[must_use = "a stream does nothing until it is polled: `block_on`, or `for pair in &rx`"]
+pub struct RecvStream<'a, T, P: Ord, R: Wait + Clone, A: Allocator + Copy = Global> {
+    receiver: &'a Receiver<T, P, R, A>,
+    receives: Receives<A>,
 }
 
-/// The messages of a channel as a stream. `Receiver::stream` makes it.
-///
-/// Cost: as a `MessageStream`.
-pub type RecvStream<'a, T, P, R, A = Global> = MessageStream<&'a Receiver<T, P, R, A>>;
-
-/// As `RecvStream`, with its own receiver, which is dropped with it: a task can own it.
-/// `Receiver::into_stream` makes it.
-///
-/// Cost: as a `MessageStream`.
-pub type IntoStream<T, P, R, A = Global> = MessageStream<Receiver<T, P, R, A>>;
-
-impl<H: AsReceiver> Model for MessageStream<H> {
+impl<'a, T, P: Ord, R: Wait + Clone, A: Allocator + Copy> Model for RecvStream<'a, T, P, R, A> {
     ghost use Rattle.async_priority_channel.specs.Handles.{Streaming};
 
     ghost Value = { Streaming };
 
-    ghost view = { λ s. record {
-      channel = H.channel s.receiver;
-      has_ended = s.receives.has_ended;
-    } };
+    ghost view = { λ s. record { channel = s.receiver.now; has_ended = s.receives.has_ended } };
 }
 
-impl<H: AsReceiver + Drop> Stream for MessageStream<H> {
-    type Item = (H::Msg, H::Priority);
+impl<T, P: Ord, R: Wait + Clone, A: Allocator + Copy> Stream for RecvStream<'_, T, P, R, A> {
+    type Item = (T, P);
 
     ghost needs = { λ s source. source ≡ s.channel.message };
 
     ghost yields = { MayYield };
 
-    fn poll_next(&mut self, cx: &mut Context<'_>) -> Poll<Option<(H::Msg, H::Priority)>>
+    fn poll_next(&mut self, cx: &mut Context<'_>) -> Poll<Option<(T, P)>>
         ensures value { IfReady result (MayYield self.old []) }
         ensures rest { IfReady result (λ next. IfSome next
             (λ pair. After (MayYield self.old) pair (MayYield self.new))) }
         ensures goes { IfReady result (λ next. OnSome next ⊤) }
         ensures again { OnPending result ⊤ }
-        ensures same { OnPending result (Within (MayYield {X = H.Msg × H.Priority} self.old)
+        ensures same { OnPending result (Within (MayYield {X = T × P} self.old)
             (MayYield self.new)) }
         ensures registered { OnPending result (Covers cx.new (λ source.
             source ≡ self.new.channel.message)) }
@@ -134,16 +119,69 @@ impl<H: AsReceiver + Drop> Stream for MessageStream<H> {
         ensures waits { OnPending result (self.new ≡ self.old) }
         ensures stays_ended { self.old.has_ended ≡ true → result ≡ Poll.Ready None }
     {
-        let receiver = self.receiver.as_receiver();
+        let receiver = self.receiver;
         self.receives.poll_next_on(&receiver.handle, cx)
     }
 }
 
-impl<H: AsReceiver + Drop> Drop for MessageStream<H> {
+impl<T, P: Ord, R: Wait + Clone, A: Allocator + Copy> Drop for RecvStream<'_, T, P, R, A> {
     fn drop(self) {
-        let MessageStream { receiver, receives } = self;
-        let borrowed = receiver.as_receiver();
-        receives.end(&borrowed.handle);
+        let RecvStream { receiver, receives } = self;
+        receives.end(&receiver.handle);
+    }
+}
+
+/// As `RecvStream`, with its own receiver, which is dropped with it: a task can own it.
+/// `Receiver::into_stream` makes it.
+///
+/// Cost: as a `RecvStream`.
+#[must_use = "a stream does nothing until it is polled: `block_on`, or `for pair in rx`"]
+pub struct IntoStream<T, P: Ord, R: Wait + Clone, A: Allocator + Copy = Global> {
+    receiver: Receiver<T, P, R, A>,
+    receives: Receives<A>,
+}
+
+impl<T, P: Ord, R: Wait + Clone, A: Allocator + Copy> Model for IntoStream<T, P, R, A> {
+    ghost use Rattle.async_priority_channel.specs.Handles.{Streaming};
+
+    ghost Value = { Streaming };
+
+    ghost view = { λ s. record { channel = s.receiver; has_ended = s.receives.has_ended } };
+}
+
+impl<T: Drop, P: Ord + Drop, R: Wait + Clone, A: Allocator + Copy> Stream
+    for IntoStream<T, P, R, A> {
+    type Item = (T, P);
+
+    ghost needs = { λ s source. source ≡ s.channel.message };
+
+    ghost yields = { MayYield };
+
+    fn poll_next(&mut self, cx: &mut Context<'_>) -> Poll<Option<(T, P)>>
+        ensures value { IfReady result (MayYield self.old []) }
+        ensures rest { IfReady result (λ next. IfSome next
+            (λ pair. After (MayYield self.old) pair (MayYield self.new))) }
+        ensures goes { IfReady result (λ next. OnSome next ⊤) }
+        ensures again { OnPending result ⊤ }
+        ensures same { OnPending result (Within (MayYield {X = T × P} self.old)
+            (MayYield self.new)) }
+        ensures registered { OnPending result (Covers cx.new (λ source.
+            source ≡ self.new.channel.message)) }
+        ensures kept { Keeps cx.old cx.new }
+        ensures channel { self.new.channel ≡ self.old.channel }
+        ensures ended { IfReady result (λ next. next ≡ None → self.new.has_ended ≡ true) }
+        ensures goes_on { IfReady result (λ next. OnSome next (self.new ≡ self.old)) }
+        ensures waits { OnPending result (self.new ≡ self.old) }
+        ensures stays_ended { self.old.has_ended ≡ true → result ≡ Poll.Ready None }
+    {
+        self.receives.poll_next_on(&self.receiver.handle, cx)
+    }
+}
+
+impl<T: Drop, P: Ord + Drop, R: Wait + Clone, A: Allocator + Copy> Drop for IntoStream<T, P, R, A> {
+    fn drop(self) {
+        let IntoStream { receiver, receives } = self;
+        receives.end(&receiver.handle);
         drop(receiver);
     }
 }
@@ -165,7 +203,7 @@ impl<T, P: Ord, R: Wait + Clone, A: Allocator + Copy> Receiver<T, P, R, A> {
     pub fn stream(&self) -> RecvStream<'_, T, P, R, A>
         ensures { result ≡ record { channel = self.now; has_ended = false } }
     {
-        MessageStream {
+        RecvStream {
             receiver: self,
             receives: Receives::new(),
         }
@@ -187,7 +225,7 @@ impl<T, P: Ord, R: Wait + Clone, A: Allocator + Copy> Receiver<T, P, R, A> {
     pub fn into_stream(self) -> IntoStream<T, P, R, A>
         ensures { result ≡ record { channel = self; has_ended = false } }
     {
-        MessageStream {
+        IntoStream {
             receiver: self,
             receives: Receives::new(),
         }

@@ -9,7 +9,6 @@ mod conditions;
 mod either;
 mod gone;
 mod halts;
-mod leased;
 mod limits;
 mod places;
 mod pools;

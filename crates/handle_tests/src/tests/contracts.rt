@@ -103,17 +103,6 @@ fn lease_in_a_task<'a, R: Wait + Clone + RandomSource + AllocGlobal, A: Allocato
     }
 }
 
-// The second lease of a loop is of the channel of its receiver, as the first.
-fn second_lease<'a, R: Wait + Clone, A: Allocator + Copy>(
-    rx: &'a Receiver<u64, u64, R, A>,
-) -> Option<Lease<'a, u64, u64, R, A>>
-    ensures { IfSome result (λ lease. lease.channel ≡ rx.now) }
-{
-    let mut leases = rx.leases();
-    leases.next()?.finish();
-    leases.next()
-}
-
 #[test]
 fn a_caller_knows_of_which_channel_a_held_place_is(rt: HostRuntime) {
     let (tx, rx) = unbounded(&rt, rt.alloc()).expect(&rt, "a channel");
@@ -121,9 +110,4 @@ fn a_caller_knows_of_which_channel_a_held_place_is(rt: HostRuntime) {
     permit.send(7, 1);
     let lease = lease_in_a_task(&rt, &rx).expect(&rt, "a lease");
     assert_eq!(rt; lease.finish(), (7, 1));
-    for msg in 8..10u64 {
-        tx.try_send(msg, 1).expect(&rt, "room");
-    }
-    let second = second_lease(&rx).expect(&rt, "a second lease");
-    assert_eq!(rt; second.finish(), (9, 1));
 }

@@ -44,12 +44,14 @@ type Named<R> = (&'static str, Ends<char, u64, R>);
 
 // A channel of each kind, with room for three.
 fn open_each<R: Host>(rt: &R) -> [Named<R>; 3] {
+    let bounded = bounded(rt, rt.alloc(), 3).expect(rt, "a channel");
+    let reserved = bounded_reserved(rt, rt.alloc(), 3).expect(rt, "a channel");
+    let unbounded = unbounded(rt, rt.alloc()).expect(rt, "a channel");
     [
-        ("bounded", bounded(rt, rt.alloc(), 3)),
-        ("reserved", bounded_reserved(rt, rt.alloc(), 3)),
-        ("unbounded", unbounded(rt, rt.alloc())),
+        ("bounded", bounded),
+        ("reserved", reserved),
+        ("unbounded", unbounded),
     ]
-    .map(|(kind, made)| (kind, made.expect(rt, "a channel")))
 }
 
 type Looks = (bool, usize, usize, u64);
