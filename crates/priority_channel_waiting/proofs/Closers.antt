@@ -1,4 +1,4 @@
--- Each ticket in the list of those who wait for the close is below the next one.
+-- Each ticket in a list of those who wait beside the core is below the next one.
 use Rattle.std.proofs.lemmas.Bool.Decides.{nat_tests}
 use Rattle.std.proofs.Common.{◌≡◌, ℕ, ◌+◌, ◌<◌, not, List, subst, arith, ◌==◌, if◌then◌else◌, Option, Some, None, All}
 use Rattle.std.proofs.lemmas.List.Elements.{All-filter, All-map, All-push, All-weaker}
