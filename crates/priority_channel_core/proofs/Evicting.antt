@@ -39,6 +39,11 @@ good_frees {T} {P} {W} old new handed frees pair taken good tickets =
     subst (λ (s : State T P W). IsGood s) (sym frees.1)
     (good_settled old new.pending long good (subst (λ (s : State T P W). HasOwnTickets s.waiters) frees.1 tickets))
 
+pub good_lends : {T P W : Type 0} (old new : State T P W) (pair : T × P) → TakesOne old.pending pair new.pending → IsGood old → old.accepted + old.held + 1 < 2 ^ 64
+    → new ≡ record old { pending = new.pending; held = old.held + 1 } → HasOwnTickets new.waiters → IsGood new
+good_lends old new pair taken good fits is tickets =
+    let long : length old.pending ≡ length new.pending + 1 = grind (arith, length-append) in grind arith
+
 -- one pair was taken out of the bag, and the word has fallen
 module _ {T P W : Type 0} (bag bag' : Contents T P) (word word' : Word W) (handed : Handed W) (capacity : ℕ) (is_reserved : Bool) (senders receivers : ℕ) where
   abbrev Old : State T P W

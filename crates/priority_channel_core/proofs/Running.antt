@@ -5,7 +5,8 @@ use Rattle.std.specs.List.{AllZip}
 use Rattle.std.proofs.lemmas.List.{map-append}
 use Rattle.priority_channel_core.specs.bag.Prelude.{Changes, PassesFirst}
 use Rattle.priority_channel_core.specs.Prelude.{Call, Answer, State, Handed, Step, Calls, Answers, Operation, Run, Response, AtSomePlace, SameButPlace, SameCall, SameOperation, Makes, Performs, RunsFront, MeetsTest, AllMeetTests, SameAnswer, Ordering}
-use Rattle.priority_channel_core.specs.declared.calls.Call.TheVariants.{TakeWhere, ChangePriority}
+use Rattle.priority_channel_core.specs.declared.calls.Call.TheVariants.{TakeWhere, ChangePriority, LeaseWhere}
+use Rattle.priority_channel_core.specs.declared.errors.TryRecvManyError.{TryRecvManyError}
 use Rattle.priority_channel_core.specs.declared.calls.Answer.TheVariants as answer
 
 pub zip_push : {A B : Type 0} (R : A → B → Type 0) (xs : List A) (ys : List B) (x : A) (y : B) → AllZip R xs ys → R x y → AllZip R (xs ++ x ∷ []) (ys ++ y ∷ [])
@@ -21,11 +22,13 @@ module _ {T P W : Type 0} where
   place_same : (made : Calls T P W) → SameButPlace made made
   place_same (TakeWhere place) = (place, refl)
   place_same (ChangePriority place priority) = (place, refl)
+  place_same (LeaseWhere place) = (place, refl)
   place_same made = refl
 
   place_again : (one two three : Calls T P W) → SameButPlace one two → SameButPlace two three → SameButPlace one three
   place_again (TakeWhere place) two three (other, is) then = rw (← is) at then
   place_again (ChangePriority place priority) two three (other, is) then = rw (← is) at then
+  place_again (LeaseWhere place) two three (other, is) then = rw (← is) at then
   place_again one two three is then = rw (← is) at then
 
   places_same : (calls : List (Calls T P W)) → AllZip SameButPlace calls calls
@@ -45,12 +48,14 @@ found : {T P W M F : Type 0} (holds : M → List (T × P) → Type 0) (so : Call
     → SameCall holds made meant → AtSomePlace made meant so → (other : Calls T P W) × SameButPlace meant other × so other
 found holds so (TakeWhere test) meant (given, is, any) (place, at) = (TakeWhere place, rw is (place, refl), at)
 found holds so (ChangePriority test priority) meant (given, is, any) (place, at) = (ChangePriority place priority, rw is (place, refl), at)
+found holds so (LeaseWhere test) meant (given, is, any) (place, at) = (LeaseWhere place, rw is (place, refl), at)
 found holds so made meant same at = (meant, place_same meant, at)
 
 at_meant : {T P W M F : Type 0} (holds : M → List (T × P) → Type 0) (so : Calls T P W → Type 0) (made : Call T P W M F) (meant : Calls T P W)
     → SameCall holds made meant → so meant → AtSomePlace made meant so
 at_meant holds so (TakeWhere test) meant (place, is, any) at = (place, rw is at at)
 at_meant holds so (ChangePriority test priority) meant (place, is, any) at = (place, rw is at at)
+at_meant holds so (LeaseWhere test) meant (place, is, any) at = (place, rw is at at)
 at_meant holds so made meant same at = at
 
 module _ {T P W M F : Type 0} (holds : M → List (T × P) → Type 0) (cmp : P → P → Ordering) (is_clone : W → W → Type 0)
@@ -76,6 +81,7 @@ module _ {T P W M F : Type 0} (holds : M → List (T × P) → Type 0) (cmp : P 
           → Step cmp is_clone old meant told handed new
       performed (TakeWhere none) meant told at = absurd none
       performed (ChangePriority none priority) meant told at = absurd none
+      performed (LeaseWhere none) meant told at = absurd none
       performed call meant told at = at
 
 -- of a call that means only one
@@ -123,6 +129,11 @@ module _ {T P W M F : Type 0} (passes fails : F → T × P → Type 0) (old new 
       → MeetsTest passes fails old made reply new
   taking_meets taken is told met none = grind arith
 
+  pub leasing_meets : (leased : Result (Option (T × P)) TryRecvManyError) → made ≡ LeaseWhere test → reply ≡ answer.LeaseWhere leased
+      → IfOk leased (λ taken. IfSome taken (passes test)) → IfOk leased (λ taken. IfNone taken (All (fails test) old))
+      → MeetsTest passes fails old made reply new
+  leasing_meets leased is told met none = grind arith
+
   pub change_meets : (priority : P) (changed : Result P P) → made ≡ ChangePriority test priority → reply ≡ answer.ChangePriority changed
       → IfOk changed (λ was. (change : Changes old was priority new) × PassesFirst (passes test) (fails test) change) → OnErr changed (All (fails test) old)
       → MeetsTest passes fails old made reply new
@@ -133,12 +144,16 @@ module _ {T P W M F : Type 0} (passes fails : F → T × P → Type 0) (old new 
         let by : other ≡ test = cc in let to : given ≡ priority = cc in let from : was ≡ before = cc in
         rw (by, to, from) met;
     none_changed = λ other given back e r. absurd (cc);
+    leased = λ other pair e r. absurd (cc);
+    none_leased = λ other e r. absurd (cc);
   }
   change_meets priority (Err back) is told met none = record {
     taken = λ other pair e r. absurd (cc);
     none_taken = λ other e r. absurd (cc);
     changed = λ other given was e r. absurd (cc);
     none_changed = λ other given again e r. let by : other ≡ test = cc in rw by none;
+    leased = λ other pair e r. absurd (cc);
+    none_leased = λ other e r. absurd (cc);
   }
 
 module _ {T P W M F : Type 0} (passes fails : F → T × P → Type 0) (holds : M → List (T × P) → Type 0) (cmp : P → P → Ordering) (is_clone : W → W → Type 0) where

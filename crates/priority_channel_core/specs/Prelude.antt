@@ -18,7 +18,7 @@ pub use Rattle.priority_channel_core.specs.declared.channel.bulk.Stop.{Stop}
 pub use Rattle.priority_channel_core.specs.machine.Evicts.{Evicts, MakesRoom}
 pub use Rattle.priority_channel_core.specs.machine.Good.{IsGood}
 pub use Rattle.priority_channel_core.specs.machine.OtherCalls.{capacity_told, ChangesPriority, Clones, Closes, Drops, EndsWhenDone, Frees, Looks, Receives, Shuts, Takes}
-pub use Rattle.priority_channel_core.specs.machine.Places.{FreesPlace, is_last, Leases, Puts, Reserves}
+pub use Rattle.priority_channel_core.specs.machine.Places.{FreesPlace, is_last, Leases, LeasesAt, Puts, Reserves}
 pub use Rattle.priority_channel_core.specs.machine.Polls.{Ends, Polls, recv_answer, send_answer}
 pub use Rattle.priority_channel_core.specs.machine.Run.{Operation, Run}
 pub use Rattle.priority_channel_core.specs.machine.Sends.{Accepts, AddsFront, as_list, Refuses, Sends}

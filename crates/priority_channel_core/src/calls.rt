@@ -34,6 +34,8 @@ pub enum Call<T, P, W, M, F = fn(&T, &P) -> bool> {
     CloseWhenDone,
     TryReserve,
     TryLease,
+    /// In the definitions it carries a place, as a taking.
+    LeaseWhere(F),
     Put(T, P),
     Free,
     Held,
@@ -67,6 +69,7 @@ pub enum Answer<T, P, M> {
     CloseWhenDone,
     TryReserve(Result<(), TrySendError<()>>),
     TryLease(Result<(T, P), TryRecvManyError>),
+    LeaseWhere(Result<Option<(T, P)>, TryRecvManyError>),
     Put(Result<(), (T, P)>),
     Free(bool),
     Held(u64),

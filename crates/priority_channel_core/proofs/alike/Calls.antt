@@ -1,9 +1,11 @@
 -- Two calls from states that are the same, where neither call waits, with as many pairs accepted.
 use Rattle.std.proofs.Common.{◌≡◌, ℕ, Bool, true, false, List, [], ◌∷◌, ◌++◌, ◌+◌, ◌-◌, length, refl, sym, ap, ◌∙◌, zero, suc, arith, length-append, length-take, Option, Some, None, Result, Ok, Err, ◌==◌, if◌then◌else◌}
 use Rattle.std.specs.Cmp.{IsTotalOrder}
-use Rattle.priority_channel_core.specs.Prelude.{State, Handed, nobody, room, Refuses, Accepts, Sends, Frees, Receives, Takes, ChangesPriority, Shuts, Closes, Looks, Clones, Drops, EndsWhenDone, settled, Reserves, Leases, Puts, FreesPlace, is_last, Ordering, SendReply, RecvReply, LeaseReply}
+use Rattle.priority_channel_core.specs.bag.Prelude.{TakesOne}
+use Rattle.priority_channel_core.specs.Prelude.{State, Handed, nobody, room, Refuses, Accepts, Sends, Frees, Receives, Takes, ChangesPriority, Shuts, Closes, Looks, Clones, Drops, EndsWhenDone, settled, Reserves, Leases, LeasesAt, Puts, FreesPlace, is_last, Ordering, SendReply, RecvReply, LeaseReply}
 use Rattle.priority_channel_core.specs.declared.errors.TrySendError.TheVariants as send_error
 use Rattle.priority_channel_core.specs.declared.errors.TryRecvError.TheVariants as recv_error
+use Rattle.priority_channel_core.specs.declared.errors.TryRecvManyError.{TryRecvManyError}
 use Rattle.priority_channel_core.specs.declared.errors.TryRecvManyError.TheVariants as many_error
 use Rattle.priority_channel_core.specs.declared.calls.Answer.TheVariants as answer
 use Rattle.priority_channel_core.specs.laws.Accepted.{all_but, sent}
@@ -124,18 +126,21 @@ module _ {T P W : Type 0} (is_clone : W → W → Type 0) where
               ∙ ap (λ (l : List (T × P)). record (settled (record s { pending = l; waiters = record s.waiters { room = [] } })) { waiters = record r.waiters { room = [] } }) (sym left);
         }
 
-    pub takes_same : (place : ℕ) (x y : Option (T × P)) → Takes s place x h k → Takes r place y h' k' → (y ≡ x) × Both h h' k k'
-    takes_same place (Some p) (Some q) a b =
-        let t = a.0 in let u = b.0 in
-        let one = split_same t.before (p ∷ t.after) u.before (q ∷ u.after) (sym t.split ∙ sym (same_pending is_clone same) ∙ u.split) (b.1 ∙ sym a.1) in
-        let left : k.pending ≡ k'.pending = t.closed_up ∙ (λ i. sym one.0 i ++ tail_same p q t.after u.after one.1 i) ∙ sym u.closed_up in
-        (head_same p q t.after u.after one.1, frees_same left a.2 b.2)
+    -- what goes out at one place, and what is left
+    taken_same : (place : ℕ) (p q : T × P) (t : TakesOne s.pending p k.pending) (u : TakesOne r.pending q k'.pending) → length t.before ≡ place → length u.before ≡ place
+        → (Some q ≡ Some p) × (k.pending ≡ k'.pending)
+    taken_same place p q t u at there =
+        let one = split_same t.before (p ∷ t.after) u.before (q ∷ u.after) (sym t.split ∙ sym (same_pending is_clone same) ∙ u.split) (there ∙ sym at) in
+        (head_same p q t.after u.after one.1, t.closed_up ∙ (λ i. sym one.0 i ++ tail_same p q t.after u.after one.1 i) ∙ sym u.closed_up)
       where
         head_same : (p q : T × P) (xs ys : List (T × P)) → q ∷ ys ≡ p ∷ xs → Some q ≡ Some p
         head_same p q xs ys e = cc
 
         tail_same : (p q : T × P) (xs ys : List (T × P)) → q ∷ ys ≡ p ∷ xs → xs ≡ ys
         tail_same p q xs ys e = cc
+
+    pub takes_same : (place : ℕ) (x y : Option (T × P)) → Takes s place x h k → Takes r place y h' k' → (y ≡ x) × Both h h' k k'
+    takes_same place (Some p) (Some q) a b = let out = taken_same place p q a.0 b.0 a.1 b.1 in (out.0, frees_same out.1 a.2 b.2)
     takes_same place None None a b = (refl, refuses_same a.1 b.1)
     takes_same place x y a b = let pending = ap length (same_pending is_clone same) in absurd (grind (arith, length-append {A = T × P}))
 
@@ -227,6 +232,18 @@ module _ {T P W : Type 0} (is_clone : W → W → Type 0) where
     frees_place_same false false a b = (refl, refuses_same a.1 b.1)
     frees_place_same x y a b = let held = same_held is_clone same in absurd (grind arith)
 
+    -- the same is left, and one place more is held
+    lends_same : k.pending ≡ k'.pending → h ≡ nobody → k ≡ record s { pending = k.pending; held = s.held + 1 } → h' ≡ nobody → k' ≡ record r { pending = k'.pending; held = r.held + 1 }
+        → Both h h' k k'
+    lends_same left none is none' is' = record { handed = nobody_same is_clone h h' none none'; state = rw (is, is') holding }
+      where
+        holding : SameState is_clone (record s { pending = k.pending; held = s.held + 1 }) (record r { pending = k'.pending; held = r.held + 1 })
+        holding = record {
+          waiters = same.waiters;
+          others = ap (λ (x : State T P W). record x { pending = k'.pending; held = x.held + 1; waiters = r.waiters }) same.others
+              ∙ ap (λ (l : List (T × P)). record s { pending = l; held = s.held + 1; waiters = r.waiters }) (sym left);
+        }
+
     module _ {cmp : P → P → Ordering} (o : IsTotalOrder cmp) where
       pub receives_same : (x y : RecvReply (T × P)) → Receives cmp s x h k → Receives cmp r y h' k' → (y ≡ x) × Both h h' k k'
       receives_same (Ok p) (Ok q) a b =
@@ -241,23 +258,23 @@ module _ {T P W : Type 0} (is_clone : W → W → Type 0) where
       pub leases_same : (x y : LeaseReply (T × P)) → Leases cmp s x h k → Leases cmp r y h' k' → is_memory {T = T} {P = P} (answer.TryLease y) ≡ is_memory {T = T} {P = P} (answer.TryLease x)
           → (y ≡ x) × Both h h' k k'
       leases_same (Ok p) (Ok q) a b memory =
-          let one = one_greatest o s.pending p q k.pending k'.pending a.0 (rw (same_pending is_clone same) at b.0) in (
-            ap (λ (z : T × P). Ok z) (sym one.0),
-            record {
-              handed = nobody_same is_clone h h' a.1 b.1;
-              state = rw (a.2, b.2) (same_left_holding one.1);
-            },
-          )
-        where
-          same_left_holding : k.pending ≡ k'.pending → SameState is_clone (record s { pending = k.pending; held = s.held + 1 }) (record r { pending = k'.pending; held = r.held + 1 })
-          same_left_holding left = record {
-            waiters = same.waiters;
-            others = ap (λ (x : State T P W). record x { pending = k'.pending; held = x.held + 1; waiters = r.waiters }) same.others
-                ∙ ap (λ (l : List (T × P)). record s { pending = l; held = s.held + 1; waiters = r.waiters }) (sym left);
-          }
+          let one = one_greatest o s.pending p q k.pending k'.pending a.0 (rw (same_pending is_clone same) at b.0) in
+          (ap (λ (z : T × P). Ok z) (sym one.0), lends_same one.1 a.1 a.2 b.1 b.2)
       leases_same (Err many_error.Closed) (Err many_error.Closed) a b memory = (refl, refuses_same a.2 b.2)
       leases_same (Err many_error.Empty) (Err many_error.Empty) a b memory = (refl, refuses_same a.2 b.2)
       leases_same (Err many_error.Memory) (Err many_error.Memory) a b memory = (refl, refuses_same a.2 b.2)
       leases_same x y a b memory =
+          let closed = same_closed is_clone same in let held = same_held is_clone same in let pending = ap length (same_pending is_clone same) in
+          absurd (grind (arith, length-append {A = T × P}))
+
+      pub leases_at_same : (place : ℕ) (x y : Result (Option (T × P)) TryRecvManyError) → LeasesAt cmp s place x h k → LeasesAt cmp r place y h' k'
+          → is_memory {T = T} {P = P} (answer.LeaseWhere y) ≡ is_memory {T = T} {P = P} (answer.LeaseWhere x) → (y ≡ x) × Both h h' k k'
+      leases_at_same place (Ok (Some p)) (Ok (Some q)) a b memory =
+          let out = taken_same place p q a.0 b.0 a.1 b.1 in (ap (λ (z : Option (T × P)). Ok z) out.0, lends_same out.1 a.2 a.3 b.2 b.3)
+      leases_at_same place (Ok None) (Ok None) a b memory = (refl, refuses_same a.2 b.2)
+      leases_at_same place (Err many_error.Closed) (Err many_error.Closed) a b memory = (refl, refuses_same a.2 b.2)
+      leases_at_same place (Err many_error.Empty) (Err many_error.Empty) a b memory = (refl, refuses_same a.2 b.2)
+      leases_at_same place (Err many_error.Memory) (Err many_error.Memory) a b memory = (refl, refuses_same a.2 b.2)
+      leases_at_same place x y a b memory =
           let closed = same_closed is_clone same in let held = same_held is_clone same in let pending = ap length (same_pending is_clone same) in
           absurd (grind (arith, length-append {A = T × P}))

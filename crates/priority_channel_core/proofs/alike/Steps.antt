@@ -9,7 +9,7 @@ use Rattle.priority_channel_core.specs.Prelude.{State, Handed, as_list, capacity
 use Rattle.priority_channel_core.specs.laws.Accepted.{accepted_by}
 use Rattle.priority_channel_core.specs.laws.Alike.{is_memory, SameState, SameOutcome, IsAlike}
 use Rattle.priority_channel_core.proofs.alike.Lists.{same_unlisted, nobody_same, same_pending, same_held, same_closed, same_capacity, same_senders, same_receivers}
-use Rattle.priority_channel_core.proofs.alike.Calls.{Both, sends_same, takes_same, changes_same, receives_same, closes_same, looks_same, clones_same, drops_same, ends_same, reserves_same, leases_same, puts_same, frees_place_same}
+use Rattle.priority_channel_core.proofs.alike.Calls.{Both, sends_same, takes_same, changes_same, receives_same, closes_same, looks_same, clones_same, drops_same, ends_same, reserves_same, leases_same, leases_at_same, puts_same, frees_place_same}
 use Rattle.priority_channel_core.proofs.alike.Evicting.{evicts_same}
 use Rattle.priority_channel_core.proofs.alike.Polls.{as_list_one, polls_send_same, polls_sendv_same, polls_receive_same}
 
@@ -80,6 +80,8 @@ module _ {T P W : Type 0} (is_clone : W → W → Type 0) {cmp : P → P → Ord
         told answer.TryReserve (reserves_same is_clone s r k k' h h' same x y a b memory)
     step_same call.TryLease (answer.TryLease x) (answer.TryLease y) a b count memory =
         told answer.TryLease (leases_same is_clone s r k k' h h' same o x y a b memory)
+    step_same (call.LeaseWhere place) (answer.LeaseWhere x) (answer.LeaseWhere y) a b count memory =
+        told answer.LeaseWhere (leases_at_same is_clone s r k k' h h' same o place x y a b memory)
     step_same (call.Put m p) (answer.Put x) (answer.Put y) a b count memory =
         told answer.Put (puts_same is_clone s r k k' h h' same (m, p) x y a b)
     step_same call.Free (answer.Free x) (answer.Free y) a b count memory =

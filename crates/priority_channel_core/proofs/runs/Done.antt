@@ -6,8 +6,9 @@ use Rattle.priority_channel_core.specs.declared.calls.Answer.TheVariants as answ
 use Rattle.priority_channel_core.specs.declared.errors.TrySendError.{TrySendError}
 use Rattle.priority_channel_core.specs.declared.errors.TrySendError.TheVariants as send_error
 use Rattle.priority_channel_core.specs.declared.errors.TryRecvError.TheVariants as recv_error
+use Rattle.priority_channel_core.specs.declared.errors.TryRecvManyError.{TryRecvManyError}
 use Rattle.priority_channel_core.specs.declared.errors.TryRecvManyError.TheVariants as many_error
-use Rattle.priority_channel_core.specs.Prelude.{State, Handed, IsGood, as_list, Sends, Evicts, Receives, Takes, ChangesPriority, EndsWhenDone, is_done, settled, Clones, Drops, Reserves, Leases, Puts, FreesPlace, Moves, Step, Calls, Answers, Operation, Run, Ordering, SendReply, RecvReply, LeaseReply}
+use Rattle.priority_channel_core.specs.Prelude.{State, Handed, IsGood, as_list, Sends, Evicts, Receives, Takes, ChangesPriority, EndsWhenDone, is_done, settled, Clones, Drops, Reserves, Leases, LeasesAt, Puts, FreesPlace, Moves, Step, Calls, Answers, Operation, Run, Ordering, SendReply, RecvReply, LeaseReply}
 use Rattle.priority_channel_core.specs.laws.Done.{Closes}
 
 both : (c e d : Bool) → c ≡ false → (c || (e && d)) ≡ true → (e ≡ true) × (d ≡ true)
@@ -91,6 +92,11 @@ module _ {T P W : Type 0} {by : Type 0} (old new : State T P W) where
     leases cmp (Err many_error.Empty) h = same old h.2.1 refl refl
     leases cmp (Err many_error.Memory) h = same old h.2.1 refl refl
 
+    leases_at : (cmp : P → P → Ordering) (place : ℕ) (reply : Result (Option (T × P)) TryRecvManyError) → LeasesAt cmp old place reply handed new → Shows by old new
+    leases_at cmp place (Ok (Some pair)) h = same _ h.3 refl refl
+    leases_at cmp place (Ok None) h = same old h.2.1 refl refl
+    leases_at cmp place (Err error) h = leases cmp (Err error) h
+
     puts : (pair : T × P) (reply : Result (Unit {0}) (T × P)) → Puts old pair reply handed new → Shows by old new
     puts pair (Ok done) h = same _ h.2 refl refl
     puts pair (Err back) h = same old h.2.1 refl refl
@@ -135,6 +141,7 @@ module _ {T P W : Type 0} (cmp : P → P → Ordering) (is_clone : W → W → T
   shows old new handed call.CloseWhenDone answer.CloseWhenDone h = ends_when old new handed (is_done old) refl h
   shows old new handed call.TryReserve (answer.TryReserve reply) h = reserves old new handed reply h
   shows old new handed call.TryLease (answer.TryLease reply) h = leases old new handed cmp reply h
+  shows old new handed (call.LeaseWhere place) (answer.LeaseWhere reply) h = leases_at old new handed cmp place reply h
   shows old new handed (call.Put msg priority) (answer.Put reply) h = puts old new handed (msg, priority) reply h
   shows old new handed call.Free (answer.Free done) h = frees old new handed done h
   shows old new handed call.Held (answer.Held told) h = same old new old h.1.1 refl refl

@@ -8,9 +8,10 @@ use Rattle.priority_channel_core.specs.declared.calls.Call.TheVariants as call
 use Rattle.priority_channel_core.specs.declared.calls.Answer.TheVariants as answer
 use Rattle.priority_channel_core.specs.declared.errors.TrySendError.{TrySendError}
 use Rattle.priority_channel_core.specs.declared.side.Side.{Side}
-use Rattle.priority_channel_core.specs.Prelude.{State, Handed, nobody, as_list, Refuses, Accepts, Sends, MakesRoom, Evicts, Receives, Takes, ChangesPriority, Shuts, EndsWhenDone, is_done, Clones, Drops, Reserves, Leases, Puts, FreesPlace, LeaseReply, send_answer, recv_answer, Polls, Moves, Calls, Answers, Ordering, SendReply, RecvReply, SendPoll, RecvPoll}
+use Rattle.priority_channel_core.specs.Prelude.{State, Handed, nobody, as_list, Refuses, Accepts, Sends, MakesRoom, Evicts, Receives, Takes, ChangesPriority, Shuts, EndsWhenDone, is_done, Clones, Drops, Reserves, Leases, LeasesAt, Puts, FreesPlace, LeaseReply, send_answer, recv_answer, Polls, Moves, Calls, Answers, Ordering, SendReply, RecvReply, SendPoll, RecvPoll}
 use Rattle.priority_channel_core.specs.declared.errors.TrySendError.TheVariants as send_error
 use Rattle.priority_channel_core.specs.declared.errors.TryRecvError.TheVariants as recv_error
+use Rattle.priority_channel_core.specs.declared.errors.TryRecvManyError.{TryRecvManyError}
 use Rattle.priority_channel_core.specs.declared.errors.TryRecvManyError.TheVariants as many_error
 use Rattle.priority_channel_core.specs.bag.Prelude.{TakesGreatest}
 use Rattle.priority_channel_core.proofs.Closing.{or_left}
@@ -173,6 +174,18 @@ module _ {T P W : Type 0} (cmp : P → P → Ordering) where
     leases (Err many_error.Empty) h = refuses h.2
     leases (Err many_error.Memory) h = refuses h.2
 
+    leases_at : (place : ℕ) (reply : Result (Option (T × P)) TryRecvManyError) → LeasesAt cmp old place reply handed new → Does [] [] [] (taken_by (answer.LeaseWhere reply)) []
+    leases_at place (Ok (Some pair)) h =
+        let taken = h.0 in (
+          hands_nobody old new handed (record old { pending = new.pending; held = old.held + 1 }) h.2 h.3 refl,
+          unchanged (rw (append-nil old.pending, taken.split, taken.closed_up) (IsPermutation-middle taken.before pair taken.after))
+              (λ k. (ap (λ (r : State T P W). r.is_closed) h.3 ∙ k, refl)) (inl refl),
+        )
+    leases_at place (Ok None) h = refuses h.2
+    leases_at place (Err many_error.Closed) h = refuses h.2
+    leases_at place (Err many_error.Empty) h = refuses h.2
+    leases_at place (Err many_error.Memory) h = refuses h.2
+
     puts : (pair : T × P) (reply : Result (Unit {0}) (T × P)) → Puts old pair reply handed new
         → Hands old new handed × Effect old (put_one pair reply) (put_one pair reply) [] [] [] [] new
     puts pair (Ok done) h = (
@@ -271,6 +284,7 @@ module _ {T P W : Type 0} (cmp : P → P → Ordering) where
     does call.CloseWhenDone answer.CloseWhenDone h = directly (ends_when old new handed (is_done old) h)
     does call.TryReserve (answer.TryReserve reply) h = directly (reserves old new handed reply h)
     does call.TryLease (answer.TryLease reply) h = directly (leases old new handed reply h)
+    does (call.LeaseWhere place) (answer.LeaseWhere reply) h = directly (leases_at old new handed place reply h)
     does (call.Put msg priority) (answer.Put (Ok done)) h = directly (puts old new handed (msg, priority) (Ok done) h)
     does (call.Put msg priority) (answer.Put (Err back)) h = directly (puts old new handed (msg, priority) (Err back) h)
     does call.Free (answer.Free done) h = directly (frees_place old new handed done h)

@@ -6,8 +6,9 @@ use Rattle.priority_channel_core.specs.declared.calls.Answer.TheVariants as answ
 use Rattle.priority_channel_core.specs.declared.errors.TrySendError.{TrySendError}
 use Rattle.priority_channel_core.specs.declared.errors.TrySendError.TheVariants as send_error
 use Rattle.priority_channel_core.specs.declared.errors.TryRecvError.TheVariants as recv_error
+use Rattle.priority_channel_core.specs.declared.errors.TryRecvManyError.{TryRecvManyError}
 use Rattle.priority_channel_core.specs.declared.errors.TryRecvManyError.TheVariants as many_error
-use Rattle.priority_channel_core.specs.Prelude.{State, Handed, as_list, Sends, Evicts, Receives, Takes, ChangesPriority, EndsWhenDone, is_done, Clones, Drops, Reserves, Leases, Puts, FreesPlace, Moves, Calls, Answers, Operation, Run, Ordering, SendReply, RecvReply, LeaseReply}
+use Rattle.priority_channel_core.specs.Prelude.{State, Handed, as_list, Sends, Evicts, Receives, Takes, ChangesPriority, EndsWhenDone, is_done, Clones, Drops, Reserves, Leases, LeasesAt, Puts, FreesPlace, Moves, Calls, Answers, Operation, Run, Ordering, SendReply, RecvReply, LeaseReply}
 use Rattle.priority_channel_core.specs.laws.Places.{got_by, given_by, got_in, given_in}
 
 module _ {T P W : Type 0} (old new : State T P W) (handed : Handed W) where
@@ -73,6 +74,13 @@ module _ {T P W : Type 0} (old new : State T P W) (handed : Handed W) where
   leases cmp (Err many_error.Empty) h = kept (after old h.2.1 refl)
   leases cmp (Err many_error.Memory) h = kept (after old h.2.1 refl)
 
+  leases_at : (cmp : P → P → Ordering) (place : ℕ) (reply : Result (Option (T × P)) TryRecvManyError) → LeasesAt cmp old place reply handed new → Counts (got_by (answer.LeaseWhere reply)) 0
+  leases_at cmp place (Ok (Some pair)) h = let is = ap (λ (r : State T P W). r.held) h.3 in omega (arith, is)
+  leases_at cmp place (Ok None) h = kept (after old h.2.1 refl)
+  leases_at cmp place (Err many_error.Closed) h = kept (after old h.2.1 refl)
+  leases_at cmp place (Err many_error.Empty) h = kept (after old h.2.1 refl)
+  leases_at cmp place (Err many_error.Memory) h = kept (after old h.2.1 refl)
+
   puts : (pair : T × P) (reply : Result (Unit {0}) (T × P)) → Puts old pair reply handed new → Counts 0 (given_by (answer.Put reply))
   puts pair (Ok done) h = let is = ap (λ (r : State T P W). r.held) h.2 in omega (arith, is, h.0)
   puts pair (Err back) h = kept (after old h.2.1 refl)
@@ -113,6 +121,7 @@ module _ {T P W : Type 0} (cmp : P → P → Ordering) (is_clone : W → W → T
   counts old new handed call.CloseWhenDone answer.CloseWhenDone h = kept old new handed (ends_when old new handed (is_done old) h)
   counts old new handed call.TryReserve (answer.TryReserve reply) h = reserves old new handed reply h
   counts old new handed call.TryLease (answer.TryLease reply) h = leases old new handed cmp reply h
+  counts old new handed (call.LeaseWhere place) (answer.LeaseWhere reply) h = leases_at old new handed cmp place reply h
   counts old new handed (call.Put msg priority) (answer.Put reply) h = puts old new handed (msg, priority) reply h
   counts old new handed call.Free (answer.Free done) h = frees old new handed done h
   counts old new handed call.Held (answer.Held told) h = kept old new handed (after old new handed old h.1.1 refl)

@@ -1,7 +1,7 @@
 -- The answers of the code, where a bulk send gives back what holds a list.
 use Rattle.std.specs.Prelude.{◌≡◌, List, Ok, Err}
 use Rattle.priority_channel_core.specs.Types.{Answer, Ready, Pending, Closed, Full, Memory, SendReply, SendPoll}
-use Rattle.priority_channel_core.specs.declared.calls.Answer.TheVariants.{TrySend, TrySendv, TrySendEvicting, TryRecv, TakeWhere, ChangePriority, Close, IsClosed, IsEmpty, IsFull, Len, Capacity, SenderCount, ReceiverCount, CloneSender, CloneReceiver, DropSender, DropReceiver, PollSend, PollSendv, PollRecv, GiveUp, CloseWhenDone, TryReserve, TryLease, Put, Free, Held}
+use Rattle.priority_channel_core.specs.declared.calls.Answer.TheVariants.{TrySend, TrySendv, TrySendEvicting, TryRecv, TakeWhere, ChangePriority, Close, IsClosed, IsEmpty, IsFull, Len, Capacity, SenderCount, ReceiverCount, CloneSender, CloneReceiver, DropSender, DropReceiver, PollSend, PollSendv, PollRecv, GiveUp, CloseWhenDone, TryReserve, TryLease, LeaseWhere, Put, Free, Held}
 use Rattle.priority_channel_core.specs.declared.errors.SendFault.TheVariants as fault
 use Rattle.priority_channel_core.specs.machine.Step.{Answers}
 
@@ -54,6 +54,7 @@ module _ {T P M : Type 0} (holds : M → List (T × P) → Type 0) where
   SameAnswer CloseWhenDone = Is CloseWhenDone
   SameAnswer (TryReserve reply) = Is (TryReserve reply)
   SameAnswer (TryLease reply) = Is (TryLease reply)
+  SameAnswer (LeaseWhere reply) = Is (LeaseWhere reply)
   SameAnswer (Put reply) = Is (Put reply)
   SameAnswer (Free done) = Is (Free done)
   SameAnswer (Held n) = Is (Held n)

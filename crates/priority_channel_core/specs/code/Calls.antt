@@ -3,7 +3,7 @@
 use Rattle.std.specs.Prelude.{◌≡◌, ℕ, List, ◌++◌, map, ⊤}
 use Rattle.std.specs.List.{AllZip}
 use Rattle.priority_channel_core.specs.Types.{Call, Answer, Ordering}
-use Rattle.priority_channel_core.specs.declared.calls.Call.TheVariants.{TrySend, TrySendv, TrySendEvicting, TryRecv, TakeWhere, ChangePriority, Close, IsClosed, IsEmpty, IsFull, Len, Capacity, SenderCount, ReceiverCount, CloneSender, CloneReceiver, DropSender, DropReceiver, PollSend, PollSendv, PollRecv, GiveUp, CloseWhenDone, TryReserve, TryLease, Put, Free, Held}
+use Rattle.priority_channel_core.specs.declared.calls.Call.TheVariants.{TrySend, TrySendv, TrySendEvicting, TryRecv, TakeWhere, ChangePriority, Close, IsClosed, IsEmpty, IsFull, Len, Capacity, SenderCount, ReceiverCount, CloneSender, CloneReceiver, DropSender, DropReceiver, PollSend, PollSendv, PollRecv, GiveUp, CloseWhenDone, TryReserve, TryLease, LeaseWhere, Put, Free, Held}
 use Rattle.priority_channel_core.specs.machine.State.{State, Handed}
 use Rattle.priority_channel_core.specs.machine.Step.{Step, Calls, Answers}
 use Rattle.priority_channel_core.specs.machine.Run.{Operation, Run}
@@ -20,6 +20,7 @@ MayCall may_send may_test (TrySendv msgs) = may_send msgs
 MayCall may_send may_test (PollSendv msgs given waker) = may_send msgs
 MayCall may_send may_test (TakeWhere test) = may_test test
 MayCall may_send may_test (ChangePriority test priority) = may_test test
+MayCall may_send may_test (LeaseWhere test) = may_test test
 MayCall may_send may_test made = ⊤
 
 -- `so` holds of the call that is meant; if the call is given a test, of one at some place
@@ -28,6 +29,7 @@ abbrev pub AtSomePlace : {T P W M F : Type 0} → Call T P W M F → Calls T P W
 AtSomePlace (TakeWhere test) meant so = (place : ℕ) × so (TakeWhere place)
 AtSomePlace (ChangePriority test priority) meant so =
     (place : ℕ) × so (ChangePriority place priority)
+AtSomePlace (LeaseWhere test) meant so = (place : ℕ) × so (LeaseWhere place)
 AtSomePlace made meant so = so meant
 
 abbrev pub SameButPlace : {T P W : Type 0} → Calls T P W → Calls T P W → Type 0
@@ -62,6 +64,7 @@ module _ {T P W M F : Type 0} (holds : M → List (T × P) → Type 0) where
   SameCall CloseWhenDone = Is CloseWhenDone
   SameCall TryReserve = Is TryReserve
   SameCall TryLease = Is TryLease
+  SameCall (LeaseWhere test) = IsMade (λ place. ⊤) LeaseWhere
   SameCall (Put msg priority) = Is (Put msg priority)
   SameCall Free = Is Free
   SameCall Held = Is Held

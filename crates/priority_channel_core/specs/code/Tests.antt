@@ -1,9 +1,9 @@
--- What a test told of the pair that was taken out, or whose priority was changed, or of all pairs
--- where there was none.
+-- What a test told of the pair that was taken out or leased, or whose priority was changed, or of
+-- all pairs where there was none.
 use Rattle.std.specs.Prelude.{◌≡◌, List, [], ◌∷◌, All, Some, None, Ok, Err}
 use Rattle.priority_channel_core.specs.bag.Prelude.{Changes, PassesFirst}
 use Rattle.priority_channel_core.specs.Types.{Call, Answer, Ordering}
-use Rattle.priority_channel_core.specs.declared.calls.Call.TheVariants.{TakeWhere, ChangePriority}
+use Rattle.priority_channel_core.specs.declared.calls.Call.TheVariants.{TakeWhere, ChangePriority, LeaseWhere}
 use Rattle.priority_channel_core.specs.declared.calls.Answer.TheVariants as answer
 use Rattle.priority_channel_core.specs.machine.State.{State}
 use Rattle.priority_channel_core.specs.code.Calls.{Makes, Response}
@@ -21,6 +21,10 @@ module _ {T P W M F : Type 0} (passes fails : F → T × P → Type 0) where
         → (change : Changes old was priority new) × PassesFirst (passes test) (fails test) change
     pub none_changed : (test : F) (priority back : P) → made ≡ ChangePriority test priority
         → reply ≡ answer.ChangePriority (Err back) → All (fails test) old
+    pub leased : (test : F) (pair : T × P) → made ≡ LeaseWhere test
+        → reply ≡ answer.LeaseWhere (Ok (Some pair)) → passes test pair
+    pub none_leased : (test : F) → made ≡ LeaseWhere test → reply ≡ answer.LeaseWhere (Ok None)
+        → All (fails test) old
 
   module _ (holds : M → List (T × P) → Type 0) (cmp : P → P → Ordering)
       (is_clone : W → W → Type 0) where

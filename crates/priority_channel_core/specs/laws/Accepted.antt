@@ -38,6 +38,7 @@ module _ {T P : Type 0} where
 
   abbrev pub taken_by : Answers T P → List (T × P)
   taken_by (answer.TakeWhere (Some pair)) = pair ∷ []
+  taken_by (answer.LeaseWhere (Ok (Some pair))) = pair ∷ []
   taken_by _ = []
 
   abbrev pub NeverRise : (P → P → Ordering) → List (T × P) → Type 0

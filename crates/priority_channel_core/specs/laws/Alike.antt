@@ -1,7 +1,7 @@
 -- Runs that are the same, except for the clones of wakers.
 use Rattle.std.specs.Prelude.{◌≡◌, ℕ, ◌⊎◌, Bool, true, false, length, Err}
 use Rattle.std.specs.List.{AllZip}
-use Rattle.priority_channel_core.specs.declared.calls.Answer.TheVariants.{TrySend, TrySendv, TrySendEvicting, PollSend, PollSendv, PollRecv, TryReserve, TryLease}
+use Rattle.priority_channel_core.specs.declared.calls.Answer.TheVariants.{TrySend, TrySendv, TrySendEvicting, PollSend, PollSendv, PollRecv, TryReserve, TryLease, LeaseWhere}
 use Rattle.priority_channel_core.specs.declared.calls.CorePoll.TheVariants.{Ready}
 use Rattle.priority_channel_core.specs.Prelude.{Waiters, State, Handed, Answers, Operation}
 use Rattle.priority_channel_core.specs.declared.errors.TrySendError.TheVariants as send_error
@@ -19,6 +19,7 @@ is_memory (PollSendv (Ready (Err (send_fault.Memory rest)))) = true
 is_memory (PollRecv (Ready (Err recv_fault.Memory))) = true
 is_memory (TryReserve (Err (send_error.Memory none))) = true
 is_memory (TryLease (Err many_error.Memory)) = true
+is_memory (LeaseWhere (Err many_error.Memory)) = true
 is_memory _ = false
 
 pub record IsAlike {T P W : Type 0} (one other : Operation T P W) : Type 0 where

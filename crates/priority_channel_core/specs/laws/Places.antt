@@ -1,5 +1,5 @@
 -- How many held places calls got, and gave back, read only from their answers.
-use Rattle.std.specs.Prelude.{ℕ, List, true, Ok, sum_by}
+use Rattle.std.specs.Prelude.{ℕ, List, true, Some, Ok, sum_by}
 use Rattle.priority_channel_core.specs.declared.calls.Answer.TheVariants as answer
 use Rattle.priority_channel_core.specs.Prelude.{Answers, Operation}
 
@@ -7,6 +7,7 @@ module _ {T P : Type 0} where
   abbrev pub got_by : Answers T P → ℕ
   got_by (answer.TryReserve (Ok done)) = 1
   got_by (answer.TryLease (Ok pair)) = 1
+  got_by (answer.LeaseWhere (Ok (Some pair))) = 1
   got_by _ = 0
 
   abbrev pub given_by : Answers T P → ℕ

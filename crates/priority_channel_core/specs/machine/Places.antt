@@ -1,8 +1,9 @@
 -- Places that are held: got without a pair, or kept when their pair was received.
-use Rattle.std.specs.Prelude.{◌≡◌, ◌+◌, ◌-◌, ◌<◌, ◌^◌, ◌⊎◌, Bool, true, false, ◌&&◌, ◌||◌, ◌==◌, if◌then◌else◌, [], ◌∷◌, ◌++◌, length, Result, Ok, Err}
+use Rattle.std.specs.Prelude.{◌≡◌, ℕ, ◌+◌, ◌-◌, ◌<◌, ◌≤◌, ◌^◌, ◌⊎◌, Bool, true, false, ◌&&◌, ◌||◌, ◌==◌, if◌then◌else◌, [], ◌∷◌, ◌++◌, length, Option, Some, None, Result, Ok, Err}
 use Rattle.priority_channel_core.specs.Types.{Ordering, SendReply, LeaseReply, Full, Closed, Memory}
+use Rattle.priority_channel_core.specs.declared.errors.TryRecvManyError.{TryRecvManyError}
 use Rattle.priority_channel_core.specs.declared.errors.TryRecvManyError.TheVariants as lease
-use Rattle.priority_channel_core.specs.bag.Prelude.{TakesGreatest}
+use Rattle.priority_channel_core.specs.bag.Prelude.{TakesGreatest, TakesOne}
 use Rattle.priority_channel_core.specs.machine.State.{State, Handed, nobody, room, IsOver, IsGoingOn, settled}
 use Rattle.priority_channel_core.specs.machine.Sends.{Refuses}
 
@@ -68,3 +69,14 @@ module _ {T P W : Type 0} where
   -- the last number of a pair was used
   Leases cmp old (Err lease.Memory) handed new =
       (0 < length old.pending) × (old.accepted + old.held ≡ 2 ^ 64 - 1) × Refuses old handed new
+
+  -- the same of the pair at this place in the order of acceptance; refused as a lease
+  abbrev pub LeasesAt : (P → P → Ordering) → State T P W → ℕ
+      → Result (Option (T × P)) TryRecvManyError → Handed W → State T P W → Type 0
+  LeasesAt cmp old place (Ok (Some pair)) handed new =
+      (taken : TakesOne old.pending pair new.pending) × (length taken.before ≡ place)
+      × (handed ≡ nobody)
+      × (new ≡ record old { pending = new.pending; held = old.held + 1 })
+  LeasesAt cmp old place (Ok None) handed new =
+      (0 < length old.pending) × (length old.pending ≤ place) × Refuses old handed new
+  LeasesAt cmp old place (Err error) handed new = Leases cmp old (Err error) handed new

@@ -1,13 +1,13 @@
 -- One step: a call, its answer, the waiters that it wakes, and the state after it.
 use Rattle.std.specs.Prelude.{ℕ, ◌+◌, ◌-◌, ◌==◌, List, [], ◌∷◌, length, Some, true}
 use Rattle.priority_channel_core.specs.Types.{Call, Answer, Room, Message, Ordering}
-use Rattle.priority_channel_core.specs.declared.calls.Call.TheVariants.{TrySend, TrySendv, TrySendEvicting, TryRecv, TakeWhere, ChangePriority, Close, IsClosed, IsEmpty, IsFull, Len, Capacity, SenderCount, ReceiverCount, CloneSender, CloneReceiver, DropSender, DropReceiver, PollSend, PollSendv, PollRecv, GiveUp, CloseWhenDone, TryReserve, TryLease, Put, Free, Held}
+use Rattle.priority_channel_core.specs.declared.calls.Call.TheVariants.{TrySend, TrySendv, TrySendEvicting, TryRecv, TakeWhere, ChangePriority, Close, IsClosed, IsEmpty, IsFull, Len, Capacity, SenderCount, ReceiverCount, CloneSender, CloneReceiver, DropSender, DropReceiver, PollSend, PollSendv, PollRecv, GiveUp, CloseWhenDone, TryReserve, TryLease, LeaseWhere, Put, Free, Held}
 use Rattle.priority_channel_core.specs.declared.calls.Answer.TheVariants as answer
 use Rattle.priority_channel_core.specs.machine.State.{State, Handed, is_done}
 use Rattle.priority_channel_core.specs.machine.Good.{IsGood}
 use Rattle.priority_channel_core.specs.machine.Sends.{as_list, Refuses, Sends}
 use Rattle.priority_channel_core.specs.machine.Evicts.{Evicts}
-use Rattle.priority_channel_core.specs.machine.Places.{Reserves, Leases, Puts, FreesPlace}
+use Rattle.priority_channel_core.specs.machine.Places.{Reserves, Leases, LeasesAt, Puts, FreesPlace}
 use Rattle.priority_channel_core.specs.machine.OtherCalls.{Receives, Takes, ChangesPriority, Closes, EndsWhenDone, Looks, capacity_told, Clones, Drops}
 use Rattle.priority_channel_core.specs.Waiters.{unlist}
 use Rattle.priority_channel_core.specs.machine.Polls.{send_answer, recv_answer, Polls}
@@ -62,6 +62,7 @@ module _ {T P W : Type 0} (cmp : P → P → Ordering) (is_clone : W → W → T
       EndsWhenDone (is_done old) (record old { ends_when_done = true })
   Moves old TryReserve (answer.TryReserve reply) = Reserves old reply
   Moves old TryLease (answer.TryLease reply) = Leases cmp old reply
+  Moves old (LeaseWhere place) (answer.LeaseWhere reply) = LeasesAt cmp old place reply
   Moves old (Put msg priority) (answer.Put reply) = Puts old (msg, priority) reply
   Moves old Free (answer.Free done) = FreesPlace old done
   Moves old Held (answer.Held told) = Looks old old.held told

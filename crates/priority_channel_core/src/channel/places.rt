@@ -3,7 +3,7 @@
 //!
 //! A held place has all that a pair needs: it counts against the capacity, and a slot and a number
 //! are kept for it. So `put` is never refused.
-ghost use Rattle.std.specs.Prelude.{◌≡◌, ◌↔◌, ◌+◌, ◌*◌, ◌<◌, ◌^◌, true, false, [], length, IsOk, IsTrue, OnErr, Ok, Err};
+ghost use Rattle.std.specs.Prelude.{◌≡◌, ◌↔◌, ℕ, ◌+◌, ◌*◌, ◌<◌, ◌^◌, true, false, List, [], length, All, IsOk, IsTrue, IfOk, IfErr, IfSome, IfNone, OnErr, Ok, Err};
 ghost use Rattle.priority_channel_core.specs.bag.Prelude.{digits};
 
 use crate::awaitable_atomics::Wakes;
@@ -13,6 +13,7 @@ use crate::errors::{TryRecvManyError, TrySendError};
 use std::alloc::Allocator;
 
 impl<T, P: Ord, W: Clone, A: Allocator + Copy> PriorityQueueChannel<T, P, W, A> {
+    ghost use Rattle.priority_channel_core.specs.bag.Prelude.{PassesGreatest, TakesGreatest, TakesOne, Tells};
     ghost use Rattle.priority_channel_core.specs.Prelude.{nobody, Step, ComparesAtMost, HasRoom, HasMemory, HasNumber, IsFull};
 
     /// Holds a place for a pair that is still to come. Refused as a send: `Closed` is checked
@@ -66,6 +67,77 @@ impl<T, P: Ord, W: Clone, A: Allocator + Copy> PriorityQueueChannel<T, P, W, A> 
             }
             None if is_closed && held == 0 => Err(TryRecvManyError::Closed),
             None => Err(TryRecvManyError::Empty),
+        }
+    }
+
+    /// Leases the greatest pending pair as `try_lease`, if the test returns true for it. Otherwise
+    /// the answer is `Ok(None)`, and nothing changes. It takes no memory.
+    pub fn try_lease_if<F: Fn(&T, &P) -> bool>(
+        &mut self,
+        test: &F,
+    ) -> Result<Option<(T, P)>, TryRecvManyError>
+        requires { F.IsAlwaysCallable test.now }
+        ensures leased { IfOk result (λ leased. IfSome leased (λ pair. Step P.cmp W.is_clone
+            self.old.state Call.TryLease (Answer.TryLease (Ok pair)) nobody self.new.state)) }
+        ensures meets { IfOk result (λ leased. IfSome leased (λ pair.
+            Tells F.Fn test.now pair true)) }
+        ensures kept { IfOk result (λ leased. IfNone leased ((self.new.state ≡ self.old.state)
+            × (greatest : T × P) × (rest : List (T × P))
+            × TakesGreatest P.cmp self.old.state.pending greatest rest
+            × Tells F.Fn test.now greatest false)) }
+        ensures refused { IfErr result (λ error. Step P.cmp W.is_clone self.old.state
+            Call.TryLease (Answer.TryLease (Err error)) nobody self.new.state) }
+        ensures cost { ComparesAtMost (2 * digits (length self.old.state.pending)) 0 self.old
+            self.new }
+    {
+        if !self.greatest_passes(test) {
+            return Ok(None);
+        }
+        match self.try_lease() {
+            Ok(pair) => Ok(Some(pair)),
+            Err(error) => Err(error),
+        }
+    }
+
+    /// Leases the greatest pending pair for which the test returns true, and among equals the one
+    /// accepted first. If something is pending, but nothing for which it does, the answer is
+    /// `Ok(None)`, and nothing changes. The errors are those of `try_lease`. The test is called
+    /// once on each pair, in no specified order. It takes no memory.
+    pub fn try_lease_where<F: Fn(&T, &P) -> bool>(
+        &mut self,
+        test: &F,
+    ) -> Result<Option<(T, P)>, TryRecvManyError>
+        requires { F.IsAlwaysCallable test.now }
+        ensures step { (place : ℕ) × Step P.cmp W.is_clone self.old.state (Call.LeaseWhere place)
+            (Answer.LeaseWhere result) nobody self.new.state }
+        ensures leased { IfOk result (λ leased. IfSome leased (λ pair.
+            (one : TakesOne self.old.state.pending pair self.new.state.pending)
+            × PassesGreatest P.cmp (λ pair. Tells F.Fn test.now pair true)
+            (λ pair. Tells F.Fn test.now pair false) one)) }
+        ensures meets { IfOk result (λ leased. IfSome leased (λ pair.
+            Tells F.Fn test.now pair true)) }
+        ensures none { IfOk result (λ leased. IfNone leased
+            (All (λ pair. Tells F.Fn test.now pair false) self.old.state.pending)) }
+        ensures pending { 0 < length self.old.state.pending → HasNumber self.old.state
+            → IsOk result }
+        ensures cost { ComparesAtMost (length self.old.state.pending
+            + 2 * digits (length self.old.state.pending)) 0 self.old self.new }
+    {
+        if self.is_empty() {
+            return match self.try_lease() {
+                Ok(pair) => Ok(Some(pair)),
+                Err(error) => Err(error),
+            };
+        }
+        if !self.bag.can_push_beside(self.word.held()) {
+            return Err(TryRecvManyError::Memory);
+        }
+        match self.bag.take_greatest_where(test) {
+            Some(pair) => {
+                self.word.lend();
+                Ok(Some(pair))
+            }
+            None => Ok(None),
         }
     }
 

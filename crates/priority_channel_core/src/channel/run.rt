@@ -180,6 +180,10 @@ impl<T: Drop, P: Ord + Drop, W: Clone, A: Allocator + Copy> PriorityQueueChannel
                 let reply = self.try_lease();
                 self.without_wakes(Answer::TryLease(reply))
             }
+            Call::LeaseWhere(test) => {
+                let reply = self.try_lease_where(&test);
+                self.without_wakes(Answer::LeaseWhere(reply))
+            }
             Call::Put(msg, priority) => {
                 let (reply, wakes) = self.put(msg, priority);
                 Response::new(Answer::Put(reply), wakes)

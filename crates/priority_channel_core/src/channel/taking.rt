@@ -79,8 +79,8 @@ impl<T, P: Ord, W: Clone, A: Allocator + Copy> PriorityQueueChannel<T, P, W, A> 
         }
     }
 
-    // Whether the test returns true for the greatest pending pair, if there is one.
-    fn greatest_passes<F: Fn(&T, &P) -> bool>(&self, test: &F) -> bool
+    /// Whether the test returns true for the greatest pending pair, if there is one.
+    pub(crate) fn greatest_passes<F: Fn(&T, &P) -> bool>(&self, test: &F) -> bool
         requires { F.IsAlwaysCallable test.now }
         ensures passes { result ≡ true → (greatest : T × P) (rest : List (T × P))
             → TakesGreatest P.cmp self.now.state.pending greatest rest

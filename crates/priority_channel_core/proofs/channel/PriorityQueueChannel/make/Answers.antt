@@ -2,7 +2,7 @@ use Rattle.std.proofs.Common.{refl, true, false}
 use Rattle.priority_channel_core.specs.bag.Prelude.{Tells}
 use Rattle.priority_channel_core.specs.declared.calls.Call.TheVariants as call
 use Rattle.priority_channel_core.specs.declared.calls.Answer.TheVariants as answer
-use Rattle.priority_channel_core.proofs.Running.{makes_as, makes_performed, taking_meets, change_meets}
+use Rattle.priority_channel_core.proofs.Running.{makes_as, makes_performed, taking_meets, leasing_meets, change_meets}
 use Rattle.priority_channel_core.proofs.channel.PriorityQueueChannel.make.Goals as goal
 
 pub returns-in-TakeWhere-clause-step : goal.returns-in-TakeWhere-clause-step
@@ -98,6 +98,16 @@ returns-in-TryReserve-clause-step g c = makes_as c.in-TryReserve.is c.without_wa
 
 pub returns-in-TryLease-clause-step : goal.returns-in-TryLease-clause-step
 returns-in-TryLease-clause-step g c = makes_as c.in-TryLease.is c.without_wakes-in-TryLease.ensures.answer c.without_wakes-in-TryLease.ensures.handed (λ other is. is) refl c.try_lease-reply.ensures.step
+
+pub returns-in-LeaseWhere-clause-step : goal.returns-in-LeaseWhere-clause-step
+returns-in-LeaseWhere-clause-step g c =
+    rw (c.in-LeaseWhere.is, c.without_wakes-in-LeaseWhere.ensures.answer, c.without_wakes-in-LeaseWhere.ensures.handed)
+    (record { at = λ meant same. (answer.LeaseWhere c.try_lease_where-reply.result, refl, c.try_lease_where-reply.ensures.step) })
+
+pub returns-in-LeaseWhere-clause-meets : goal.returns-in-LeaseWhere-clause-meets
+returns-in-LeaseWhere-clause-meets g c =
+    leasing_meets (λ test pair. Tells g.F.Fn test pair true) (λ test pair. Tells g.F.Fn test pair false) _ _ _ _ c.in-LeaseWhere.test c.try_lease_where-reply.result
+    c.in-LeaseWhere.is c.without_wakes-in-LeaseWhere.ensures.answer c.try_lease_where-reply.ensures.meets c.try_lease_where-reply.ensures.none
 
 pub returns-in-Put-clause-step : goal.returns-in-Put-clause-step
 returns-in-Put-clause-step g c = makes_as c.in-Put.is c.new-in-Put.ensures.answer c.new-in-Put.ensures.handed (λ other is. is) refl c.put-reply.ensures.step
