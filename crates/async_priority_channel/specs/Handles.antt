@@ -2,6 +2,8 @@
 use Rattle.std.specs.Prelude.{◌≡◌, ℕ, Bool, true, List, [], Option, None}
 use Rattle.priority_channel_core.specs.declared.side.Side.{Side}
 use Rattle.priority_channel_core.specs.declared.side.Side.TheVariants.{Room, Message}
+use Rattle.priority_channel_waiting.specs.declared.selecting.Sight.{Sight}
+use Rattle.priority_channel_waiting.specs.declared.selecting.Sight.TheVariants.{First, All, Close}
 use Rattle.priority_channel_waiting.specs.Holding.{Holding}
 
 -- the parts of a channel that never change: its capacity, and the sources at which tasks wait on
@@ -16,6 +18,12 @@ pub record Channel : Type 0 where
 abbrev pub source_of : Side → Channel → ℕ
 source_of Room channel = channel.room
 source_of Message channel = channel.message
+
+-- the source at which tasks wait that look at this beside the core
+abbrev pub source_beside : Sight → Channel → ℕ
+source_beside First channel = channel.message
+source_beside All channel = channel.message
+source_beside Close channel = channel.closing
 
 -- handles of the same channel
 abbrev pub SameChannel : Channel → Channel → Type 0
@@ -51,9 +59,9 @@ pub record Batching (X : Type 0) : Type 0 where
   pub batch : List X
   pub is_done : Bool
 
--- a future that waits for the close, the ticket under which it is listed, and whether it has
--- answered
-pub record Watching : Type 0 where
+-- a future and what it waits for, the ticket under which it is listed, and whether it has answered
+pub record Watching (C : Type 0) : Type 0 where
   pub channel : Channel
+  pub call : C
   pub ticket : Option ℕ
   pub is_done : Bool

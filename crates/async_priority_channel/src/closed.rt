@@ -1,17 +1,12 @@
 //! The calls that wait for the close of a channel.
-ghost use Rattle.std.specs.Prelude.{◌≡◌, None, IfOk, IfErr, IsSome, false};
-ghost use Rattle.futures.specs.Task.{Covers, Keeps};
-ghost use Rattle.futures.specs.Poll.{IfReady, OnPending};
+ghost use Rattle.std.specs.Prelude.{◌≡◌, None, IfOk, IfErr, false};
 
 use crate::end::{End, Role};
 use crate::handle::Handle;
-use crate::waiting::Closed;
-use futures::task::{Context, Poll};
-use priority_channel_waiting::seeking::{Sought, UntilClosed};
-use priority_channel_waiting::selecting::Sight;
+use crate::waiting::{Calling, Closed};
+use priority_channel_waiting::seeking::UntilClosed;
 use priority_channel_waiting::timeouts::Ended;
 use priority_channel_waiting::until::{Deadline, Endless, Until};
-use priority_channel_waiting::waiter::Waiter;
 use std::alloc::{AllocError, Allocator};
 use std::sync::Wait;
 use std::time::{Clock, Duration, Instant};
@@ -34,9 +29,14 @@ impl<S: Role, T, P: Ord, R: Wait + Clone, A: Allocator + Copy> End<S, T, P, R, A
     /// receiving.join(&rt);
     /// ```
     pub fn closed(&self) -> Closed<'_, S, T, P, R, A>
-        ensures { result ≡ record { channel = self.now; ticket = None; is_done = false } }
+        ensures { result ≡ record {
+          channel = self.now;
+          call = record {};
+          ticket = None;
+          is_done = false;
+        } }
     {
-        Closed::new(self)
+        Calling::new(self, UntilClosed)
     }
 
     /// Waits for the close of the channel on this thread, which sleeps meanwhile. It returns at
@@ -110,15 +110,6 @@ impl<S: Role, T, P: Ord, R: Wait + Clone, A: Allocator + Copy> End<S, T, P, R, A
 }
 
 impl<T, P: Ord, R: Wait + Clone, A: Allocator + Copy> Handle<T, P, R, A> {
-    /// Takes a waiter for the close off the list, if it has a ticket.
-    pub fn unlisten(&self, ticket: Option<u64>) {
-        if let Some(ticket) = ticket {
-            let mut held = self.hold();
-            held.unlisten(Sight::Close, ticket);
-            self.unlock(held);
-        }
-    }
-
     // Waits until the channel is seen closed, or the time is over.
     fn wait_closed<U: Until>(&self, until: &U) -> Result<Result<(), U::Over>, AllocError>
         ensures { IfOk result (λ waited. IfErr waited (U.has_come until.now)) }
@@ -128,36 +119,6 @@ impl<T, P: Ord, R: Wait + Clone, A: Allocator + Copy> Handle<T, P, R, A> {
             Err(Ended::Closed(())) => Ok(Ok(())),
             Err(Ended::Over((), over)) => Ok(Err(over)),
             Err(Ended::Memory(())) => Err(AllocError),
-        }
-    }
-
-    /// A poll of a future that waits for the close: over its fields, and not done. The first look
-    /// takes no memory for waiting.
-    pub fn poll_closed(
-        &self,
-        cx: &mut Context<'_>,
-        ticket: &mut Option<u64>,
-        waiter: &mut Option<Waiter<A>>,
-    ) -> Poll<Result<(), AllocError>>
-        ensures registered { OnPending result (Covers cx.new (λ source.
-            source ≡ self.now.closing)) }
-        ensures kept { Keeps cx.old cx.new }
-        ensures answered { IfReady result (λ _. ticket.new ≡ None) }
-        ensures listed { OnPending result (IsSome ticket.new) }
-    {
-        if self.look().core().is_closed() {
-            *ticket = None;
-            return Poll::Ready(Ok(()));
-        }
-        let Some(waiter) = self.register_for_close(cx, waiter) else {
-            self.unlisten(ticket.take());
-            return Poll::Ready(Err(AllocError));
-        };
-        match self.seek_or_listen(&UntilClosed, ticket, waiter) {
-            Ok(Sought::Found(never)) => match never {},
-            Ok(Sought::Over) => Poll::Ready(Ok(())),
-            Ok(Sought::NotYet(_)) => Poll::Pending,
-            Err(AllocError) => Poll::Ready(Err(AllocError)),
         }
     }
 }

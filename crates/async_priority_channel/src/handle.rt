@@ -5,7 +5,7 @@
 ghost use Rattle.std.specs.Prelude.{◌≡◌, IfOk, IsSome};
 ghost use Rattle.futures.specs.Task.{Hears, IsArmed, Keeps};
 ghost use Rattle.priority_channel_core.specs.Prelude.{opening, capacity_told};
-ghost use Rattle.async_priority_channel.specs.Handles.{source_of};
+ghost use Rattle.async_priority_channel.specs.Handles.{source_beside, source_of};
 
 use crate::identity::Identity;
 use crate::lock::Lock;
@@ -17,6 +17,7 @@ use priority_channel_core::awaitable_atomics::Wakes;
 use priority_channel_core::side::Side;
 use priority_channel_waiting::guarded::{Guarded, Held, Look};
 use priority_channel_waiting::line::Line;
+use priority_channel_waiting::selecting::Sight;
 use priority_channel_waiting::spins::Spins;
 use priority_channel_waiting::waiter::{Core, Waiter};
 use std::alloc::{AllocError, Allocator};
@@ -215,16 +216,21 @@ impl<T, P: Ord, R: Wait + Clone, A: Allocator + Copy> Handle<T, P, R, A> {
         Waiter::register(&self.rt, self.shared.alloc, cx, source, waiter)
     }
 
-    /// The same for a task that waits for the close.
-    pub fn register_for_close<'k>(
+    /// The same for a task that waits with a condition, or for the close.
+    pub fn register_beside<'k>(
         &self,
         cx: &mut Context<'_>,
+        sight: Sight,
         waiter: &'k mut Option<Waiter<A>>,
     ) -> Option<&'k Waiter<A>>
-        ensures heard { IsSome result → IsArmed cx.new × Hears cx.new self.now.closing }
+        ensures heard { IsSome result → IsArmed cx.new
+            × Hears cx.new (source_beside sight self.now) }
         ensures kept { Keeps cx.old cx.new }
     {
-        let source = &self.shared.closing;
+        let source = match sight {
+            Sight::First | Sight::All => &self.shared.message.source,
+            Sight::Close => &self.shared.closing,
+        };
         Waiter::register(&self.rt, self.shared.alloc, cx, source, waiter)
     }
 

@@ -248,6 +248,7 @@ mod identity;
 mod iter;
 pub mod laws;
 mod lease;
+mod leasing;
 mod lock;
 mod many;
 mod parked;
@@ -277,5 +278,5 @@ pub use priority_channel_waiting::timeouts::{RecvTimeoutError, SendTimeoutError}
 pub use receiver::{Receiver, Receiving};
 pub use sender::{Sender, Sending};
 pub use stream::{IntoStream, RecvStream};
-pub use waiting::{Closed, LeaseNext, Recv, Reserve, Send, Sendv};
+pub use waiting::{Closed, LeaseNext, LeaseNextWhere, Recv, RecvWhere, Reserve, Send, Sendv};
 pub use weak::{Weak, WeakReceiver, WeakSender};

@@ -4,16 +4,17 @@
 //! The thread looks at the channel. If nothing is for it, it is listed in the same hold of the
 //! lock, and sleeps until something has changed of what it looks at, or an instant has come for
 //! which it asked.
-ghost use Rattle.std.specs.Prelude.{◌≡◌, true, None, IfOk, IfErr, IsSome, OnErr};
+ghost use Rattle.std.specs.Prelude.{◌≡◌, true, false, None, IfOk, IfErr, IsSome, OnErr};
 ghost use Rattle.priority_channel_core.specs.bag.Prelude.{Tells};
 ghost use Rattle.priority_channel_waiting.specs.Ends.{OnOver};
 ghost use Rattle.priority_channel_waiting.specs.Seeking.{ComesDue, IfFound, IfNotYet, IfOver};
 
 use crate::handle::Handle;
 use crate::receiver::Receiver;
+use crate::waiting::{Calling, RecvWhere};
 use priority_channel_core::errors::RecvFault;
 use priority_channel_waiting::seeking::{Due, Seek, Sought, When, Where};
-use priority_channel_waiting::selecting::Listed;
+use priority_channel_waiting::selecting::{Listed, Sight};
 use priority_channel_waiting::timeouts::{Ended, RecvTimeoutError};
 use priority_channel_waiting::until::{Deadline, Endless, Until};
 use priority_channel_waiting::waiter::Waiter;
@@ -57,10 +58,7 @@ impl<T, P: Ord, R: Wait + Clone, A: Allocator + Copy> Receiver<T, P, R, A> {
         ensures { IfOk result (ComesDue F.Fn when) }
     {
         let clock = self.handle.rt();
-        Ok(
-            self.handle
-                .wait_sought(&When { when: &when, clock }, &Endless)?,
-        )
+        Ok(self.handle.wait_sought(&When { when, clock }, &Endless)?)
     }
 
     /// As `recv_when_blocking`, but waits no longer than `timeout`, as `recv_timeout` does.
@@ -88,10 +86,7 @@ impl<T, P: Ord, R: Wait + Clone, A: Allocator + Copy> Receiver<T, P, R, A> {
     {
         let clock = self.handle.rt();
         let deadline = Deadline::after(clock, timeout);
-        Ok(
-            self.handle
-                .wait_sought(&When { when: &when, clock }, &deadline)?,
-        )
+        Ok(self.handle.wait_sought(&When { when, clock }, &deadline)?)
     }
 
     /// As `recv_when_timeout`, but waits no longer than until `deadline`.
@@ -117,10 +112,7 @@ impl<T, P: Ord, R: Wait + Clone, A: Allocator + Copy> Receiver<T, P, R, A> {
     {
         let clock = self.handle.rt();
         let deadline = Deadline::at(clock, deadline);
-        Ok(
-            self.handle
-                .wait_sought(&When { when: &when, clock }, &deadline)?,
-        )
+        Ok(self.handle.wait_sought(&When { when, clock }, &deadline)?)
     }
 
     /// Receives the most urgent pending message for which the test returns true, as
@@ -148,7 +140,7 @@ impl<T, P: Ord, R: Wait + Clone, A: Allocator + Copy> Receiver<T, P, R, A> {
         requires { F.IsAlwaysCallable test }
         ensures { IfOk result (λ pair. Tells F.Fn test pair true) }
     {
-        Ok(self.handle.wait_sought(&Where { test: &test }, &Endless)?)
+        Ok(self.handle.wait_sought(&Where { test }, &Endless)?)
     }
 
     /// As `recv_where_blocking`, but waits no longer than `timeout`, as `recv_timeout` does.
@@ -175,7 +167,7 @@ impl<T, P: Ord, R: Wait + Clone, A: Allocator + Copy> Receiver<T, P, R, A> {
         ensures { IfOk result (λ pair. Tells F.Fn test pair true) }
     {
         let deadline = Deadline::after(self.handle.rt(), timeout);
-        Ok(self.handle.wait_sought(&Where { test: &test }, &deadline)?)
+        Ok(self.handle.wait_sought(&Where { test }, &deadline)?)
     }
 
     /// As `recv_where_timeout`, but waits no longer than until `deadline`.
@@ -200,7 +192,30 @@ impl<T, P: Ord, R: Wait + Clone, A: Allocator + Copy> Receiver<T, P, R, A> {
         ensures { IfOk result (λ pair. Tells F.Fn test pair true) }
     {
         let deadline = Deadline::at(self.handle.rt(), deadline);
-        Ok(self.handle.wait_sought(&Where { test: &test }, &deadline)?)
+        Ok(self.handle.wait_sought(&Where { test }, &deadline)?)
+    }
+
+    /// As `recv_where_blocking`, for a task. This is a future, which does nothing until it is
+    /// polled. If it is dropped before it has answered, it receives nothing.
+    ///
+    /// Cost: none until it is polled (see `RecvWhere`).
+    ///
+    /// ```
+    /// let (tx, rx) = unbounded(&rt, rt.alloc())?;
+    /// tx.try_send("compile", 2)?;
+    /// tx.try_send("link", 1)?;
+    /// let received = block_on(&rt, rx.recv_where(|job, _| *job == "link"))?;
+    /// assert_eq!(rt; received, Ok(("link", 1)));
+    /// ```
+    pub fn recv_where<F: Fn(&T, &P) -> bool>(&self, test: F) -> RecvWhere<'_, F, T, P, R, A>
+        ensures { result ≡ record {
+          channel = self.now;
+          call = record { test = test };
+          ticket = None;
+          is_done = false;
+        } }
+    {
+        Calling::new(self, Where { test })
     }
 }
 
@@ -220,6 +235,7 @@ impl<T, P: Ord, R: Wait + Clone, A: Allocator + Copy> Handle<T, P, R, A> {
         match self.seek(seek) {
             Sought::Found(found) => return Ok(found),
             Sought::Over => return Err(Ended::Closed(())),
+            Sought::Memory => return Err(Ended::Memory(())),
             Sought::NotYet(_) => {}
         }
         if let Err(over) = left {
@@ -231,8 +247,8 @@ impl<T, P: Ord, R: Wait + Clone, A: Allocator + Copy> Handle<T, P, R, A> {
         self.sleep_until_found(seek, until, &waiter)
     }
 
-    // Looks once, without memory for waiting.
-    fn seek<S: Seek<T, P, A>>(&self, seek: &S) -> Sought<S::Found>
+    /// Looks once, without memory for waiting.
+    pub fn seek<S: Seek<T, P, A>>(&self, seek: &S) -> Sought<S::Found>
         requires { S.can_seek seek.now }
         ensures { IfFound result (S.meets seek.now) }
     {
@@ -263,6 +279,7 @@ impl<T, P: Ord, R: Wait + Clone, A: Allocator + Copy> Handle<T, P, R, A> {
                 Ok(Sought::Found(found)) => return Ok(found),
                 Ok(Sought::Over) => return Err(Ended::Closed(())),
                 Ok(Sought::NotYet(within)) => waiter.park(self.rt(), sooner(left, within)),
+                Ok(Sought::Memory) => return Err(Ended::Memory(())),
                 Err(AllocError) => return Err(Ended::Memory(())),
             }
         }
@@ -308,6 +325,15 @@ impl<T, P: Ord, R: Wait + Clone, A: Allocator + Copy> Handle<T, P, R, A> {
         }
     }
 
+    /// Takes a waiter off its list beside the core, if it has a ticket.
+    pub fn unlisten(&self, sight: Sight, ticket: Option<u64>) {
+        if let Some(ticket) = ticket {
+            let mut held = self.hold();
+            held.unlisten(sight, ticket);
+            self.unlock(held);
+        }
+    }
+
     // Takes the thread off the list, and looks a last time.
     fn seek_last<S: Seek<T, P, A>, U: Until>(
         &self,
@@ -321,16 +347,12 @@ impl<T, P: Ord, R: Wait + Clone, A: Allocator + Copy> Handle<T, P, R, A> {
         ensures found { IfOk result (S.meets seek.now) }
         ensures over { IfErr result (λ ended. OnOver ended (U.has_come until.now)) }
     {
-        let mut held = self.hold();
-        if let Some(ticket) = ticket {
-            held.unlisten(S::sight(), ticket);
-        }
-        let (sought, wakes) = seek.seek(held.core());
-        self.release(held, wakes);
-        match sought {
+        self.unlisten(S::sight(), ticket);
+        match self.seek(seek) {
             Sought::Found(found) => Ok(found),
             Sought::Over => Err(Ended::Closed(())),
-            Sought::NotYet(_) => Err(Ended::Over((), over)),
+            // As in the last try of other waits: that nothing came in time is what counts.
+            Sought::Memory | Sought::NotYet(_) => Err(Ended::Over((), over)),
         }
     }
 }

@@ -1,12 +1,12 @@
 //! The futures, and their states between polls.
 
 mod call;
-mod closed;
+mod sought;
 mod task;
 mod transfer;
 
-pub use call::{Calling, LeaseNext, Reserve};
-pub use closed::Closed;
+pub use call::{Awaited, Calling, LeaseNext, Reserve};
 pub use priority_channel_waiting::states::{RecvState, SendState, SendvState};
+pub use sought::{Closed, LeaseNextWhere, RecvWhere};
 pub(crate) use task::Task;
 pub use transfer::{Recv, Send, Sendv, Waiting};

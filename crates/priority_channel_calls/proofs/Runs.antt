@@ -3,7 +3,7 @@ use Rattle.std.proofs.Common.{◌≡◌, ℕ, List, [], ◌∷◌, map, Some, Ok
 use Rattle.priority_channel_core.specs.declared.calls.Call.TheVariants as call
 use Rattle.priority_channel_core.specs.declared.calls.Answer.TheVariants as answer
 use Rattle.priority_channel_core.specs.Prelude.{State, Handed, nobody, Step, Calls, Answers, Ordering, TakesInTurn, in_turn, takes}
-use Rattle.priority_channel_calls.specs.Told.Told.{Nothing, Exactly, After, Takes, TakesAll, Changes}
+use Rattle.priority_channel_calls.specs.Told.Told.{Nothing, Exactly, After, Takes, Leases, TakesAll, Changes}
 use Rattle.priority_channel_calls.specs.Told.{step_of, Makes}
 
 module _ {T P W : Type 0} (cmp : P → P → Ordering) (is_clone : W → W → Type 0)
@@ -35,6 +35,16 @@ module _ {T P W : Type 0} (cmp : P → P → Ordering) (is_clone : W → W → T
       → Makes cmp is_clone old (Takes pair) handed new
   makes_taking pair (place, step) = record {
     run = step_of (call.TakeWhere place) (answer.TakeWhere (Some pair)) handed ∷ [];
+    means = (place, refl);
+    leads = (new, step, refl);
+  }
+
+  pub makes_lease : (pair : T × P)
+      → (place : ℕ) × Step cmp is_clone old (call.LeaseWhere place)
+      (answer.LeaseWhere (Ok (Some pair))) handed new
+      → Makes cmp is_clone old (Leases pair) handed new
+  makes_lease pair (place, step) = record {
+    run = step_of (call.LeaseWhere place) (answer.LeaseWhere (Ok (Some pair))) handed ∷ [];
     means = (place, refl);
     leads = (new, step, refl);
   }

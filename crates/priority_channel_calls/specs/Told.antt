@@ -4,6 +4,7 @@ use Rattle.std.specs.declared.cmp.Ordering.{Ordering}
 use Rattle.priority_channel_core.specs.declared.calls.Call.TheVariants as call
 use Rattle.priority_channel_core.specs.declared.calls.Answer.TheVariants as answer
 use Rattle.priority_channel_core.specs.declared.errors.TryRecvError.{TryRecvError}
+use Rattle.priority_channel_core.specs.declared.errors.TryRecvManyError.{TryRecvManyError}
 use Rattle.priority_channel_core.specs.declared.side.Side.{Side}
 use Rattle.priority_channel_core.specs.declared.side.Side.TheVariants.{Room, Message}
 use Rattle.priority_channel_calls.specs.declared.places.Fill.{Fill}
@@ -22,6 +23,8 @@ pub data Told (T P W : Type 0) : Type 0 where
   Takes : T × P → Told T P W
   -- takings of these pairs, in turn
   TakesAll : List (T × P) → Told T P W
+  -- a lease of this pair, at some place
+  Leases : T × P → Told T P W
   -- a change to this priority, at some place
   Changes : P → Result P P → Told T P W
 
@@ -41,6 +44,9 @@ module _ {T P W : Type 0} where
   Means (Told.Takes pair) handed run =
       (place : ℕ)
       × (run ≡ step_of (call.TakeWhere place) (answer.TakeWhere (Some pair)) handed ∷ [])
+  Means (Told.Leases pair) handed run =
+      (place : ℕ)
+      × (run ≡ step_of (call.LeaseWhere place) (answer.LeaseWhere (Ok (Some pair))) handed ∷ [])
   Means (Told.TakesAll pairs) handed run =
       (taken : List (Placed T P)) × (map (λ one. one.pair) taken ≡ pairs)
       × (run ≡ in_turn takes taken handed) × (taken ≡ [] → handed ≡ nobody)
@@ -67,6 +73,18 @@ module _ {T P W : Type 0} where
   received_where (Ok (Some pair)) = Told.Takes pair
   received_where (Ok None) = Told.Nothing
   received_where (Err error) = Told.Exactly call.TryRecv (answer.TryRecv (Err error))
+
+  -- of a lease that a test may decline
+  abbrev pub leased_if : Result (Option (T × P)) TryRecvManyError → Told T P W
+  leased_if (Ok (Some pair)) = Told.Exactly call.TryLease (answer.TryLease (Ok pair))
+  leased_if (Ok None) = Told.Nothing
+  leased_if (Err error) = Told.Exactly call.TryLease (answer.TryLease (Err error))
+
+  -- of a lease of what passes a test
+  abbrev pub leased_where : Result (Option (T × P)) TryRecvManyError → Told T P W
+  leased_where (Ok (Some pair)) = Told.Leases pair
+  leased_where (Ok None) = Told.Nothing
+  leased_where (Err error) = Told.Exactly call.TryLease (answer.TryLease (Err error))
 
   abbrev pub taken_one : Option (T × P) → Told T P W
   taken_one (Some pair) = Told.Takes pair
@@ -101,6 +119,12 @@ module _ {T P W : Type 0} where
 abbrev pub beside_place : {X Y E : Type 0} → Result (X × Y) E → Result Y E
 beside_place (Ok (place, value)) = Ok value
 beside_place (Err error) = Err error
+
+-- the same of a lease that a test may decline
+abbrev pub beside_place_if : {X Y E : Type 0} → Result (Option (X × Y)) E → Result (Option Y) E
+beside_place_if (Ok (Some (place, value))) = Ok (Some value)
+beside_place_if (Ok None) = Ok None
+beside_place_if (Err error) = Err error
 
 -- the pairs in a vector
 abbrev pub items_of : {X A E : Type 0} → Result (Vec X A) E → Result (List X) E

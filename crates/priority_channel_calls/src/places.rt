@@ -1,8 +1,9 @@
 //! Held places: got, kept, filled and freed.
-ghost use Rattle.std.specs.Prelude.{◌≡◌, IfErr};
+ghost use Rattle.std.specs.Prelude.{◌≡◌, true, IfOk, IfErr, IfSome};
+ghost use Rattle.priority_channel_core.specs.bag.Prelude.{Tells};
 ghost use Rattle.priority_channel_core.specs.declared.calls.Call.TheVariants as call;
 ghost use Rattle.priority_channel_core.specs.declared.calls.Answer.TheVariants as answer;
-ghost use Rattle.priority_channel_calls.specs.Told.{beside_place, without_place, put_told};
+ghost use Rattle.priority_channel_calls.specs.Told.{beside_place, beside_place_if, leased_if, leased_where, without_place, put_told};
 ghost use Rattle.priority_channel_calls.specs.Told.Told.{Exactly, After};
 
 use crate::call::CoreCall;
@@ -59,6 +60,77 @@ impl<T, P: Ord, W: Clone, A: Allocator + Copy> CoreCall<T, P, W, A> for TryLease
             Err(error) => Err(error),
         };
         (leased, core.nobody())
+    }
+}
+
+/// A lease of the most urgent pair, if it passes a test.
+pub struct TryLeaseIf<'f, F> {
+    pub test: &'f F,
+}
+
+impl<T, P: Ord, W: Clone, A: Allocator + Copy, F: Fn(&T, &P) -> bool> CoreCall<T, P, W, A>
+    for TryLeaseIf<'_, F> {
+    type Answer = Result<Option<(Place, (T, P))>, TryRecvManyError>;
+
+    ghost can_make = { λ it. F.IsAlwaysCallable it.test.now };
+
+    ghost told = { λ it reply. leased_if (beside_place_if reply) };
+
+    ghost gives = { λ it reply. IfOk reply (λ leased. IfSome leased (λ held.
+        Tells F.Fn it.test.now held.1 true)) };
+
+    #[tactic(auto, using(crate::proofs::Runs::makes_one, crate::proofs::Runs::makes_nothing))]
+    fn make_on(
+        self,
+        core: &mut PriorityQueueChannel<T, P, W, A>,
+    ) -> (
+        Result<Option<(Place, (T, P))>, TryRecvManyError>,
+        Wakes<W, A>,
+    ) {
+        let TryLeaseIf { test } = self;
+        (hold_place(core.try_lease_if(test)), core.nobody())
+    }
+}
+
+/// A lease of the most urgent pair that passes a test.
+pub struct TryLeaseWhere<'f, F> {
+    pub test: &'f F,
+}
+
+impl<T, P: Ord, W: Clone, A: Allocator + Copy, F: Fn(&T, &P) -> bool> CoreCall<T, P, W, A>
+    for TryLeaseWhere<'_, F> {
+    type Answer = Result<Option<(Place, (T, P))>, TryRecvManyError>;
+
+    ghost can_make = { λ it. F.IsAlwaysCallable it.test.now };
+
+    ghost told = { λ it reply. leased_where (beside_place_if reply) };
+
+    ghost gives = { λ it reply. IfOk reply (λ leased. IfSome leased (λ held.
+        Tells F.Fn it.test.now held.1 true)) };
+
+    #[tactic(auto, using(crate::proofs::Runs::makes_one, crate::proofs::Runs::makes_nothing, crate::proofs::Runs::makes_lease))]
+    fn make_on(
+        self,
+        core: &mut PriorityQueueChannel<T, P, W, A>,
+    ) -> (
+        Result<Option<(Place, (T, P))>, TryRecvManyError>,
+        Wakes<W, A>,
+    ) {
+        let TryLeaseWhere { test } = self;
+        (hold_place(core.try_lease_where(test)), core.nobody())
+    }
+}
+
+// The place of a pair that was leased, if one was.
+fn hold_place<X>(
+    leased: Result<Option<X>, TryRecvManyError>,
+) -> Result<Option<(Place, X)>, TryRecvManyError>
+    ensures { leased ≡ beside_place_if result }
+{
+    match leased {
+        Ok(Some(pair)) => Ok(Some((Place { seal: () }, pair))),
+        Ok(None) => Ok(None),
+        Err(error) => Err(error),
     }
 }
 

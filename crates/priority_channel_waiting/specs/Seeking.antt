@@ -6,22 +6,25 @@ use Rattle.priority_channel_core.specs.bag.Prelude.{Ordering, TakesGreatest, Tel
 use Rattle.priority_channel_waiting.specs.declared.seeking.Due.{Due}
 use Rattle.priority_channel_waiting.specs.declared.seeking.Due.TheVariants.{Never, Now}
 use Rattle.priority_channel_waiting.specs.declared.seeking.Sought.{Sought}
-use Rattle.priority_channel_waiting.specs.declared.seeking.Sought.TheVariants.{Found, Over, NotYet}
+use Rattle.priority_channel_waiting.specs.declared.seeking.Sought.TheVariants.{Found, Over, Memory, NotYet}
 
 module _ {X : Type 0} where
   abbrev pub IfFound : Sought X → (X → Type 0) → Type 0
   IfFound (Found found) fact = fact found
   IfFound Over fact = ⊤
+  IfFound Memory fact = ⊤
   IfFound (NotYet within) fact = ⊤
 
   abbrev pub IfOver : Sought X → Type 0 → Type 0
   IfOver (Found pair) fact = ⊤
   IfOver Over fact = fact
+  IfOver Memory fact = ⊤
   IfOver (NotYet within) fact = ⊤
 
   abbrev pub IfNotYet : Sought X → Type 0 → Type 0
   IfNotYet (Found pair) fact = ⊤
   IfNotYet Over fact = ⊤
+  IfNotYet Memory fact = ⊤
   IfNotYet (NotYet within) fact = fact
 
 module _ {T P : Type 0} where

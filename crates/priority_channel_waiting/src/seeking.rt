@@ -1,15 +1,21 @@
-//! Waits with a condition: receives that choose their message by one, and the wait for the close.
+//! Waits with a condition: receives and leases that choose their message by one, and the wait for
+//! the close.
 ghost use Rattle.std.specs.Prelude.{◌≡◌, ◌≢◌, ⊤, true, false, length, All, IfOk, IfErr, Ok, Err, Some};
 ghost use Rattle.priority_channel_core.specs.bag.Prelude.{PassesGreatest, TakesOne, Tells};
 ghost use Rattle.priority_channel_core.specs.Prelude.{nobody, Step};
+ghost use Rattle.priority_channel_calls.specs.Told.{Makes};
+ghost use Rattle.priority_channel_calls.specs.Told.Told.{Exactly, Leases};
+ghost use Rattle.priority_channel_waiting.specs.declared.selecting.Sight.{Sight};
 ghost use Rattle.priority_channel_waiting.specs.Seeking.{ComesDue, IfFound, IfNotYet, IfOver, NoneDue};
 
 use crate::reading::Reading;
 use crate::selecting::Sight;
 use crate::waiter::{Core, Waiter};
+use priority_channel_calls::call::CoreCall;
+use priority_channel_calls::places::{Place, TryLease, TryLeaseWhere};
 use priority_channel_core::awaitable_atomics::Wakes;
 use priority_channel_core::calls::{Answer, Call};
-use priority_channel_core::errors::TryRecvError;
+use priority_channel_core::errors::{TryRecvError, TryRecvManyError};
 use std::alloc::Allocator;
 use std::convert::Infallible;
 use std::time::{Clock, Duration, Instant};
@@ -36,6 +42,8 @@ pub enum Sought<F> {
     Found(F),
     /// Nothing can come any more.
     Over,
+    /// All numbers of pairs are used, so a lease could not come back.
+    Memory,
     /// Nothing meets the condition. Something may meet it within this time, if there is one,
     /// although nothing else changes.
     NotYet(Option<Duration>),
@@ -51,8 +59,12 @@ pub trait Seek<T, P: Ord, A: Allocator + Copy> {
     // Holds for what may have met the condition.
     ghost meets: { Self → Self.Found → Type 0 };
 
+    // At what it looks.
+    ghost looks_at: { Sight };
+
     /// At what it looks.
-    fn sight() -> Sight;
+    fn sight() -> Sight
+        ensures { result ≡ looks_at };
 
     /// Looks, and receives what meets the condition, if anything does.
     fn seek(&self, core: &mut Core<T, P, A>) -> (Sought<Self::Found>, Wakes<Waiter<A>, A>)
@@ -60,58 +72,56 @@ pub trait Seek<T, P: Ord, A: Allocator + Copy> {
         ensures { IfFound result.0 (meets self.now) };
 }
 
+// Whether it is due. The error is the time that is left, or None if it never comes. An instant
+// counts as come if the clock cannot be read, as a deadline does.
+fn check_due<C: Clock>(clock: &C, due: Due) -> Result<(), Option<Duration>>
+    ensures comes { IfOk result (λ _. due ≢ Due.Never) }
+    ensures waits { IfErr result (λ _. due ≢ Due.Now) }
+{
+    match due {
+        Due::Now => Ok(()),
+        Due::Never => Err(None),
+        Due::At(instant) => match Reading::of(clock) {
+            Ok(now) if now.at() < instant => Err(Some(instant.duration_since(now.at()))),
+            _ => Ok(()),
+        },
+    }
+}
+
 /// A receive of the first message, once it is due.
 #[derive(Drop)]
 pub struct When<'a, F, C> {
-    pub when: &'a F,
+    pub when: F,
     pub clock: &'a C,
-}
-
-impl<F, C: Clock> When<'_, F, C> {
-    // The error is the time that is left, or None if it never comes. An instant counts as come if
-    // the clock cannot be read, as a deadline does.
-    fn wait(&self, due: Due) -> Result<(), Option<Duration>>
-        ensures comes { IfOk result (λ _. due ≢ Due.Never) }
-        ensures waits { IfErr result (λ _. due ≢ Due.Now) }
-    {
-        match due {
-            Due::Now => Ok(()),
-            Due::Never => Err(None),
-            Due::At(instant) => match Reading::of(self.clock) {
-                Ok(now) if now.at() < instant => Err(Some(instant.duration_since(now.at()))),
-                _ => Ok(()),
-            },
-        }
-    }
 }
 
 impl<T, P: Ord, A: Allocator + Copy, F: Fn(&T, &P) -> Due, C: Clock> Seek<T, P, A>
     for When<'_, F, C> {
     type Found = (T, P);
 
-    ghost can_seek = { λ s. F.IsAlwaysCallable s.when.now };
+    ghost can_seek = { λ s. F.IsAlwaysCallable s.when };
 
-    ghost meets = { λ s pair. ComesDue F.Fn s.when.now pair };
+    ghost meets = { λ s pair. ComesDue F.Fn s.when pair };
 
-    fn sight() -> Sight
-        ensures { result ≡ Sight.First }
-    {
+    ghost looks_at = { Sight.First };
+
+    fn sight() -> Sight {
         Sight::First
     }
 
     fn seek(&self, core: &mut Core<T, P, A>) -> (Sought<(T, P)>, Wakes<Waiter<A>, A>)
-        requires { F.IsAlwaysCallable self.now.when.now }
+        requires { F.IsAlwaysCallable self.now.when }
         ensures received { IfFound result.0 (λ pair. Step P.cmp ⟦<Waiter<A> as Clone>⟧.is_clone
             core.old.state Call.TryRecv (Answer.TryRecv (Ok pair)) result.1 core.new.state) }
-        ensures met { IfFound result.0 (ComesDue F.Fn self.now.when.now) }
+        ensures met { IfFound result.0 (ComesDue F.Fn self.now.when) }
         ensures over { IfOver result.0 (Step P.cmp ⟦<Waiter<A> as Clone>⟧.is_clone core.old.state
             Call.TryRecv (Answer.TryRecv (Err TryRecvError.Closed)) result.1 core.new.state) }
         ensures kept { IfNotYet result.0 ((core.new.state ≡ core.old.state) × (result.1 ≡ nobody)
-            × NoneDue F.Fn self.now.when.now P.cmp core.old.state.pending) }
+            × NoneDue F.Fn self.now.when P.cmp core.old.state.pending) }
     {
         if let Some((msg, priority)) = core.peek() {
             let due = (self.when)(msg, priority);
-            if let Err(within) = self.wait(due) {
+            if let Err(within) = check_due(self.clock, due) {
                 return (Sought::NotYet(within), core.nobody());
             }
         }
@@ -127,43 +137,124 @@ impl<T, P: Ord, A: Allocator + Copy, F: Fn(&T, &P) -> Due, C: Clock> Seek<T, P, 
 
 /// A receive of the most urgent message that passes a test.
 #[derive(Drop)]
-pub struct Where<'a, F> {
-    pub test: &'a F,
+pub struct Where<F> {
+    pub test: F,
 }
 
-impl<T, P: Ord, A: Allocator + Copy, F: Fn(&T, &P) -> bool> Seek<T, P, A> for Where<'_, F> {
+impl<T, P: Ord, A: Allocator + Copy, F: Fn(&T, &P) -> bool> Seek<T, P, A> for Where<F> {
     type Found = (T, P);
 
-    ghost can_seek = { λ s. F.IsAlwaysCallable s.test.now };
+    ghost can_seek = { λ s. F.IsAlwaysCallable s.test };
 
-    ghost meets = { λ s pair. Tells F.Fn s.test.now pair true };
+    ghost meets = { λ s pair. Tells F.Fn s.test pair true };
 
-    fn sight() -> Sight
-        ensures { result ≡ Sight.All }
-    {
+    ghost looks_at = { Sight.All };
+
+    fn sight() -> Sight {
         Sight::All
     }
 
     fn seek(&self, core: &mut Core<T, P, A>) -> (Sought<(T, P)>, Wakes<Waiter<A>, A>)
-        requires { F.IsAlwaysCallable self.now.test.now }
+        requires { F.IsAlwaysCallable self.now.test }
         ensures taken { IfFound result.0 (λ pair.
             (one : TakesOne core.old.state.pending pair core.new.state.pending)
             × Step P.cmp ⟦<Waiter<A> as Clone>⟧.is_clone core.old.state
             (Call.TakeWhere (length one.before)) (Answer.TakeWhere (Some pair)) result.1
             core.new.state
-            × PassesGreatest P.cmp (λ pair. Tells F.Fn self.now.test.now pair true)
-            (λ pair. Tells F.Fn self.now.test.now pair false) one) }
-        ensures met { IfFound result.0 (λ pair. Tells F.Fn self.now.test.now pair true) }
+            × PassesGreatest P.cmp (λ pair. Tells F.Fn self.now.test pair true)
+            (λ pair. Tells F.Fn self.now.test pair false) one) }
+        ensures met { IfFound result.0 (λ pair. Tells F.Fn self.now.test pair true) }
         ensures over { IfOver result.0 (Step P.cmp ⟦<Waiter<A> as Clone>⟧.is_clone core.old.state
             Call.TryRecv (Answer.TryRecv (Err TryRecvError.Closed)) result.1 core.new.state) }
         ensures kept { IfNotYet result.0 ((core.new.state ≡ core.old.state) × (result.1 ≡ nobody)
-            × All (λ pair. Tells F.Fn self.now.test.now pair false) core.old.state.pending) }
+            × All (λ pair. Tells F.Fn self.now.test pair false) core.old.state.pending) }
     {
-        let (received, wakes) = core.try_recv_where(self.test);
+        let (received, wakes) = core.try_recv_where(&self.test);
         let sought = match received {
             Ok(Some(pair)) => Sought::Found(pair),
             Err(TryRecvError::Closed) => Sought::Over,
             Ok(None) | Err(TryRecvError::Empty) => Sought::NotYet(None),
+        };
+        (sought, wakes)
+    }
+}
+
+/// A lease of the first message, once it is due.
+#[derive(Drop)]
+pub struct LeaseWhen<'a, F, C> {
+    pub when: F,
+    pub clock: &'a C,
+}
+
+impl<T, P: Ord, A: Allocator + Copy, F: Fn(&T, &P) -> Due, C: Clock> Seek<T, P, A>
+    for LeaseWhen<'_, F, C> {
+    type Found = (Place, (T, P));
+
+    ghost can_seek = { λ s. F.IsAlwaysCallable s.when };
+
+    ghost meets = { λ s leased. ComesDue F.Fn s.when leased.1 };
+
+    ghost looks_at = { Sight.First };
+
+    fn sight() -> Sight {
+        Sight::First
+    }
+
+    fn seek(&self, core: &mut Core<T, P, A>) -> (Sought<(Place, (T, P))>, Wakes<Waiter<A>, A>)
+        requires { F.IsAlwaysCallable self.now.when }
+        ensures leased { IfFound result.0 (λ leased. Makes P.cmp ⟦<Waiter<A> as Clone>⟧.is_clone
+            core.old.state (Exactly Call.TryLease (Answer.TryLease (Ok leased.1))) result.1
+            core.new.state) }
+        ensures met { IfFound result.0 (λ leased. ComesDue F.Fn self.now.when leased.1) }
+    {
+        if let Some((msg, priority)) = core.peek() {
+            let due = (self.when)(msg, priority);
+            if let Err(within) = check_due(self.clock, due) {
+                return (Sought::NotYet(within), core.nobody());
+            }
+        }
+        let (leased, wakes) = TryLease.make_on(core);
+        let sought = match leased {
+            Ok(leased) => Sought::Found(leased),
+            Err(TryRecvManyError::Closed) => Sought::Over,
+            Err(TryRecvManyError::Empty) => Sought::NotYet(None),
+            Err(TryRecvManyError::Memory) => Sought::Memory,
+        };
+        (sought, wakes)
+    }
+}
+
+/// A lease of the most urgent message that passes a test.
+#[derive(Drop)]
+pub struct LeaseWhere<F> {
+    pub test: F,
+}
+
+impl<T, P: Ord, A: Allocator + Copy, F: Fn(&T, &P) -> bool> Seek<T, P, A> for LeaseWhere<F> {
+    type Found = (Place, (T, P));
+
+    ghost can_seek = { λ s. F.IsAlwaysCallable s.test };
+
+    ghost meets = { λ s leased. Tells F.Fn s.test leased.1 true };
+
+    ghost looks_at = { Sight.All };
+
+    fn sight() -> Sight {
+        Sight::All
+    }
+
+    fn seek(&self, core: &mut Core<T, P, A>) -> (Sought<(Place, (T, P))>, Wakes<Waiter<A>, A>)
+        requires { F.IsAlwaysCallable self.now.test }
+        ensures leased { IfFound result.0 (λ leased. Makes P.cmp ⟦<Waiter<A> as Clone>⟧.is_clone
+            core.old.state (Leases leased.1) result.1 core.new.state) }
+        ensures met { IfFound result.0 (λ leased. Tells F.Fn self.now.test leased.1 true) }
+    {
+        let (leased, wakes) = TryLeaseWhere { test: &self.test }.make_on(core);
+        let sought = match leased {
+            Ok(Some(leased)) => Sought::Found(leased),
+            Err(TryRecvManyError::Closed) => Sought::Over,
+            Ok(None) | Err(TryRecvManyError::Empty) => Sought::NotYet(None),
+            Err(TryRecvManyError::Memory) => Sought::Memory,
         };
         (sought, wakes)
     }
@@ -180,9 +271,9 @@ impl<T, P: Ord, A: Allocator + Copy> Seek<T, P, A> for UntilClosed {
 
     ghost meets = { λ _ _. ⊤ };
 
-    fn sight() -> Sight
-        ensures { result ≡ Sight.Close }
-    {
+    ghost looks_at = { Sight.Close };
+
+    fn sight() -> Sight {
         Sight::Close
     }
 

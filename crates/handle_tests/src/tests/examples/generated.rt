@@ -21,39 +21,41 @@ const FLAKY: u64 = 8;
 
 const STEADY: u64 = 9;
 
-const LUNCH: u64 = 10;
+const REINDEX: u64 = 10;
 
-const BREAKFAST: u64 = 11;
+const PAGE_THE_ADMIN: u64 = 11;
 
 const TEST: u64 = 12;
 
-const WATER_THE_PLANTS: u64 = 13;
+const CALL_BACK: u64 = 13;
 
-const FIRST: u64 = 14;
+const PAUSED: u64 = 14;
 
-const SECOND: u64 = 15;
+const LUNCH: u64 = 15;
 
-const URGENT: u64 = 16;
+const BREAKFAST: u64 = 16;
 
-const BOIL_THE_WATER: u64 = 17;
+const WATER_THE_PLANTS: u64 = 17;
 
-const PAUSED: u64 = 18;
+const FIRST: u64 = 18;
 
-const REPORT: u64 = 19;
+const SECOND: u64 = 19;
 
-const THUMBNAIL: u64 = 20;
+const URGENT: u64 = 20;
 
-const PAYMENT: u64 = 21;
+const BOIL_THE_WATER: u64 = 21;
 
-const DEPLOY: u64 = 22;
+const REPORT: u64 = 22;
 
-const BAZ: u64 = 23;
+const THUMBNAIL: u64 = 23;
 
-const REINDEX: u64 = 24;
+const PAYMENT: u64 = 24;
 
-const PAGE_THE_ADMIN: u64 = 25;
+const DEPLOY: u64 = 25;
 
-const TEA: u64 = 26;
+const BAZ: u64 = 26;
+
+const TEA: u64 = 27;
 
 #[test]
 fn example_of_receiver_recv_blocking(rt: HostRuntime) {
@@ -517,6 +519,124 @@ fn example_of_receiver_leases(rt: HostRuntime) {
 }
 
 #[test]
+fn example_of_receiver_try_lease_if(rt: HostRuntime) {
+    let (tx, rx) = unbounded(&rt, rt.alloc()).expect(&rt, "unbounded");
+    tx.try_send(REINDEX, 1).expect(&rt, "try_send");
+    expect_true(
+        &rt,
+        rx.try_lease_if(|_, priority| *priority > 5)
+            .expect(&rt, "try_lease_if")
+            .is_none(),
+    );
+    tx.try_send(PAGE_THE_ADMIN, 9).expect(&rt, "try_send");
+    let urgent = rx
+        .try_lease_if(|_, priority| *priority > 5)
+        .expect(&rt, "try_lease_if")
+        .ok_or("none")
+        .expect(&rt, "ok_or");
+    expect_equal(&rt, urgent.finish(), (PAGE_THE_ADMIN, 9));
+}
+
+#[test]
+fn example_of_receiver_try_lease_where(rt: HostRuntime) {
+    let (tx, rx) = unbounded(&rt, rt.alloc()).expect(&rt, "unbounded");
+    let jobs = [(COMPILE, 2), (LINK, 1), (TEST, 3)];
+    tx.try_sendv(jobs.into_iter().peekable())
+        .expect(&rt, "try_sendv");
+    let lease = rx
+        .try_lease_where(|job, _| *job == LINK)
+        .expect(&rt, "try_lease_where")
+        .ok_or("none")
+        .expect(&rt, "ok_or");
+    expect_equal(&rt, *lease.message(), LINK);
+    drop(lease);
+    expect_equal(&rt, rx.len(), 3);
+}
+
+#[test]
+fn example_of_receiver_lease_when_blocking(rt: HostRuntime) {
+    let (tx, rx) = unbounded(&rt, rt.alloc()).expect(&rt, "unbounded");
+    let now = Instant::now(&rt).expect(&rt, "now");
+    tx.try_send(CALL_BACK, Reverse(now)).expect(&rt, "try_send");
+    let later = now
+        .checked_add(Duration::from_millis(5))
+        .ok_or("too late")
+        .expect(&rt, "ok_or");
+    rx.lease_when_blocking(|_, due| Due::At(due.0))
+        .expect(&rt, "lease_when_blocking")
+        .put_back(Reverse(later));
+    rx.lease_when_blocking(|_, due| Due::At(due.0))
+        .expect(&rt, "lease_when_blocking")
+        .finish();
+    expect_true(&rt, later <= Instant::now(&rt).expect(&rt, "now"));
+}
+
+#[test]
+fn example_of_receiver_lease_when_timeout(rt: HostRuntime) {
+    let (tx, rx) = unbounded(&rt, rt.alloc()).expect(&rt, "unbounded");
+    tx.try_send(PAUSED, 1).expect(&rt, "try_send");
+    let limit = Duration::from_millis(5);
+    let late = rx.lease_when_timeout(|_, _| Due::Never, limit);
+    expect_true(&rt, late.is_err_and(|error| error.is_timeout()));
+    let lease = rx
+        .lease_when_timeout(|_, _| Due::Now, limit)
+        .expect(&rt, "lease_when_timeout");
+    expect_equal(&rt, lease.finish(), (PAUSED, 1));
+}
+
+#[test]
+fn example_of_receiver_lease_when_deadline(rt: HostRuntime) {
+    let (tx, rx) = unbounded(&rt, rt.alloc()).expect(&rt, "unbounded");
+    tx.try_send(FOO, 0).expect(&rt, "try_send");
+    let now = Instant::now(&rt).expect(&rt, "now");
+    let lease = rx
+        .lease_when_deadline(|_, _| Due::At(now), now)
+        .expect(&rt, "lease_when_deadline");
+    expect_equal(&rt, lease.finish(), (FOO, 0));
+}
+
+#[test]
+fn example_of_receiver_lease_where_blocking(rt: HostRuntime) {
+    let (tx, rx) = unbounded(&rt, rt.alloc()).expect(&rt, "unbounded");
+    tx.try_send(COMPILE, 2).expect(&rt, "try_send");
+    tx.try_send(LINK, 1).expect(&rt, "try_send");
+    let lease = rx
+        .lease_where_blocking(|job, _| *job == LINK)
+        .expect(&rt, "lease_where_blocking");
+    expect_equal(&rt, lease.finish(), (LINK, 1));
+}
+
+#[test]
+fn example_of_receiver_lease_where_timeout(rt: HostRuntime) {
+    let (tx, rx) = unbounded(&rt, rt.alloc()).expect(&rt, "unbounded");
+    tx.try_send(COMPILE, 2).expect(&rt, "try_send");
+    let limit = Duration::from_millis(5);
+    let late = rx.lease_where_timeout(|job, _| *job == LINK, limit);
+    expect_true(&rt, late.is_err_and(|error| error.is_timeout()));
+    expect_equal(&rt, rx.len(), 1);
+}
+
+#[test]
+fn example_of_receiver_lease_where_deadline(rt: HostRuntime) {
+    let (tx, rx) = unbounded(&rt, rt.alloc()).expect(&rt, "unbounded");
+    tx.try_send(FOO, 0).expect(&rt, "try_send");
+    let now = Instant::now(&rt).expect(&rt, "now");
+    let lease = rx
+        .lease_where_deadline(|_, _| true, now)
+        .expect(&rt, "lease_where_deadline");
+    expect_equal(&rt, lease.finish(), (FOO, 0));
+}
+
+#[test]
+fn example_of_receiver_lease_where(rt: HostRuntime) {
+    let (tx, rx) = unbounded(&rt, rt.alloc()).expect(&rt, "unbounded");
+    tx.try_send(COMPILE, 2).expect(&rt, "try_send");
+    tx.try_send(LINK, 1).expect(&rt, "try_send");
+    let lease = wait_for(&rt, rx.lease_where(|job, _| *job == LINK)).expect(&rt, "wait_for");
+    expect_equal(&rt, lease.finish(), (LINK, 1));
+}
+
+#[test]
 fn example_of_order(rt: HostRuntime) {
     let (tx, rx) = unbounded(&rt, rt.alloc()).expect(&rt, "unbounded");
     let jobs = [(TIDY_UP, 1), (PUT_OUT_THE_FIRE, 9)];
@@ -925,6 +1045,15 @@ fn example_of_receiver_recv_where_deadline(rt: HostRuntime) {
     tx.try_send(FOO, 0).expect(&rt, "try_send");
     let now = Instant::now(&rt).expect(&rt, "now");
     expect_equal(&rt, rx.recv_where_deadline(|_, _| true, now), Ok((FOO, 0)));
+}
+
+#[test]
+fn example_of_receiver_recv_where(rt: HostRuntime) {
+    let (tx, rx) = unbounded(&rt, rt.alloc()).expect(&rt, "unbounded");
+    tx.try_send(COMPILE, 2).expect(&rt, "try_send");
+    tx.try_send(LINK, 1).expect(&rt, "try_send");
+    let received = wait_for(&rt, rx.recv_where(|job, _| *job == LINK));
+    expect_equal(&rt, received, Ok((LINK, 1)));
 }
 
 #[test]
