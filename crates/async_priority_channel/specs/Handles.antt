@@ -59,9 +59,16 @@ pub record Batching (X : Type 0) : Type 0 where
   pub batch : List X
   pub is_done : Bool
 
--- a future and what it waits for, the ticket under which it is listed, and whether it has answered
-pub record Watching (C : Type 0) : Type 0 where
+-- a future that waits for a place or for a message that keeps its place, the ticket under which it
+-- is listed, and whether it has answered
+pub record Watching : Type 0 where
   pub channel : Channel
-  pub call : C
+  pub ticket : Option ℕ
+  pub is_done : Bool
+
+-- a future that waits with a condition, or for the close
+pub record Sought (C : Type 0) : Type 0 where
+  pub channel : Channel
+  pub seek : C
   pub ticket : Option ℕ
   pub is_done : Bool

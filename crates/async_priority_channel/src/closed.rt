@@ -3,8 +3,9 @@ ghost use Rattle.std.specs.Prelude.{◌≡◌, None, IfOk, IfErr, false};
 
 use crate::end::{End, Role};
 use crate::handle::Handle;
-use crate::waiting::{Calling, Closed};
+use crate::waiting::{Closed, Seeking};
 use priority_channel_waiting::seeking::UntilClosed;
+use priority_channel_waiting::selecting::Sight;
 use priority_channel_waiting::timeouts::Ended;
 use priority_channel_waiting::until::{Deadline, Endless, Until};
 use std::alloc::{AllocError, Allocator};
@@ -31,12 +32,12 @@ impl<S: Role, T, P: Ord, R: Wait + Clone, A: Allocator + Copy> End<S, T, P, R, A
     pub fn closed(&self) -> Closed<'_, S, T, P, R, A>
         ensures { result ≡ record {
           channel = self.now;
-          call = record {};
+          seek = record {};
           ticket = None;
           is_done = false;
         } }
     {
-        Calling::new(self, UntilClosed)
+        Seeking::new(self, UntilClosed, Sight::Close)
     }
 
     /// Waits for the close of the channel on this thread, which sleeps meanwhile. It returns at

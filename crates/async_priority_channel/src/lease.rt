@@ -291,12 +291,7 @@ impl<T: Drop, P: Ord + Drop, R: Wait + Clone, A: Allocator + Copy> Receiver<T, P
     /// assert_eq!(rt; sending.join(&rt), Ok(()));
     /// ```
     pub fn lease(&self) -> LeaseNext<'_, T, P, R, A>
-        ensures { result ≡ record {
-          channel = self.now;
-          call = record {};
-          ticket = None;
-          is_done = false;
-        } }
+        ensures { result ≡ record { channel = self.now; ticket = None; is_done = false } }
     {
         Calling::new(self, ReceiveHeld)
     }

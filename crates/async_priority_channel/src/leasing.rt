@@ -5,10 +5,11 @@ ghost use Rattle.priority_channel_waiting.specs.Seeking.{ComesDue};
 
 use crate::lease::Lease;
 use crate::receiver::Receiver;
-use crate::waiting::{Calling, LeaseNextWhere};
+use crate::waiting::{LeaseNextWhere, Seeking};
 use priority_channel_calls::places::{TryLeaseIf, TryLeaseWhere};
 use priority_channel_core::errors::{RecvFault, TryRecvManyError};
 use priority_channel_waiting::seeking::{Due, LeaseWhen, LeaseWhere};
+use priority_channel_waiting::selecting::Sight;
 use priority_channel_waiting::timeouts::RecvTimeoutError;
 use priority_channel_waiting::until::{Deadline, Endless};
 use std::alloc::Allocator;
@@ -277,11 +278,11 @@ impl<T: Drop, P: Ord + Drop, R: Wait + Clone, A: Allocator + Copy> Receiver<T, P
     pub fn lease_where<F: Fn(&T, &P) -> bool>(&self, test: F) -> LeaseNextWhere<'_, F, T, P, R, A>
         ensures { result ≡ record {
           channel = self.now;
-          call = record { test = test };
+          seek = record { test = test };
           ticket = None;
           is_done = false;
         } }
     {
-        Calling::new(self, LeaseWhere { test })
+        Seeking::new(self, LeaseWhere { test }, Sight::All)
     }
 }

@@ -191,12 +191,7 @@ impl<T, P: Ord, R: Wait + Clone, A: Allocator + Copy> Sender<T, P, R, A> {
     /// assert_eq!(rt; rx.try_recv(), Ok(("Bar", 2)));
     /// ```
     pub fn reserve(&self) -> Reserve<'_, T, P, R, A>
-        ensures { result ≡ record {
-          channel = self.now;
-          call = tt;
-          ticket = None;
-          is_done = false;
-        } }
+        ensures { result ≡ record { channel = self.now; ticket = None; is_done = false } }
     {
         Calling::new(self, ())
     }

@@ -7,11 +7,11 @@
 ghost use Rattle.std.specs.Prelude.{◌≡◌, true, false, None, IfOk, IfErr, IsSome, OnErr};
 ghost use Rattle.priority_channel_core.specs.bag.Prelude.{Tells};
 ghost use Rattle.priority_channel_waiting.specs.Ends.{OnOver};
-ghost use Rattle.priority_channel_waiting.specs.Seeking.{ComesDue, IfFound, IfNotYet, IfOver};
+ghost use Rattle.priority_channel_waiting.specs.Seeking.{ComesDue, IfEnded, IfFound, IfNotYet};
 
 use crate::handle::Handle;
 use crate::receiver::Receiver;
-use crate::waiting::{Calling, RecvWhere};
+use crate::waiting::{RecvWhere, Seeking};
 use priority_channel_core::errors::RecvFault;
 use priority_channel_waiting::seeking::{Due, Seek, Sought, When, Where};
 use priority_channel_waiting::selecting::{Listed, Sight};
@@ -210,12 +210,12 @@ impl<T, P: Ord, R: Wait + Clone, A: Allocator + Copy> Receiver<T, P, R, A> {
     pub fn recv_where<F: Fn(&T, &P) -> bool>(&self, test: F) -> RecvWhere<'_, F, T, P, R, A>
         ensures { result ≡ record {
           channel = self.now;
-          call = record { test = test };
+          seek = record { test = test };
           ticket = None;
           is_done = false;
         } }
     {
-        Calling::new(self, Where { test })
+        Seeking::new(self, Where { test }, Sight::All)
     }
 }
 
@@ -297,7 +297,7 @@ impl<T, P: Ord, R: Wait + Clone, A: Allocator + Copy> Handle<T, P, R, A> {
         requires { S.can_seek seek.now }
         ensures found { IfOk result (λ sought. IfFound sought (S.meets seek.now)) }
         ensures listed { IfOk result (λ sought. IfNotYet sought (IsSome ticket.new)) }
-        ensures over { IfOk result (λ sought. IfOver sought (ticket.new ≡ None)) }
+        ensures ended { IfOk result (λ sought. IfEnded sought (ticket.new ≡ None)) }
         ensures refused { OnErr result (ticket.new ≡ None) }
     {
         let given = ticket.take();

@@ -5,8 +5,8 @@ mod sought;
 mod task;
 mod transfer;
 
-pub use call::{Awaited, Calling, LeaseNext, Reserve};
+pub use call::{Calling, LeaseNext, Reserve};
 pub use priority_channel_waiting::states::{RecvState, SendState, SendvState};
-pub use sought::{Closed, LeaseNextWhere, RecvWhere};
+pub use sought::{Closed, LeaseNextWhere, RecvWhere, Seeking};
 pub(crate) use task::Task;
 pub use transfer::{Recv, Send, Sendv, Waiting};

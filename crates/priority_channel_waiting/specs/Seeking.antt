@@ -21,6 +21,11 @@ module _ {X : Type 0} where
   IfOver Memory fact = ⊤
   IfOver (NotYet within) fact = ⊤
 
+  -- the wait is over, with or without what it was for
+  abbrev pub IfEnded : Sought X → Type 0 → Type 0
+  IfEnded (NotYet within) fact = ⊤
+  IfEnded ended fact = fact
+
   abbrev pub IfNotYet : Sought X → Type 0 → Type 0
   IfNotYet (Found pair) fact = ⊤
   IfNotYet Over fact = ⊤

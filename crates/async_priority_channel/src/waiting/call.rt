@@ -1,9 +1,10 @@
-//! The futures that wait for a place, for a message that keeps its place or meets a condition, or
-//! for the close.
-ghost use Rattle.std.specs.Prelude.{◌≡◌, ⊤, true, false, None, IfOk, IsSome};
+//! The futures that wait for a place, or for a message that keeps its place.
+ghost use Rattle.std.specs.Prelude.{◌≡◌, ⊤, true, false, None, IfOk, IsSome, Result};
 ghost use Rattle.futures.specs.Task.{Covers, Keeps};
 ghost use Rattle.futures.specs.Poll.{IfReady, OnPending};
-ghost use Rattle.async_priority_channel.specs.Handles.{source_of};
+ghost use Rattle.priority_channel_core.specs.declared.errors.RecvFault.{RecvFault};
+ghost use Rattle.priority_channel_core.specs.declared.errors.SendFault.{SendFault};
+ghost use Rattle.async_priority_channel.specs.Handles.{source_of, Channel, Leased};
 
 use crate::end::{End, Role};
 use crate::handle::Handle;
@@ -22,45 +23,6 @@ use std::alloc::{Allocator, Global};
 use std::convert::Infallible;
 use std::marker::Model;
 use std::sync::Wait;
-
-/// What a `Calling` waits for.
-pub trait Awaited<'a, T, P: Ord, R, A: Allocator + Copy>: Sized {
-    ghost use Rattle.std.specs.Prelude.{ℕ, Option};
-    ghost use Rattle.async_priority_channel.specs.Handles.{Channel};
-
-    type Output;
-
-    // Holds for what may be polled.
-    ghost can_wait: { Self → Type 0 } = { λ _. ⊤ };
-
-    // The source at which its task waits.
-    ghost waits_at: { Channel → ℕ };
-
-    // Holds for the answers that it may give over a channel.
-    ghost tells: { Self → Channel → Self.Output → Type 0 };
-
-    // Holds for the ticket with which it may wait.
-    ghost waits_with: { Option ℕ → Type 0 } = { λ _. ⊤ };
-
-    /// Answers, or has the waker of the task listed.
-    fn poll_on(
-        &self,
-        handle: &'a Handle<T, P, R, A>,
-        cx: &mut Context<'_>,
-        ticket: &mut Option<u64>,
-        waiter: &mut Option<Waiter<A>>,
-    ) -> Poll<Self::Output>
-        requires { can_wait self.now }
-        ensures value { IfReady result (tells self.now handle.now) }
-        ensures registered { OnPending result (Covers cx.new (λ source.
-            source ≡ waits_at handle.now)) }
-        ensures kept { Keeps cx.old cx.new }
-        ensures answered { IfReady result (λ _. ticket.new ≡ None) }
-        ensures listed { OnPending result (waits_with ticket.new) };
-
-    /// Takes the ticket off its list.
-    fn give_up(handle: &Handle<T, P, R, A>, ticket: Option<u64>);
-}
 
 impl<T, P: Ord, R: Wait + Clone, A: Allocator + Copy> Handle<T, P, R, A> {
     // Makes a task's call, in one step and without memory for waiting. If the call is blocked, has
@@ -124,23 +86,16 @@ impl<T, P: Ord, R: Wait + Clone, A: Allocator + Copy> Handle<T, P, R, A> {
     }
 }
 
-/// A `Reserve`, a `LeaseNext`, a `RecvWhere`, a `LeaseWhere` or a `Closed`: what it waits for, and
-/// the handle by which it waits. If it is dropped, it waits no more.
+/// A `Reserve` or a `LeaseNext`: the call that it makes at each poll, and the handle by which it
+/// waits. If it is dropped, it waits no more.
 ///
 /// Once it has answered it is done. A poll of a done future is pending, and asks to be polled
 /// again; nothing else changes.
 ///
-/// Cost: as a `Waiting`, but a poll that has to wait tries twice.
+/// Cost: as a `Waiting`, but a poll also makes a second try if what it waits for comes before it is
+/// listed.
 #[must_use = "a future does nothing until it is polled: `block_on`, or a call in `_blocking`"]
-pub struct Calling<
-    'a,
-    S: Role,
-    C: Awaited<'a, T, P, R, A>,
-    T,
-    P: Ord,
-    R: Wait + Clone,
-    A: Allocator + Copy = Global,
-> {
+pub struct Calling<'a, S: Role, C: Copy, T, P: Ord, R: Wait + Clone, A: Allocator + Copy = Global> {
     end: &'a End<S, T, P, R, A>,
     call: C,
     ticket: Option<u64>,
@@ -148,36 +103,30 @@ pub struct Calling<
     is_done: bool,
 }
 
-impl<'a, S: Role, C: Awaited<'a, T, P, R, A>, T, P: Ord, R: Wait + Clone, A: Allocator + Copy> Model
+impl<'a, S: Role, C: Copy, T, P: Ord, R: Wait + Clone, A: Allocator + Copy> Model
     for Calling<'a, S, C, T, P, R, A> {
     ghost use Rattle.async_priority_channel.specs.Handles.{Watching};
 
-    ghost Value = { Watching C };
+    ghost Value = { Watching };
 
     ghost view = { λ f. record {
       channel = f.end.now;
-      call = f.call;
       ticket = f.ticket;
       is_done = f.is_done;
     } };
 }
 
-impl<
+impl<'a, S: Role, C: Copy, T, P: Ord, R: Wait + Clone, A: Allocator + Copy> Calling<
     'a,
-    S: Role,
-    C: Awaited<'a, T, P, R, A>,
+    S,
+    C,
     T,
-    P: Ord,
-    R: Wait + Clone,
-    A: Allocator + Copy,
-> Calling<'a, S, C, T, P, R, A> {
+    P,
+    R,
+    A,
+> {
     pub(crate) fn new(end: &'a End<S, T, P, R, A>, call: C) -> Self
-        ensures { result ≡ record {
-          channel = end.now;
-          call = call;
-          ticket = None;
-          is_done = false;
-        } }
+        ensures { result ≡ record { channel = end.now; ticket = None; is_done = false } }
     {
         Calling {
             end,
@@ -189,72 +138,17 @@ impl<
     }
 }
 
-impl<
-    'a,
-    S: Role,
-    C: Awaited<'a, T, P, R, A> + Drop,
-    T,
-    P: Ord,
-    R: Wait + Clone,
-    A: Allocator + Copy,
-> Future for Calling<'a, S, C, T, P, R, A> {
-    type Output = C::Output;
-
-    ghost can_poll = { λ f. C.can_wait f.call };
-
-    ghost needs = { λ f source. source ≡ C.waits_at f.channel };
-
-    ghost gives = { λ f answer. C.tells f.call f.channel answer };
-
-    fn poll(&mut self, cx: &mut Context<'_>) -> Poll<Self::Output>
-        requires { C.can_wait self.old.call }
-        ensures value { IfReady result (C.tells self.old.call self.old.channel) }
-        ensures again { OnPending result (C.can_wait self.new.call) }
-        ensures same { OnPending result ((answer : C.Output)
-            → C.tells self.new.call self.new.channel answer
-            → C.tells self.old.call self.old.channel answer) }
-        ensures registered { OnPending result (Covers cx.new (λ source.
-            source ≡ C.waits_at self.new.channel)) }
-        ensures kept { Keeps cx.old cx.new }
-        ensures channel { self.new.channel ≡ self.old.channel }
-        ensures call { self.new.call ≡ self.old.call }
-        ensures answered { IfReady result (λ _. (self.new.is_done ≡ true)
-            × (self.new.ticket ≡ None)) }
-        ensures waits { self.old.is_done ≡ false → OnPending result ((self.new.is_done ≡ false)
-            × C.waits_with self.new.ticket) }
-        ensures done { self.old.is_done ≡ true → (result ≡ Poll.Pending) × (self.new ≡ self.old) }
-    {
-        if self.is_done {
-            return cx.yield_now();
-        }
-        let end = self.end;
-        let polled = self
-            .call
-            .poll_on(&end.handle, cx, &mut self.ticket, &mut self.waiter);
-        self.is_done = polled.is_ready();
-        polled
-    }
-}
-
-impl<
-    'a,
-    S: Role,
-    C: Awaited<'a, T, P, R, A> + Drop,
-    T,
-    P: Ord,
-    R: Wait + Clone,
-    A: Allocator + Copy,
-> Drop for Calling<'a, S, C, T, P, R, A> {
+impl<S: Role, C: Copy, T, P: Ord, R: Wait + Clone, A: Allocator + Copy> Drop
+    for Calling<'_, S, C, T, P, R, A> {
     fn drop(self) {
         let Calling {
             end,
-            call,
+            call: _,
             ticket,
             waiter,
             is_done: _,
         } = self;
-        C::give_up(&end.handle, ticket);
-        drop(call);
+        end.handle.give_up(ticket);
         drop(waiter);
     }
 }
@@ -266,30 +160,43 @@ impl<
 /// Cost: as `try_reserve` for each try (see `Calling`).
 pub type Reserve<'a, T, P, R, A = Global> = Calling<'a, Sending, (), T, P, R, A>;
 
-impl<'a, T: 'a, P: Ord + 'a, R: Wait + Clone + 'a, A: Allocator + Copy + 'a> Awaited<'a, T, P, R, A>
-    for () {
+impl<'a, T, P: Ord, R: Wait + Clone, A: Allocator + Copy> Future for Reserve<'a, T, P, R, A> {
     type Output = Result<Permit<'a, T, P, R, A>, SendFault<()>>;
 
-    ghost waits_at = { λ channel. channel.room };
+    ghost needs = { λ f source. source ≡ f.channel.room };
 
-    ghost tells = { λ call channel answer. IfOk answer (λ permit. permit ≡ channel) };
+    ghost gives = { λ f answer. IfOk answer (λ permit. permit ≡ f.channel) };
 
-    fn poll_on(
-        &self,
-        handle: &'a Handle<T, P, R, A>,
-        cx: &mut Context<'_>,
-        ticket: &mut Option<u64>,
-        waiter: &mut Option<Waiter<A>>,
-    ) -> Poll<Self::Output> {
-        match handle.poll_call(cx, (), ticket, waiter) {
-            Poll::Ready(Ok(place)) => Poll::Ready(Ok(Permit::of(handle, place))),
-            Poll::Ready(Err(ended)) => Poll::Ready(Err(SendFault::from(ended))),
-            Poll::Pending => Poll::Pending,
+    fn poll(&mut self, cx: &mut Context<'_>) -> Poll<Self::Output>
+        ensures value { IfReady result (λ answer. IfOk answer (λ permit.
+            permit ≡ self.old.channel)) }
+        ensures again { OnPending result ⊤ }
+        ensures same { OnPending result ((x : Result Channel (SendFault ⊤))
+            → IfOk x (λ permit. permit ≡ self.new.channel)
+            → IfOk x (λ permit. permit ≡ self.old.channel)) }
+        ensures registered { OnPending result (Covers cx.new (λ source.
+            source ≡ self.new.channel.room)) }
+        ensures kept { Keeps cx.old cx.new }
+        ensures channel { self.new.channel ≡ self.old.channel }
+        ensures answered { IfReady result (λ _. (self.new.is_done ≡ true)
+            × (self.new.ticket ≡ None)) }
+        ensures waits { OnPending result (self.new.is_done ≡ self.old.is_done) }
+        ensures done { self.old.is_done ≡ true → (result ≡ Poll.Pending) × (self.new ≡ self.old) }
+    {
+        if self.is_done {
+            return cx.yield_now();
         }
-    }
-
-    fn give_up(handle: &Handle<T, P, R, A>, ticket: Option<u64>) {
-        handle.give_up(ticket);
+        let end = self.end;
+        let handle = &end.handle;
+        let polled = handle.poll_call(cx, (), &mut self.ticket, &mut self.waiter);
+        let Poll::Ready(reserved) = polled else {
+            return Poll::Pending;
+        };
+        self.is_done = true;
+        Poll::Ready(match reserved {
+            Ok(place) => Ok(Permit::of(handle, place)),
+            Err(ended) => Err(SendFault::from(ended)),
+        })
     }
 }
 
@@ -300,34 +207,43 @@ impl<'a, T: 'a, P: Ord + 'a, R: Wait + Clone + 'a, A: Allocator + Copy + 'a> Awa
 /// Cost: as `try_lease` for each try (see `Calling`).
 pub type LeaseNext<'a, T, P, R, A = Global> = Calling<'a, Receiving, ReceiveHeld, T, P, R, A>;
 
-impl<'a, T: Drop + 'a, P: Ord + Drop + 'a, R: Wait + Clone + 'a, A: Allocator + Copy + 'a> Awaited<
-    'a,
-    T,
-    P,
-    R,
-    A,
-> for ReceiveHeld {
+impl<'a, T: Drop, P: Ord + Drop, R: Wait + Clone, A: Allocator + Copy> Future
+    for LeaseNext<'a, T, P, R, A> {
     type Output = Result<Lease<'a, T, P, R, A>, RecvFault>;
 
-    ghost waits_at = { λ channel. channel.message };
+    ghost needs = { λ f source. source ≡ f.channel.message };
 
-    ghost tells = { λ call channel answer. IfOk answer (λ lease. lease.channel ≡ channel) };
+    ghost gives = { λ f answer. IfOk answer (λ lease. lease.channel ≡ f.channel) };
 
-    fn poll_on(
-        &self,
-        handle: &'a Handle<T, P, R, A>,
-        cx: &mut Context<'_>,
-        ticket: &mut Option<u64>,
-        waiter: &mut Option<Waiter<A>>,
-    ) -> Poll<Self::Output> {
-        match handle.poll_call(cx, ReceiveHeld, ticket, waiter) {
-            Poll::Ready(Ok(leased)) => Poll::Ready(Ok(Lease::of(handle, leased))),
-            Poll::Ready(Err(ended)) => Poll::Ready(Err(RecvFault::from(ended))),
-            Poll::Pending => Poll::Pending,
+    fn poll(&mut self, cx: &mut Context<'_>) -> Poll<Self::Output>
+        ensures value { IfReady result (λ answer. IfOk answer (λ lease.
+            lease.channel ≡ self.old.channel)) }
+        ensures again { OnPending result ⊤ }
+        ensures same { OnPending result ((x : Result (Leased T P) RecvFault)
+            → IfOk x (λ lease. lease.channel ≡ self.new.channel)
+            → IfOk x (λ lease. lease.channel ≡ self.old.channel)) }
+        ensures registered { OnPending result (Covers cx.new (λ source.
+            source ≡ self.new.channel.message)) }
+        ensures kept { Keeps cx.old cx.new }
+        ensures channel { self.new.channel ≡ self.old.channel }
+        ensures answered { IfReady result (λ _. (self.new.is_done ≡ true)
+            × (self.new.ticket ≡ None)) }
+        ensures waits { OnPending result (self.new.is_done ≡ self.old.is_done) }
+        ensures done { self.old.is_done ≡ true → (result ≡ Poll.Pending) × (self.new ≡ self.old) }
+    {
+        if self.is_done {
+            return cx.yield_now();
         }
-    }
-
-    fn give_up(handle: &Handle<T, P, R, A>, ticket: Option<u64>) {
-        handle.give_up(ticket);
+        let end = self.end;
+        let handle = &end.handle;
+        let polled = handle.poll_call(cx, ReceiveHeld, &mut self.ticket, &mut self.waiter);
+        let Poll::Ready(leased) = polled else {
+            return Poll::Pending;
+        };
+        self.is_done = true;
+        Poll::Ready(match leased {
+            Ok(leased) => Ok(Lease::of(handle, leased)),
+            Err(ended) => Err(RecvFault::from(ended)),
+        })
     }
 }

@@ -1,14 +1,16 @@
 //! The futures that wait for a message that passes a test, or for the close.
-ghost use Rattle.std.specs.Prelude.{◌≡◌, ⊤, true, None, IfOk, IfSome, IsSome};
+ghost use Rattle.std.specs.Prelude.{◌≡◌, ⊤, true, false, None, IfOk, IfSome, IsSome, Result};
 ghost use Rattle.futures.specs.Task.{Covers, Keeps};
 ghost use Rattle.futures.specs.Poll.{IfReady, OnPending};
 ghost use Rattle.priority_channel_core.specs.bag.Prelude.{Tells};
-ghost use Rattle.async_priority_channel.specs.Handles.{source_beside};
+ghost use Rattle.priority_channel_core.specs.declared.errors.RecvFault.{RecvFault};
+ghost use Rattle.async_priority_channel.specs.Handles.{source_beside, Leased};
 
+use crate::end::{End, Role};
 use crate::handle::Handle;
 use crate::lease::Lease;
 use crate::receiver::Receiving;
-use crate::waiting::{Awaited, Calling};
+use futures::Future;
 use futures::task::{Context, Poll};
 use priority_channel_core::errors::RecvFault;
 use priority_channel_waiting::seeking::{LeaseWhere, Seek, Sought, UntilClosed, Where};
@@ -17,6 +19,7 @@ use priority_channel_waiting::timeouts::Ended;
 use priority_channel_waiting::waiter::Waiter;
 use std::alloc::{AllocError, Allocator, Global};
 use std::convert::Infallible;
+use std::marker::Model;
 use std::sync::Wait;
 
 impl<T, P: Ord, R: Wait + Clone, A: Allocator + Copy> Handle<T, P, R, A> {
@@ -74,42 +77,128 @@ impl<T, P: Ord, R: Wait + Clone, A: Allocator + Copy> Handle<T, P, R, A> {
     }
 }
 
-/// Waits for the close of a channel. `End::closed` makes it.
+/// A `Closed`, a `RecvWhere` or a `LeaseNextWhere`: what it looks for at each poll, and the handle by
+/// which it waits. If it is dropped, it waits no more.
 ///
-/// The error is that memory for waiting was refused.
+/// Once it has answered it is done. A poll of a done future is pending, and asks to be polled
+/// again; nothing else changes.
 ///
-/// Cost: no comparison. A poll that has to wait takes memory for its waiter, which is kept, and for
-/// its entry in a list. The first wait for the close or with a condition also takes memory for
+/// Cost: a poll that has to wait looks twice. It takes memory for its waiter, which is kept, and
+/// for its entry in a list. The first wait for the close or with a condition also takes memory for
 /// these lists.
-pub type Closed<'a, S, T, P, R, A = Global> = Calling<'a, S, UntilClosed, T, P, R, A>;
+#[must_use = "a future does nothing until it is polled: `block_on`, or a call in `_blocking`"]
+pub struct Seeking<'a, S: Role, C, T, P: Ord, R: Wait + Clone, A: Allocator + Copy = Global> {
+    end: &'a End<S, T, P, R, A>,
+    seek: C,
+    sight: Sight,
+    ticket: Option<u64>,
+    waiter: Option<Waiter<A>>,
+    is_done: bool,
+}
 
-impl<'a, T, P: Ord, R: Wait + Clone, A: Allocator + Copy> Awaited<'a, T, P, R, A> for UntilClosed {
-    type Output = Result<(), AllocError>;
+impl<'a, S: Role, C, T, P: Ord, R: Wait + Clone, A: Allocator + Copy> Model
+    for Seeking<'a, S, C, T, P, R, A> {
+    ghost use Rattle.async_priority_channel.specs.Handles.{Sought};
 
-    ghost waits_at = { λ channel. channel.closing };
+    ghost Value = { Sought C };
 
-    ghost tells = { λ call channel answer. ⊤ };
+    ghost view = { λ f. record {
+      channel = f.end.now;
+      seek = f.seek;
+      ticket = f.ticket;
+      is_done = f.is_done;
+    } };
+}
 
-    ghost waits_with = { λ ticket. IsSome ticket };
-
-    fn poll_on(
-        &self,
-        handle: &'a Handle<T, P, R, A>,
-        cx: &mut Context<'_>,
-        ticket: &mut Option<u64>,
-        waiter: &mut Option<Waiter<A>>,
-    ) -> Poll<Self::Output> {
-        match handle.poll_sought(self, cx, ticket, waiter) {
-            Poll::Ready(Ok(never)) => match never {},
-            Poll::Ready(Err(Ended::Over((), never))) => match never {},
-            Poll::Ready(Err(Ended::Closed(()))) => Poll::Ready(Ok(())),
-            Poll::Ready(Err(Ended::Memory(()))) => Poll::Ready(Err(AllocError)),
-            Poll::Pending => Poll::Pending,
+impl<'a, S: Role, C, T, P: Ord, R: Wait + Clone, A: Allocator + Copy> Seeking<
+    'a,
+    S,
+    C,
+    T,
+    P,
+    R,
+    A,
+> {
+    pub(crate) fn new(end: &'a End<S, T, P, R, A>, seek: C, sight: Sight) -> Self
+        ensures { result ≡ record {
+          channel = end.now;
+          seek = seek;
+          ticket = None;
+          is_done = false;
+        } }
+    {
+        Seeking {
+            end,
+            seek,
+            sight,
+            ticket: None,
+            waiter: None,
+            is_done: false,
         }
     }
+}
 
-    fn give_up(handle: &Handle<T, P, R, A>, ticket: Option<u64>) {
-        handle.unlisten(Sight::Close, ticket);
+impl<S: Role, C: Drop, T, P: Ord, R: Wait + Clone, A: Allocator + Copy> Drop
+    for Seeking<'_, S, C, T, P, R, A> {
+    fn drop(self) {
+        let Seeking {
+            end,
+            seek,
+            sight,
+            ticket,
+            waiter,
+            is_done: _,
+        } = self;
+        end.handle.unlisten(sight, ticket);
+        drop(seek);
+        drop(waiter);
+    }
+}
+
+/// Waits for the close of a channel. `End::closed` makes it.
+///
+/// The error is that memory for waiting was refused. If it is polled again after its answer, it
+/// does as a `Recv` (see `Waiting`).
+///
+/// Cost: no comparison (see `Seeking`).
+pub type Closed<'a, S, T, P, R, A = Global> = Seeking<'a, S, UntilClosed, T, P, R, A>;
+
+impl<S: Role, T, P: Ord, R: Wait + Clone, A: Allocator + Copy> Future
+    for Closed<'_, S, T, P, R, A> {
+    type Output = Result<(), AllocError>;
+
+    ghost needs = { λ f source. source ≡ f.channel.closing };
+
+    fn poll(&mut self, cx: &mut Context<'_>) -> Poll<Self::Output>
+        ensures value { IfReady result (λ _. ⊤) }
+        ensures again { OnPending result ⊤ }
+        ensures same { OnPending result ((x : Result (Unit {0}) AllocError) → ⊤ → ⊤) }
+        ensures registered { OnPending result (Covers cx.new (λ source.
+            source ≡ self.new.channel.closing)) }
+        ensures kept { Keeps cx.old cx.new }
+        ensures channel { self.new.channel ≡ self.old.channel }
+        ensures answered { IfReady result (λ _. (self.new.is_done ≡ true)
+            × (self.new.ticket ≡ None)) }
+        ensures waits { self.old.is_done ≡ false → OnPending result ((self.new.is_done ≡ false)
+            × IsSome self.new.ticket) }
+        ensures done { self.old.is_done ≡ true → (result ≡ Poll.Pending) × (self.new ≡ self.old) }
+    {
+        if self.is_done {
+            return cx.yield_now();
+        }
+        let end = self.end;
+        let handle = &end.handle;
+        let polled = handle.poll_sought(&self.seek, cx, &mut self.ticket, &mut self.waiter);
+        let Poll::Ready(answer) = polled else {
+            return Poll::Pending;
+        };
+        self.is_done = true;
+        Poll::Ready(match answer {
+            Ok(never) => match never {},
+            Err(Ended::Over((), never)) => match never {},
+            Err(Ended::Closed(())) => Ok(()),
+            Err(Ended::Memory(())) => Err(AllocError),
+        })
     }
 }
 
@@ -117,42 +206,52 @@ impl<'a, T, P: Ord, R: Wait + Clone, A: Allocator + Copy> Awaited<'a, T, P, R, A
 ///
 /// The errors are those of a `Recv`.
 ///
-/// Cost: as `try_recv_where` for each try (see `Calling`), and memory as for a `Closed`.
-pub type RecvWhere<'a, F, T, P, R, A = Global> = Calling<'a, Receiving, Where<F>, T, P, R, A>;
+/// Cost: as `try_recv_where` for each look (see `Seeking`).
+pub type RecvWhere<'a, F, T, P, R, A = Global> = Seeking<'a, Receiving, Where<F>, T, P, R, A>;
 
-impl<'a, T, P: Ord, R: Wait + Clone, A: Allocator + Copy, F: Fn(&T, &P) -> bool> Awaited<
-    'a,
-    T,
-    P,
-    R,
-    A,
-> for Where<F> {
+impl<T, P: Ord, R: Wait + Clone, A: Allocator + Copy, F: Fn(&T, &P) -> bool + Drop> Future
+    for RecvWhere<'_, F, T, P, R, A> {
     type Output = Result<(T, P), RecvFault>;
 
-    ghost can_wait = { λ call. F.IsAlwaysCallable call.test };
+    ghost can_poll = { λ f. F.IsAlwaysCallable f.seek.test };
 
-    ghost waits_at = { λ channel. channel.message };
+    ghost needs = { λ f source. source ≡ f.channel.message };
 
-    ghost tells = { λ call channel answer. IfOk answer (λ pair. Tells F.Fn call.test pair true) };
+    ghost gives = { λ f answer. IfOk answer (λ pair. Tells F.Fn f.seek.test pair true) };
 
-    ghost waits_with = { λ ticket. IsSome ticket };
-
-    fn poll_on(
-        &self,
-        handle: &'a Handle<T, P, R, A>,
-        cx: &mut Context<'_>,
-        ticket: &mut Option<u64>,
-        waiter: &mut Option<Waiter<A>>,
-    ) -> Poll<Self::Output> {
-        match handle.poll_sought(self, cx, ticket, waiter) {
-            Poll::Ready(Ok(pair)) => Poll::Ready(Ok(pair)),
-            Poll::Ready(Err(ended)) => Poll::Ready(Err(RecvFault::from(ended))),
-            Poll::Pending => Poll::Pending,
+    fn poll(&mut self, cx: &mut Context<'_>) -> Poll<Self::Output>
+        requires { F.IsAlwaysCallable self.old.seek.test }
+        ensures value { IfReady result (λ answer. IfOk answer (λ pair.
+            Tells F.Fn self.old.seek.test pair true)) }
+        ensures again { OnPending result (F.IsAlwaysCallable self.new.seek.test) }
+        ensures same { OnPending result ((x : Result (T × P) RecvFault)
+            → IfOk x (λ pair. Tells F.Fn self.new.seek.test pair true)
+            → IfOk x (λ pair. Tells F.Fn self.old.seek.test pair true)) }
+        ensures registered { OnPending result (Covers cx.new (λ source.
+            source ≡ self.new.channel.message)) }
+        ensures kept { Keeps cx.old cx.new }
+        ensures channel { self.new.channel ≡ self.old.channel }
+        ensures seek { self.new.seek ≡ self.old.seek }
+        ensures answered { IfReady result (λ _. (self.new.is_done ≡ true)
+            × (self.new.ticket ≡ None)) }
+        ensures waits { self.old.is_done ≡ false → OnPending result ((self.new.is_done ≡ false)
+            × IsSome self.new.ticket) }
+        ensures done { self.old.is_done ≡ true → (result ≡ Poll.Pending) × (self.new ≡ self.old) }
+    {
+        if self.is_done {
+            return cx.yield_now();
         }
-    }
-
-    fn give_up(handle: &Handle<T, P, R, A>, ticket: Option<u64>) {
-        handle.unlisten(Sight::All, ticket);
+        let end = self.end;
+        let handle = &end.handle;
+        let polled = handle.poll_sought(&self.seek, cx, &mut self.ticket, &mut self.waiter);
+        let Poll::Ready(answer) = polled else {
+            return Poll::Pending;
+        };
+        self.is_done = true;
+        Poll::Ready(match answer {
+            Ok(pair) => Ok(pair),
+            Err(ended) => Err(RecvFault::from(ended)),
+        })
     }
 }
 
@@ -162,7 +261,7 @@ impl<'a, T, P: Ord, R: Wait + Clone, A: Allocator + Copy, F: Fn(&T, &P) -> bool>
 /// The errors are those of a `LeaseNext`.
 ///
 /// Cost: as a `RecvWhere`.
-pub type LeaseNextWhere<'a, F, T, P, R, A = Global> = Calling<
+pub type LeaseNextWhere<'a, F, T, P, R, A = Global> = Seeking<
     'a,
     Receiving,
     LeaseWhere<F>,
@@ -174,38 +273,56 @@ pub type LeaseNextWhere<'a, F, T, P, R, A = Global> = Calling<
 
 impl<
     'a,
-    T: Drop + 'a,
-    P: Ord + Drop + 'a,
-    R: Wait + Clone + 'a,
-    A: Allocator + Copy + 'a,
-    F: Fn(&T, &P) -> bool,
-> Awaited<'a, T, P, R, A> for LeaseWhere<F> {
+    T: Drop,
+    P: Ord + Drop,
+    R: Wait + Clone,
+    A: Allocator + Copy,
+    F: Fn(&T, &P) -> bool + Drop,
+> Future for LeaseNextWhere<'a, F, T, P, R, A> {
     type Output = Result<Lease<'a, T, P, R, A>, RecvFault>;
 
-    ghost can_wait = { λ call. F.IsAlwaysCallable call.test };
+    ghost can_poll = { λ f. F.IsAlwaysCallable f.seek.test };
 
-    ghost waits_at = { λ channel. channel.message };
+    ghost needs = { λ f source. source ≡ f.channel.message };
 
-    ghost tells = { λ call channel answer. IfOk answer (λ lease. (lease.channel ≡ channel)
-        × Tells F.Fn call.test lease.pair true) };
+    ghost gives = { λ f answer. IfOk answer (λ lease. (lease.channel ≡ f.channel)
+        × Tells F.Fn f.seek.test lease.pair true) };
 
-    ghost waits_with = { λ ticket. IsSome ticket };
-
-    fn poll_on(
-        &self,
-        handle: &'a Handle<T, P, R, A>,
-        cx: &mut Context<'_>,
-        ticket: &mut Option<u64>,
-        waiter: &mut Option<Waiter<A>>,
-    ) -> Poll<Self::Output> {
-        match handle.poll_sought(self, cx, ticket, waiter) {
-            Poll::Ready(Ok(leased)) => Poll::Ready(Ok(Lease::of(handle, leased))),
-            Poll::Ready(Err(ended)) => Poll::Ready(Err(RecvFault::from(ended))),
-            Poll::Pending => Poll::Pending,
+    fn poll(&mut self, cx: &mut Context<'_>) -> Poll<Self::Output>
+        requires { F.IsAlwaysCallable self.old.seek.test }
+        ensures value { IfReady result (λ answer. IfOk answer (λ lease.
+            (lease.channel ≡ self.old.channel)
+            × Tells F.Fn self.old.seek.test lease.pair true)) }
+        ensures again { OnPending result (F.IsAlwaysCallable self.new.seek.test) }
+        ensures same { OnPending result ((x : Result (Leased T P) RecvFault)
+            → IfOk x (λ lease. (lease.channel ≡ self.new.channel)
+            × Tells F.Fn self.new.seek.test lease.pair true)
+            → IfOk x (λ lease. (lease.channel ≡ self.old.channel)
+            × Tells F.Fn self.old.seek.test lease.pair true)) }
+        ensures registered { OnPending result (Covers cx.new (λ source.
+            source ≡ self.new.channel.message)) }
+        ensures kept { Keeps cx.old cx.new }
+        ensures channel { self.new.channel ≡ self.old.channel }
+        ensures seek { self.new.seek ≡ self.old.seek }
+        ensures answered { IfReady result (λ _. (self.new.is_done ≡ true)
+            × (self.new.ticket ≡ None)) }
+        ensures waits { self.old.is_done ≡ false → OnPending result ((self.new.is_done ≡ false)
+            × IsSome self.new.ticket) }
+        ensures done { self.old.is_done ≡ true → (result ≡ Poll.Pending) × (self.new ≡ self.old) }
+    {
+        if self.is_done {
+            return cx.yield_now();
         }
-    }
-
-    fn give_up(handle: &Handle<T, P, R, A>, ticket: Option<u64>) {
-        handle.unlisten(Sight::All, ticket);
+        let end = self.end;
+        let handle = &end.handle;
+        let polled = handle.poll_sought(&self.seek, cx, &mut self.ticket, &mut self.waiter);
+        let Poll::Ready(answer) = polled else {
+            return Poll::Pending;
+        };
+        self.is_done = true;
+        Poll::Ready(match answer {
+            Ok(leased) => Ok(Lease::of(handle, leased)),
+            Err(ended) => Err(RecvFault::from(ended)),
+        })
     }
 }
