@@ -15,6 +15,7 @@ use std::time::Duration;
 mod counts;
 mod effects;
 mod held;
+mod leases;
 mod memory;
 mod mirror;
 mod sleepers;

@@ -9,6 +9,7 @@ mod conditions;
 mod either;
 mod gone;
 mod halts;
+mod leased;
 mod limits;
 mod places;
 mod pools;

@@ -5,7 +5,7 @@ use super::calls::Side::*;
 use super::calls::Way::*;
 
 /// Those of a sender come first, and those that may close the channel last.
-pub const ALL: [Call; 87] = [
+pub const ALL: [Call; 99] = [
     Send(Try),
     Send(Poll),
     Send(Future),
@@ -42,6 +42,8 @@ pub const ALL: [Call; 87] = [
     RecvMany(Deadline),
     RecvIf,
     RecvWhere(Try),
+    RecvWhere(Poll),
+    RecvWhere(Future),
     RecvWhere(Blocking),
     RecvWhere(Timeout),
     RecvWhere(Deadline),
@@ -61,6 +63,16 @@ pub const ALL: [Call; 87] = [
     Lease(Blocking),
     Lease(Timeout),
     Lease(Deadline),
+    LeaseIf,
+    LeaseWhere(Try),
+    LeaseWhere(Poll),
+    LeaseWhere(Future),
+    LeaseWhere(Blocking),
+    LeaseWhere(Timeout),
+    LeaseWhere(Deadline),
+    LeaseWhen(Blocking),
+    LeaseWhen(Timeout),
+    LeaseWhen(Deadline),
     Leases,
     PutBack,
     DropLease,

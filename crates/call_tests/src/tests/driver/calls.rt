@@ -55,6 +55,11 @@ pub enum Call {
     IntoStream(Way),
     /// A message is leased and finished.
     Lease(Way),
+    LeaseIf,
+    /// The most urgent message that is for it is leased and finished, also by a wait.
+    LeaseWhere(Way),
+    /// The first message is leased once it is due, and finished.
+    LeaseWhen(Way),
     /// A loop of leases, which are finished.
     Leases,
     /// A message is leased and put back, with another priority or as the lease is dropped.
@@ -114,6 +119,8 @@ impl Call {
             | Call::Stream(way)
             | Call::IntoStream(way)
             | Call::Lease(way)
+            | Call::LeaseWhere(way)
+            | Call::LeaseWhen(way)
             | Call::Closed(_, way) => way,
             Call::Iter | Call::IntoIter | Call::Leases => Way::Blocking,
             _at_once => Way::Try,
@@ -132,7 +139,17 @@ impl Call {
 
 /// Whether it waits for a message that meets a condition, and not for the first that comes.
 pub fn is_choosy(call: Call) -> bool {
-    matches!(call, Call::RecvWhere(_) | Call::RecvWhen(_))
+    match call {
+        Call::RecvWhere(_) | Call::RecvWhen(_) => true,
+        Call::LeaseWhere(_) | Call::LeaseWhen(_) => true,
+        _ => false,
+    }
+}
+
+/// Whether it takes the most urgent message that meets a condition, and not the first of all if
+/// that one does.
+pub fn picks(call: Call) -> bool {
+    matches!(call, Call::RecvWhere(_) | Call::LeaseWhere(_))
 }
 
 /// Whether it waits for the close, and not for room or for a message.
@@ -186,10 +203,10 @@ pub struct Input {
     /// How long a call with a limit waits at most.
     pub limit: Duration,
     /// The message that `take_where` takes. `retain` lets go what leaves the same rest by 8,
-    /// `try_recv_if` receives what leaves the same rest by 2, and `change_priority` gives the
-    /// priority of the first pair that is sent to the first message of this kind. That is also the
-    /// priority of what is put back. A receive that waits for a message with a condition waits for
-    /// one that leaves the same rest by 2.
+    /// `try_recv_if` and `try_lease_if` take what leaves the same rest by 2, and `change_priority`
+    /// gives the priority of the first pair that is sent to the first message of this kind. That is
+    /// also the priority of what is put back. A receive or a lease that waits for a message with a
+    /// condition waits for one that leaves the same rest by 2.
     pub chosen: u64,
 }
 

@@ -1,5 +1,5 @@
 //! A plain channel: the pending pairs in the order of their acceptance.
-use super::calls::{Call, Input, Pair, Pairs, Side, Way};
+use super::calls::{Call, Input, Pair, Pairs, Side, Way, is_choosy, picks};
 use super::reply::{Looks, Outcome, Reply, weighed};
 use crate::tests::Host;
 use std::mem;
@@ -43,7 +43,7 @@ impl Model {
         let is_ended = match call {
             Call::Closed(..) | Call::Send(_) | Call::Sendv(_) | Call::Reserve(_) => self.is_closed,
             // What is pending may be for it later.
-            Call::RecvWhere(_) | Call::RecvWhen(_) => self.is_over() && self.pending.is_empty(),
+            _ if is_choosy(call) => self.is_over() && self.pending.is_empty(),
             _receive => self.is_over(),
         };
         if is_ended || !call.may_wait(input) {
@@ -55,7 +55,7 @@ impl Model {
             Call::Sendv(_) => self.room() < input.pairs.count.max(1),
             Call::Iter | Call::IntoIter | Call::Leases => self.pending.len() < input.most,
             Call::RecvMany(_) => self.pending.is_empty() && input.most > 0,
-            Call::RecvWhere(_) | Call::RecvWhen(_) => self.find_for(call, input).is_none(),
+            _ if is_choosy(call) => self.find_for(call, input).is_none(),
             _receive => self.pending.is_empty(),
         }
     }
@@ -80,10 +80,8 @@ impl Model {
             Call::TakeWhere(_) => self.take_where(rt, input.chosen),
             Call::Retain(_) => self.retain(rt, input.chosen),
             Call::ChangePriority(_) => self.change_priority(rt, input),
-            Call::RecvIf => self.receive_chosen(rt, Way::Try, call, input),
-            Call::RecvWhere(way) | Call::RecvWhen(way) => {
-                self.receive_chosen(rt, way, call, input)
-            }
+            Call::RecvIf | Call::LeaseIf => self.receive_chosen(rt, Way::Try, call, input),
+            _ if is_choosy(call) => self.receive_chosen(rt, call.way(), call, input),
             Call::PeekWith => {
                 let seen = self.find(true).map(|(_, pair)| pair);
                 Reply::found(rt, seen, Outcome::Empty)
@@ -298,9 +296,10 @@ impl Model {
     // the first of that kind.
     fn find_for(&self, call: Call, input: Input) -> Option<usize> {
         let is_for = |pair: &Pair| input.is_kind_of(pair.0);
-        let found = match call {
-            Call::RecvWhere(_) => self.find_among(true, is_for),
-            _ => self.find(true),
+        let found = if picks(call) {
+            self.find_among(true, is_for)
+        } else {
+            self.find(true)
         };
         let (place, pair) = found?;
         is_for(&pair).then_some(place)

@@ -6,7 +6,7 @@ use super::either::{answer_of, make_by_either};
 use super::reply::{Outcome, Refusal, Reply};
 use super::send::{deadline_of, done_if};
 use crate::tests::Host;
-use async_priority_channel::{Due, Lease, Receiver, TryRecvError};
+use async_priority_channel::{Due, Lease, Receiver, TryRecvError, TryRecvManyError};
 use futures::StreamExt;
 use std::alloc::Allocator;
 use std::iter::once;
@@ -26,6 +26,9 @@ pub fn receive<R: Host, A: Allocator + Copy, B: Allocator + Copy>(
         Call::RecvWhere(way) => receive_where(rt, rx, way, input),
         Call::RecvWhen(way) => receive_when(rt, rx, way, input),
         Call::Lease(way) => lease_one(rt, rx, way, input),
+        Call::LeaseIf => finish_if(rt, rx, rx.try_lease_if(|msg, _| input.is_kind_of(*msg))),
+        Call::LeaseWhere(way) => lease_where(rt, rx, way, input),
+        Call::LeaseWhen(way) => lease_when(rt, rx, way, input),
         Call::Leases => finish_all(rt, rx, input.most),
         Call::PutBack => put_back(rt, rx, Some(input.pair().1)),
         Call::DropLease => put_back(rt, rx, None),
@@ -111,12 +114,31 @@ pub fn finish<R: Wait + Clone, A: Allocator + Copy, E: Refusal<()> + Drop>(
     leased: Option<Result<Lease<'_, u64, u64, R, A>, E>>,
 ) -> Reply {
     match leased {
-        Some(Ok(lease)) => {
-            let is_held = rx.held() > 0;
-            Reply::with(rt, done_if(is_held), once(lease.finish()))
-        }
+        Some(Ok(lease)) => finish_held(rt, rx, lease),
         Some(Err(refusal)) => Reply::new(rt, refusal.tell().0),
         None => Reply::new(rt, Outcome::Waits),
+    }
+}
+
+fn finish_held<R: Wait + Clone, A: Allocator + Copy>(
+    rt: &impl Host,
+    rx: &Receiver<u64, u64, R, A>,
+    lease: Lease<'_, u64, u64, R, A>,
+) -> Reply {
+    let is_held = rx.held() > 0;
+    Reply::with(rt, done_if(is_held), once(lease.finish()))
+}
+
+// Also that what is pending is not for it.
+fn finish_if<R: Wait + Clone, A: Allocator + Copy>(
+    rt: &impl Host,
+    rx: &Receiver<u64, u64, R, A>,
+    leased: Result<Option<Lease<'_, u64, u64, R, A>>, TryRecvManyError>,
+) -> Reply {
+    match leased {
+        Ok(Some(lease)) => finish_held(rt, rx, lease),
+        Ok(None) => Reply::new(rt, Outcome::Was(false)),
+        Err(refusal) => Reply::new(rt, refusal.tell().0),
     }
 }
 
@@ -171,7 +193,26 @@ fn receive_where<R: Host, A: Allocator + Copy>(
             let deadline = deadline_of(rt, input);
             tell_one(rt, Some(rx.recv_where_deadline(test, deadline)))
         }
-        Way::Poll | Way::Future => Reply::new(rt, Outcome::Impossible),
+        Way::Poll | Way::Future => tell_one(rt, answer_of(rt, way, rx.recv_where(test))),
+    }
+}
+
+fn lease_where<R: Host, A: Allocator + Copy>(
+    rt: &R,
+    rx: &Receiver<u64, u64, R, A>,
+    way: Way,
+    input: Input,
+) -> Reply {
+    let test = |msg: &u64, _: &u64| input.is_kind_of(*msg);
+    match way {
+        Way::Try => finish_if(rt, rx, rx.try_lease_where(test)),
+        Way::Blocking => finish(rt, rx, Some(rx.lease_where_blocking(test))),
+        Way::Timeout => finish(rt, rx, Some(rx.lease_where_timeout(test, input.limit))),
+        Way::Deadline => {
+            let deadline = deadline_of(rt, input);
+            finish(rt, rx, Some(rx.lease_where_deadline(test, deadline)))
+        }
+        Way::Poll | Way::Future => finish(rt, rx, answer_of(rt, way, rx.lease_where(test))),
     }
 }
 
@@ -181,13 +222,7 @@ fn receive_when<R: Host, A: Allocator + Copy>(
     way: Way,
     input: Input,
 ) -> Reply {
-    let when = |msg: &u64, _: &u64| {
-        if input.is_kind_of(*msg) {
-            Due::Now
-        } else {
-            Due::Never
-        }
-    };
+    let when = |msg: &u64, _: &u64| due_if(input.is_kind_of(*msg));
     match way {
         Way::Blocking => tell_one(rt, Some(rx.recv_when_blocking(when))),
         Way::Timeout => tell_one(rt, Some(rx.recv_when_timeout(when, input.limit))),
@@ -197,6 +232,29 @@ fn receive_when<R: Host, A: Allocator + Copy>(
         }
         Way::Try | Way::Poll | Way::Future => Reply::new(rt, Outcome::Impossible),
     }
+}
+
+fn lease_when<R: Host, A: Allocator + Copy>(
+    rt: &R,
+    rx: &Receiver<u64, u64, R, A>,
+    way: Way,
+    input: Input,
+) -> Reply {
+    let when = |msg: &u64, _: &u64| due_if(input.is_kind_of(*msg));
+    match way {
+        Way::Blocking => finish(rt, rx, Some(rx.lease_when_blocking(when))),
+        Way::Timeout => finish(rt, rx, Some(rx.lease_when_timeout(when, input.limit))),
+        Way::Deadline => {
+            let deadline = deadline_of(rt, input);
+            finish(rt, rx, Some(rx.lease_when_deadline(when, deadline)))
+        }
+        Way::Try | Way::Poll | Way::Future => Reply::new(rt, Outcome::Impossible),
+    }
+}
+
+/// A message that is not due now is never due.
+pub fn due_if(is_due: bool) -> Due {
+    if is_due { Due::Now } else { Due::Never }
 }
 
 fn receive_many<R: Host, A: Allocator + Copy, B: Allocator + Copy>(

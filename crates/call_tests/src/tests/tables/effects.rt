@@ -29,9 +29,11 @@ enum Situation {
 const SITUATIONS: [Situation; 3] = [Situation::Waiting, Situation::Moved, Situation::Ended];
 
 // What waits: a receive at an empty channel, or a send at a full one.
-const WAITING: [Call; 9] = [
+const WAITING: [Call; 11] = [
     Call::Recv(Way::Poll),
     Call::Lease(Way::Poll),
+    Call::RecvWhere(Way::Poll),
+    Call::LeaseWhere(Way::Poll),
     Call::RecvMany(Way::Poll),
     Call::Stream(Way::Poll),
     Call::Closed(Side::Receiver, Way::Poll),
@@ -166,6 +168,16 @@ fn poll_receiver<R: Host>(
         }
         Call::Lease(_) => {
             let answer = poll_beside(rt, mirrored, round, rx.lease())?;
+            Some(finish(rt, rx, answer))
+        }
+        Call::RecvWhere(_) => {
+            let future = rx.recv_where(|msg, _| *msg % 2 == 0);
+            let answer = poll_beside(rt, mirrored, round, future)?;
+            Some(tell_one(rt, answer))
+        }
+        Call::LeaseWhere(_) => {
+            let future = rx.lease_where(|msg, _| *msg % 2 == 0);
+            let answer = poll_beside(rt, mirrored, round, future)?;
             Some(finish(rt, rx, answer))
         }
         Call::RecvMany(_) => {

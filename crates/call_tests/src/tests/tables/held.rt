@@ -35,7 +35,8 @@ const AFTER: [Option<Call>; 2] = [None, Some(Call::Drop(Side::Receiver))];
 
 fn chooses(call: Call) -> bool {
     match call {
-        Call::TakeWhere(_) | Call::Retain(_) | Call::ChangePriority(_) | Call::RecvIf => true,
+        Call::TakeWhere(_) | Call::Retain(_) | Call::ChangePriority(_) => true,
+        Call::RecvIf | Call::LeaseIf => true,
         _ => is_choosy(call),
     }
 }

@@ -91,9 +91,11 @@ fn wake_by_each_call<R: Threaded>(rt: &R, waiting: Call) {
 #[test]
 fn a_thread_is_woken_by_a_message_that_passes(rt: HostRuntime) {
     wake_by_each_call(&rt, Call::RecvWhere(Way::Blocking));
+    wake_by_each_call(&rt, Call::LeaseWhere(Way::Blocking));
 }
 
 #[test]
 fn a_thread_is_woken_by_a_first_message_that_is_due(rt: HostRuntime) {
     wake_by_each_call(&rt, Call::RecvWhen(Way::Blocking));
+    wake_by_each_call(&rt, Call::LeaseWhen(Way::Blocking));
 }

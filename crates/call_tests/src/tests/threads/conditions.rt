@@ -1,10 +1,10 @@
 //! Threads that wait for a message with a condition: each change after which one has to look again
 //! wakes it, and it sleeps on otherwise.
-use super::either::long;
+use super::either::{TIMED, long};
 use super::watch::{beside, under_load, within};
 use super::{Threaded, let_others_wait, wait_until};
-use crate::tests::driver::calls::{Call, Input, Pairs, Way};
-use crate::tests::driver::receive::receive;
+use crate::tests::driver::calls::{Call, Input, Pairs, Way, is_choosy, picks};
+use crate::tests::driver::receive::{due_if, receive};
 use crate::tests::driver::reply::{Outcome, Reply};
 use crate::tests::{Host, Memory, expect_equal_at, expect_true, make_all};
 use async_priority_channel::{Due, Ends, Receiver, bounded, bounded_reserved};
@@ -21,8 +21,19 @@ use std::time::Duration;
 mod cases;
 mod delays;
 mod hands;
+mod tasks;
 
 const WAYS: [Way; 3] = [Way::Blocking, Way::Timeout, Way::Deadline];
+
+// The calls that wait so for a message with a condition.
+fn choosy(way: Way) -> [Call; 4] {
+    [
+        Call::RecvWhen(way),
+        Call::LeaseWhen(way),
+        Call::RecvWhere(way),
+        Call::LeaseWhere(way),
+    ]
+}
 
 // How often the first wait with a condition asks its channel for memory: for a waiter, for the
 // lists of those that wait so, and for its entry.
@@ -111,15 +122,19 @@ fn wait_with<R: Threaded, A: Allocator + Copy + Send + Sync>(
 #[test]
 fn what_changes_wakes_one_that_waits_with_a_condition(rt: HostRuntime) {
     for way in WAYS {
-        for case in BOTH {
-            wait_through(&rt, Call::RecvWhen(way), case);
-            wait_through(&rt, Call::RecvWhere(way), case);
-        }
-        for case in FIRST {
-            wait_through(&rt, Call::RecvWhen(way), case);
-        }
-        for case in ANY {
-            wait_through(&rt, Call::RecvWhere(way), case);
+        for call in choosy(way) {
+            for case in BOTH {
+                wait_through(&rt, call, case);
+            }
+            if picks(call) {
+                for case in ANY {
+                    wait_through(&rt, call, case);
+                }
+            } else {
+                for case in FIRST {
+                    wait_through(&rt, call, case);
+                }
+            }
         }
     }
 }
@@ -160,10 +175,6 @@ fn a_change_of_the_priority_that_is_waited_for_wakes(rt: HostRuntime) {
     }
 }
 
-fn due_if(is_due: bool) -> Due {
-    if is_due { Due::Now } else { Due::Never }
-}
-
 fn receive_before_its_instant<R: Threaded, A: Allocator + Copy + Send + Sync>(
     rt: &R,
     (memory, alloc): Memory<'_, A>,
@@ -199,12 +210,10 @@ fn a_first_message_that_goes_before_its_instant_wakes(rt: HostRuntime) {
 // A message that is never due, or for nobody, stays in a closed channel too.
 #[test]
 fn a_limit_ends_a_wait_that_nothing_else_ends(rt: HostRuntime) {
-    for call in [
-        Call::RecvWhen(Way::Timeout),
-        Call::RecvWhen(Way::Deadline),
-        Call::RecvWhere(Way::Timeout),
-        Call::RecvWhere(Way::Deadline),
-    ] {
+    for call in TIMED {
+        if !is_choosy(call) {
+            continue;
+        }
         let (tx, rx) = bounded(&rt, rt.alloc(), 1).expect(&rt, "a channel");
         let could = tx.try_send(3, 9).is_ok() && tx.close();
         let limit = Duration::from_millis(40);
@@ -254,7 +263,7 @@ fn wait_for_short_limits<R: Threaded, A: Allocator + Copy + Send + Sync>(
 // list; and one whose time is over before it would be listed for nothing.
 #[test]
 fn many_short_limits_leave_nothing_behind(rt: HostRuntime) {
-    for call in [Call::RecvWhen(Way::Timeout), Call::RecvWhere(Way::Timeout)] {
+    for call in choosy(Way::Timeout) {
         let memory = Refusing::new(rt.alloc());
         wait_for_short_limits(&rt, (&memory, &memory), call);
     }
@@ -292,12 +301,73 @@ fn wait_after_a_refusal<R: Threaded, A: Allocator + Copy + Send + Sync>(
 #[test]
 fn a_wait_without_memory_leaves_the_message_and_the_next_wait(rt: HostRuntime) {
     for way in WAYS {
-        for call in [Call::RecvWhen(way), Call::RecvWhere(way)] {
+        for call in choosy(way) {
             for refused in REFUSED {
                 let memory = Refusing::new(rt.alloc());
                 wait_after_a_refusal(&rt, (&memory, &memory), call, refused);
             }
         }
+    }
+}
+
+// One leases an odd message, and the other receives an even one.
+const TWO: [(Call, Call); 4] = [
+    (
+        Call::LeaseWhere(Way::Blocking),
+        Call::RecvWhere(Way::Blocking),
+    ),
+    (
+        Call::LeaseWhere(Way::Blocking),
+        Call::RecvWhen(Way::Blocking),
+    ),
+    (
+        Call::LeaseWhen(Way::Blocking),
+        Call::RecvWhere(Way::Blocking),
+    ),
+    (
+        Call::LeaseWhen(Way::Blocking),
+        Call::RecvWhen(Way::Blocking),
+    ),
+];
+
+fn wait_for_two<R: Threaded, A: Allocator + Copy + Send + Sync>(
+    rt: &R,
+    (memory, alloc): Memory<'_, A>,
+    (leases, receives): (Call, Call),
+) {
+    let round = (leases, receives);
+    let (tx, rx) = bounded_reserved(rt, alloc, 2).expect(rt, "a channel");
+    let mut of_lease = input(long());
+    of_lease.chosen = 3;
+    let asked = memory.count().wrapping_add(REQUESTS + 1);
+    let (leased, (received, could)) = beside(
+        rt,
+        ("two conditions", round),
+        || receive(rt, alloc, &rx, leases, of_lease),
+        || {
+            thread::join(
+                rt,
+                || receive(rt, alloc, &rx, receives, input(long())),
+                || {
+                    // Both have made their waiters.
+                    wait_until(rt, || memory.count() >= asked);
+                    thread::sleep(rt, Duration::from_millis(2));
+                    tx.try_send(4, 1).is_ok() && tx.try_send(3, 9).is_ok()
+                },
+            )
+        },
+    );
+    let wanted_lease = Reply::found(rt, Some((3, 9)), Outcome::Closed);
+    let wanted = Reply::found(rt, Some((4, 1)), Outcome::Closed);
+    let got = (leased, received, could);
+    expect_equal_at(rt, round, got, (wanted_lease, wanted, true));
+}
+
+#[test]
+fn of_two_that_wait_with_conditions_each_gets_its_own(rt: HostRuntime) {
+    for calls in TWO {
+        let memory = Refusing::new(rt.alloc());
+        wait_for_two(&rt, (&memory, &memory), calls);
     }
 }
 

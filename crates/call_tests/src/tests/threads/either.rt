@@ -1,5 +1,5 @@
 //! The two sides of a channel, so that a test is written once for both.
-use crate::tests::driver::calls::{Call, Input, Pairs, Side, Way, is_for_close};
+use crate::tests::driver::calls::{Call, Input, Pairs, Side, Way, is_choosy, is_for_close};
 use crate::tests::driver::receive::receive;
 use crate::tests::driver::reply::{Outcome, Reply};
 use crate::tests::driver::send::send;
@@ -29,13 +29,14 @@ pub fn requests_of(call: Call) -> Option<u64> {
         _ if !waits(call) || call.way() == Way::Future => None,
         Call::Send(_) | Call::Sendv(_) | Call::Reserve(_) => Some(2),
         Call::Recv(_) | Call::Lease(_) => Some(2),
-        Call::RecvWhere(_) | Call::RecvWhen(_) | Call::Closed(..) => Some(3),
+        Call::Closed(..) => Some(3),
+        _ if is_choosy(call) => Some(3),
         _ => None,
     }
 }
 
 /// The calls that wait for a limited time.
-pub const TIMED: [Call; 20] = [
+pub const TIMED: [Call; 24] = [
     Call::Send(Way::Timeout),
     Call::Send(Way::Deadline),
     Call::Sendv(Way::Timeout),
@@ -52,6 +53,10 @@ pub const TIMED: [Call; 20] = [
     Call::RecvWhere(Way::Deadline),
     Call::RecvWhen(Way::Timeout),
     Call::RecvWhen(Way::Deadline),
+    Call::LeaseWhere(Way::Timeout),
+    Call::LeaseWhere(Way::Deadline),
+    Call::LeaseWhen(Way::Timeout),
+    Call::LeaseWhen(Way::Deadline),
     Call::Closed(Side::Sender, Way::Timeout),
     Call::Closed(Side::Sender, Way::Deadline),
     Call::Closed(Side::Receiver, Way::Timeout),

@@ -146,8 +146,17 @@ fn refuse_a_receive<R: Host, A: Allocator + Copy>(
     rx: &Receiver<u64, u64, R, A>,
     other: &Either<R, A>,
 ) -> bool {
+    let is_odd = |msg: &u64, _: &u64| *msg % 2 == 1;
     match round.0 {
         Call::Lease(_) => poll_after_a_refusal(rt, memory, round, (rx.lease(), rx.lease()), other),
+        Call::RecvWhere(_) => {
+            let futures = (rx.recv_where(is_odd), rx.recv_where(is_odd));
+            poll_after_a_refusal(rt, memory, round, futures, other)
+        }
+        Call::LeaseWhere(_) => {
+            let futures = (rx.lease_where(is_odd), rx.lease_where(is_odd));
+            poll_after_a_refusal(rt, memory, round, futures, other)
+        }
         _receive => poll_after_a_refusal(rt, memory, round, (rx.recv(), rx.recv()), other),
     }
 }
@@ -159,6 +168,8 @@ fn a_task_without_memory_is_woken_by_nothing_that_comes(rt: HostRuntime) {
         Call::Reserve(Way::Poll),
         Call::Recv(Way::Poll),
         Call::Lease(Way::Poll),
+        Call::RecvWhere(Way::Poll),
+        Call::LeaseWhere(Way::Poll),
     ] {
         let mut refused = 0u64;
         for n in 1..MOST {

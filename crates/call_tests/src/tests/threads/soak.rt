@@ -97,7 +97,7 @@ impl Round {
         let is_drawn = match call {
             Call::Closed(..) if self.only_waits => false,
             // Nobody else may be there to take what is not for it.
-            _ if is_choosy(call) && call.way() == Way::Blocking => false,
+            _ if is_choosy(call) && matches!(call.way(), Way::Blocking | Way::Future) => false,
             _ if self.only_waits => matches!(call.way(), Way::Blocking | Way::Future),
             Call::Closed(_, way) => matches!(way, Way::Poll | Way::Timeout | Way::Deadline),
             Call::ChangePriority(_) | Call::PutBack | Call::DropLease => self.changes,

@@ -15,8 +15,10 @@ pub enum Step {
     /// By `retain`.
     Retain(u64),
     Change(u64, u64),
-    /// The first message is leased, and then comes one of the next three.
+    /// The first message is leased, or the one of that number by a test, and then comes one of the
+    /// next three.
     Lease,
+    LeaseWhere(u64),
     DropLease,
     PutBack(u64),
     Finish,
@@ -53,7 +55,7 @@ impl<'a, R: Wait + Clone, A: Allocator + Copy> Hands<'a, R, A> {
             Step::Nothing => true,
             Step::Send(..) | Step::Receive => self.pass(step),
             Step::TakeOut(_) | Step::Retain(_) | Step::Change(..) => self.choose(step),
-            Step::Lease | Step::Reserve => self.hold(step),
+            Step::Lease | Step::LeaseWhere(_) | Step::Reserve => self.hold(step),
             Step::Close | Step::CloseWhenDone => self.close(step),
             _ => self.let_go(step),
         };
@@ -84,13 +86,16 @@ impl<'a, R: Wait + Clone, A: Allocator + Copy> Hands<'a, R, A> {
     }
 
     fn hold(&mut self, step: Step) -> bool {
-        if let Step::Lease = step {
-            self.lease = self.rx.try_lease().ok();
-            self.lease.is_some()
-        } else {
+        if let Step::Reserve = step {
             self.permit = self.tx.try_reserve().ok();
-            self.permit.is_some()
+            return self.permit.is_some();
         }
+        let rx = self.rx;
+        self.lease = match step {
+            Step::LeaseWhere(chosen) => rx.try_lease_where(|msg, _| *msg == chosen).unwrap_or(None),
+            _first => rx.try_lease().ok(),
+        };
+        self.lease.is_some()
     }
 
     fn close(&self, step: Step) -> bool {
