@@ -140,9 +140,9 @@
 //!
 //! `try_recv_where` receives the most urgent message that passes a test, and `recv_where` and its
 //! variants wait for one. `recv_when_blocking` and its variants receive the first message, once it
-//! is due: with `Reverse(instant)` as its priority, a channel delays its messages. `lease_where` and
-//! `lease_when_blocking` do the same and keep the place held. What waits until an instant is no
-//! future, since a timer is the executor's. `fold_pending` looks at all that is pending.
+//! is due: with `Reverse(instant)` as its priority, a channel delays its messages. `lease_where`
+//! and `lease_when_blocking` do the same and keep the place held. What waits until an instant is
+//! no future, since a timer is the executor's. `fold_pending` looks at all that is pending.
 //!
 //! ```
 //! let (tx, rx) = unbounded(&rt, rt.alloc())?;

@@ -52,8 +52,8 @@ impl<S: Role, T, P: Ord, R: Wait + Clone, A: Allocator + Copy> End<S, T, P, R, A
     /// under the channel's lock (see `End`), and dropped once the lock is released. So is the given
     /// priority, if there is no such message.
     ///
-    /// It wakes those that wait in `recv_when_*` or `recv_where_*`, and nobody else. If there is no
-    /// such message it wakes nobody.
+    /// It wakes those that wait with a condition, as in `recv_where`, and nobody else. If there is
+    /// no such message it wakes nobody.
     ///
     /// Cost: up to n tests under the lock, and O(log n) comparisons, at most twice as many as n has
     /// binary digits. No memory.

@@ -77,8 +77,8 @@ impl<T, P: Ord, R: Wait + Clone, A: Allocator + Copy> Handle<T, P, R, A> {
     }
 }
 
-/// A `Closed`, a `RecvWhere` or a `LeaseNextWhere`: what it looks for at each poll, and the handle by
-/// which it waits. If it is dropped, it waits no more.
+/// A `Closed`, a `RecvWhere` or a `LeaseNextWhere`: what it looks for at each poll, and the handle
+/// by which it waits. If it is dropped, it waits no more.
 ///
 /// Once it has answered it is done. A poll of a done future is pending, and asks to be polled
 /// again; nothing else changes.
