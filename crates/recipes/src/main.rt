@@ -7,12 +7,15 @@ mod blind_bound;
 mod cancel;
 mod delay;
 mod ends;
+mod event_loop;
 mod expiry;
+mod fair;
 mod frontier;
 mod lease;
 mod own_queue;
 mod permit;
 mod producer;
+mod rate;
 mod replies;
 mod retry;
 mod tenants;
@@ -34,5 +37,8 @@ fn main(rt: HostRuntime) -> anyhow::Result<()> {
     producer::run(rt)?;
     delay::run(rt)?;
     tenants::run(rt)?;
-    expiry::run(rt)
+    expiry::run(rt)?;
+    rate::run(&rt)?;
+    event_loop::run(&rt)?;
+    fair::run(&rt)
 }
