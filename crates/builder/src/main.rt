@@ -7,12 +7,16 @@ mod workers;
 
 use anyhow::ensure;
 use graph::Graph;
-use std::io;
+use std::{env, io};
 use workers::build;
 
 const WORKERS: usize = 3;
 
 fn main(rt: HostRuntime) -> anyhow::Result<()> {
+    ensure!(
+        env::args(&rt)?.nth(1).is_none(),
+        "no argument is wanted: builder < LINES"
+    );
     let text = io::read_to_string(rt.alloc(), rt.stdin())?;
     let graph = build(rt, Graph::parse(rt.alloc(), &text)?, WORKERS)?;
     let graph = graph.lock(&rt);

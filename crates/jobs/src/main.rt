@@ -15,12 +15,16 @@ use std::alloc::AllocGlobal;
 use std::cmp::Reverse;
 use std::io::{BufRead, BufReader};
 use std::sync::Wait;
-use std::thread;
+use std::{env, thread};
 use worker::{Tries, work};
 
 const WORKERS: usize = 4;
 
 fn main(rt: HostRuntime) -> anyhow::Result<()> {
+    ensure!(
+        env::args(&rt)?.nth(1).is_none(),
+        "no argument is wanted: jobs < LINES"
+    );
     let (queue, jobs) = unbounded(&rt, rt.alloc())?;
     let count = submit_lines(&rt, &queue)?;
     queue.close_when_done(); // the workers end once no job is pending or in hand

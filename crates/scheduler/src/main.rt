@@ -11,12 +11,13 @@ mod desk;
 mod request;
 mod server;
 
+use anyhow::ensure;
 use desk::{Desk, Wish};
 use std::alloc::AllocGlobal;
 use std::io::{BufRead, BufReader};
 use std::sync::Wait;
-use std::thread;
 use std::time::{Clock, Duration};
+use std::{env, thread};
 
 // How many requests may wait.
 const ROOM: u64 = 4;
@@ -25,6 +26,10 @@ const ROOM: u64 = 4;
 const PATIENCE: u64 = 10;
 
 fn main(rt: HostRuntime) -> anyhow::Result<()> {
+    ensure!(
+        env::args(&rt)?.nth(1).is_none(),
+        "no argument is wanted: scheduler < LINES"
+    );
     let (mut desk, server) = Desk::open(&rt, ROOM)?;
     let serving = thread::spawn(&rt, move || server.serve())?;
     let asked = ask_all(&rt, &mut desk);
