@@ -7,8 +7,10 @@ ghost use Rattle.priority_channel_waiting.specs.Waits.{unsent_in_time};
 
 use crate::receiver::Receiver;
 use crate::sender::Sender;
+use priority_channel_calls::bulk::TrySendv;
+use priority_channel_calls::receives::TryRecv;
+use priority_channel_calls::sends::TrySend;
 use priority_channel_core::errors::{RecvFault, SendFault};
-use priority_channel_waiting::attempts::Receive;
 use priority_channel_waiting::timeouts::{RecvTimeoutError, SendTimeoutError};
 use priority_channel_waiting::until::{Deadline, Endless};
 use std::alloc::Allocator;
@@ -34,7 +36,7 @@ impl<T, P: Ord, R: Wait + Clone, A: Allocator + Copy> Receiver<T, P, R, A> {
     /// assert_eq!(rt; rx.recv_blocking(), Err(RecvFault::Closed(RecvError)));
     /// ```
     pub fn recv_blocking(&self) -> Result<(T, P), RecvFault> {
-        Ok(self.handle.wait(Receive, &Endless, &mut None)?)
+        Ok(self.handle.wait(TryRecv, &Endless, &mut None)?)
     }
 
     /// As `recv_blocking`, but waits no longer than `timeout`. If that is zero, it does not wait.
@@ -60,7 +62,7 @@ impl<T, P: Ord, R: Wait + Clone, A: Allocator + Copy> Receiver<T, P, R, A> {
         R: Clock,
     {
         let deadline = Deadline::after(self.handle.rt(), timeout);
-        Ok(self.handle.wait(Receive, &deadline, &mut None)?)
+        Ok(self.handle.wait(TryRecv, &deadline, &mut None)?)
     }
 
     /// As `recv_timeout`, but waits no longer than until `deadline`.
@@ -81,7 +83,7 @@ impl<T, P: Ord, R: Wait + Clone, A: Allocator + Copy> Receiver<T, P, R, A> {
         R: Clock,
     {
         let deadline = Deadline::at(self.handle.rt(), deadline);
-        Ok(self.handle.wait(Receive, &deadline, &mut None)?)
+        Ok(self.handle.wait(TryRecv, &deadline, &mut None)?)
     }
 }
 
@@ -106,7 +108,7 @@ impl<T, P: Ord, R: Wait + Clone, A: Allocator + Copy> Sender<T, P, R, A> {
     pub fn send_blocking(&self, msg: T, priority: P) -> Result<(), SendFault<(T, P)>>
         ensures { IfErr result (λ fault. unsent fault ≡ (msg, priority)) }
     {
-        Ok(self.handle.wait((msg, priority), &Endless, &mut None)?)
+        Ok(self.handle.wait(TrySend { msg, priority }, &Endless, &mut None)?)
     }
 
     /// As `send_blocking`, but waits no longer than `timeout`, as `recv_timeout` does. Either the
@@ -135,7 +137,7 @@ impl<T, P: Ord, R: Wait + Clone, A: Allocator + Copy> Sender<T, P, R, A> {
         ensures { IfErr result (λ error. unsent_in_time error ≡ (msg, priority)) }
     {
         let deadline = Deadline::after(self.handle.rt(), timeout);
-        Ok(self.handle.wait((msg, priority), &deadline, &mut None)?)
+        Ok(self.handle.wait(TrySend { msg, priority }, &deadline, &mut None)?)
     }
 
     /// As `send_timeout`, but waits no longer than until `deadline`.
@@ -161,7 +163,7 @@ impl<T, P: Ord, R: Wait + Clone, A: Allocator + Copy> Sender<T, P, R, A> {
         ensures { IfErr result (λ error. unsent_in_time error ≡ (msg, priority)) }
     {
         let deadline = Deadline::at(self.handle.rt(), deadline);
-        Ok(self.handle.wait((msg, priority), &deadline, &mut None)?)
+        Ok(self.handle.wait(TrySend { msg, priority }, &deadline, &mut None)?)
     }
 }
 
@@ -190,7 +192,7 @@ impl<T: Drop, P: Ord + Drop, R: Wait + Clone, A: Allocator + Copy> Sender<T, P, 
             (unsent fault)) }
         ensures callable { IfErr result (λ fault. peekable_can I.can_next (unsent fault)) }
     {
-        Ok(self.handle.wait(msgs, &Endless, &mut None)?)
+        Ok(self.handle.wait(TrySendv { msgs }, &Endless, &mut None)?)
     }
 
     /// As `sendv_blocking`, but waits no longer than `timeout`, with the limits of `send_timeout`.
@@ -221,7 +223,7 @@ impl<T: Drop, P: Ord + Drop, R: Wait + Clone, A: Allocator + Copy> Sender<T, P, 
         ensures callable { IfErr result (λ error. peekable_can I.can_next (unsent_in_time error)) }
     {
         let deadline = Deadline::after(self.handle.rt(), timeout);
-        Ok(self.handle.wait(msgs, &deadline, &mut None)?)
+        Ok(self.handle.wait(TrySendv { msgs }, &deadline, &mut None)?)
     }
 
     /// As `sendv_timeout`, but waits no longer than until `deadline`.
@@ -252,6 +254,6 @@ impl<T: Drop, P: Ord + Drop, R: Wait + Clone, A: Allocator + Copy> Sender<T, P, 
         ensures callable { IfErr result (λ error. peekable_can I.can_next (unsent_in_time error)) }
     {
         let deadline = Deadline::at(self.handle.rt(), deadline);
-        Ok(self.handle.wait(msgs, &deadline, &mut None)?)
+        Ok(self.handle.wait(TrySendv { msgs }, &deadline, &mut None)?)
     }
 }

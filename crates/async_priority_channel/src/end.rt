@@ -3,7 +3,7 @@ ghost use Rattle.std.specs.Prelude.{◌≡◌};
 ghost use Rattle.priority_channel_core.specs.Prelude.{capacity_told};
 
 use crate::handle::Handle;
-use priority_channel_calls::ends::{Close, CloseWhenDone, Join, Leave};
+use priority_channel_calls::ends::{Close, CloseWhenDone, Join, Leave, ShrinkToFit};
 use priority_channel_core::side::Side;
 use std::alloc::{AllocError, Allocator, Global};
 use std::marker::Model;
@@ -119,28 +119,28 @@ impl<S: Role, T, P: Ord, R: Wait + Clone, A: Allocator + Copy> End<S, T, P, R, A
     ///
     /// Cost: one hold of the lock.
     pub fn is_closed(&self) -> bool {
-        self.handle.look().core().is_closed()
+        self.handle.lock().core().is_closed()
     }
 
     /// Whether no message is pending.
     ///
     /// Cost: one hold of the lock.
     pub fn is_empty(&self) -> bool {
-        self.handle.look().core().is_empty()
+        self.handle.lock().core().is_empty()
     }
 
     /// Whether there is no room: as many messages are pending and places are held as the capacity.
     ///
     /// Cost: one hold of the lock.
     pub fn is_full(&self) -> bool {
-        self.handle.look().core().is_full()
+        self.handle.lock().core().is_full()
     }
 
     /// The number of pending messages.
     ///
     /// Cost: one hold of the lock.
     pub fn len(&self) -> u64 {
-        self.handle.look().core().len()
+        self.handle.lock().core().len()
     }
 
     /// The number of places that are held: by permits, and by leases for messages in hand.
@@ -156,7 +156,7 @@ impl<S: Role, T, P: Ord, R: Wait + Clone, A: Allocator + Copy> End<S, T, P, R, A
     /// assert_eq!(rt; (rx.held(), rx.len()), (0, 1));
     /// ```
     pub fn held(&self) -> u64 {
-        self.handle.look().core().held()
+        self.handle.lock().core().held()
     }
 
     /// The greatest number of messages that may be pending and of places that may be held at a
@@ -184,9 +184,7 @@ impl<S: Role, T, P: Ord, R: Wait + Clone, A: Allocator + Copy> End<S, T, P, R, A
     /// assert_eq!(rt; rx.try_recv(), Ok(("Foo", 0)));
     /// ```
     pub fn shrink_to_fit(&self) {
-        let mut held = self.handle.hold();
-        held.core().shrink_to_fit();
-        self.handle.unlock(held);
+        self.handle.call(ShrinkToFit)
     }
 
     /// Whether the other is a handle of the same channel, and as this one a sender or a receiver.
@@ -213,14 +211,14 @@ impl<S: Role, T, P: Ord, R: Wait + Clone, A: Allocator + Copy> End<S, T, P, R, A
     ///
     /// Cost: one hold of the lock.
     pub fn sender_count(&self) -> usize {
-        self.handle.look().core().sender_count()
+        self.handle.lock().core().sender_count()
     }
 
     /// The number of the channel's receivers.
     ///
     /// Cost: one hold of the lock.
     pub fn receiver_count(&self) -> usize {
-        self.handle.look().core().receiver_count()
+        self.handle.lock().core().receiver_count()
     }
 }
 

@@ -13,9 +13,8 @@ use futures::task::{Context, Source};
 use priority_channel_calls::call::CoreCall;
 use priority_channel_calls::places::{Fill, Place};
 use priority_channel_calls::receives::TryRecv;
-use priority_channel_core::awaitable_atomics::Wakes;
 use priority_channel_core::side::Side;
-use priority_channel_waiting::guarded::{Guarded, Held, Look};
+use priority_channel_waiting::guarded::Guarded;
 use priority_channel_waiting::line::Line;
 use priority_channel_waiting::selecting::Sight;
 use priority_channel_waiting::spins::Spins;
@@ -123,7 +122,7 @@ impl<T: Drop, P: Ord + Drop, R: Wait + Clone, A: Allocator + Copy> Handle<T, P, 
                     message: Waits::new(alloc),
                     unheard: Waiter::new(alloc)?,
                     closing: Source::new(),
-                    guarded: Lock::new(Guarded::new(alloc, core)),
+                    guarded: Lock::new(Guarded::new(core)),
                     lets_go: AtomicBool::new(false),
                     identity: Identity::new(),
                 },
@@ -144,29 +143,10 @@ impl<T, P: Ord, R: Wait + Clone, A: Allocator + Copy> Handle<T, P, R, A> {
         Ok(Handle { rt, shared })
     }
 
-    /// Locks the core for a call that may change it.
+    /// Takes the channel's lock.
     #[inline(always)]
-    pub fn hold(&self) -> Held<'_, T, P, A> {
-        Held::of(self.shared.guarded.lock(&self.rt))
-    }
-
-    /// Releases the lock, and then wakes the waiters that the call under this lock took off the
-    /// core's lists, and those beside the core for whom something has changed.
-    #[inline(always)]
-    pub fn release(&self, held: Held<'_, T, P, A>, wakes: Wakes<Waiter<A>, A>) {
-        held.release(&self.rt, self.alloc(), wakes);
-    }
-
-    /// The same after calls that took no waiter off the core's lists.
-    #[inline(always)]
-    pub fn unlock(&self, held: Held<'_, T, P, A>) {
-        held.unlock(&self.rt, self.alloc());
-    }
-
-    /// Locks the core for queries.
-    #[inline(always)]
-    pub fn look(&self) -> Look<'_, T, P, A> {
-        Look::of(self.shared.guarded.lock(&self.rt))
+    pub fn lock(&self) -> MutexGuard<'_, Guarded<T, P, A>> {
+        self.shared.guarded.lock(&self.rt)
     }
 
     fn waits(&self, side: Side) -> &Waits<A>
@@ -255,9 +235,9 @@ impl<T, P: Ord, R: Wait + Clone, A: Allocator + Copy> Handle<T, P, R, A> {
         requires { C.can_make call }
         ensures { C.gives call result }
     {
-        let mut held = self.hold();
-        let (answer, wakes) = call.make_on(held.core());
-        self.release(held, wakes);
+        let mut locked = self.lock();
+        let (answer, to_wake) = locked.make(self.alloc(), call);
+        to_wake.wake(&self.rt, locked);
         answer
     }
 
@@ -306,7 +286,7 @@ impl<T: Drop, P: Ord + Drop, R: Wait + Clone, A: Allocator + Copy> Handle<T, P, 
         if !self.shared.lets_go.load(Ordering::SeqCst) {
             return;
         }
-        let pending = self.look().core().len();
+        let pending = self.lock().core().len();
         for _ in 0..pending {
             drop(self.call(TryRecv));
         }

@@ -4,7 +4,8 @@ ghost use Rattle.std.specs.Iterator.{at_most};
 
 use crate::handle::Handle;
 use crate::receiver::Receiver;
-use priority_channel_waiting::attempts::{Attempt, Receive};
+use priority_channel_calls::receives::TryRecv;
+use priority_channel_waiting::retry::Retry;
 use priority_channel_waiting::timeouts::Ended;
 use priority_channel_waiting::until::Endless;
 use priority_channel_waiting::waiter::Waiter;
@@ -31,13 +32,13 @@ impl<A: Allocator + Copy> Waits<A> {
         }
     }
 
-    // What a `Receive` or a `ReceiveHeld` brings next.
-    pub(crate) fn next_on<T, P: Ord, R: Wait + Clone, C: Attempt<T, P, A> + Copy + Drop>(
+    // What a `TryRecv` or a `TryLease` brings next.
+    pub(crate) fn next_on<T, P: Ord, R: Wait + Clone, C: Retry<T, P, Waiter<A>, A, Left = ()> + Copy + Drop>(
         &mut self,
         handle: &Handle<T, P, R, A>,
         call: C,
     ) -> Option<C::Done>
-        requires { C.can_attempt call }
+        requires { C.can_make call }
         ensures shorter { IfSome result (λ _. self.new.left < self.old.left) }
         ensures ended { IfNone result (self.new.left ≡ 0) }
         ensures stays_ended { self.old.left ≡ 0 → result ≡ None }
@@ -60,9 +61,9 @@ fn wait_without_fail<
     P: Ord,
     R: Wait + Clone,
     A: Allocator + Copy,
-    C: Attempt<T, P, A> + Copy + Drop,
+    C: Retry<T, P, Waiter<A>, A, Left = ()> + Copy + Drop,
 >(handle: &Handle<T, P, R, A>, call: C, waiter: &mut Option<Waiter<A>>) -> Option<C::Done>
-    requires { C.can_attempt call }
+    requires { C.can_make call }
 {
     for _ in handle.rt().forever() {
         match handle.wait(call, &Endless, waiter) {
@@ -108,7 +109,7 @@ impl<'a, T, P: Ord, R: Wait + Clone, A: Allocator + Copy> Iterator for Iter<'a, 
 
     fn next(&mut self) -> Option<(T, P)> {
         let receiver = self.receiver;
-        self.waits.next_on(&receiver.handle, Receive)
+        self.waits.next_on(&receiver.handle, TryRecv)
     }
 }
 
@@ -131,7 +132,7 @@ impl<T: Drop, P: Ord + Drop, R: Wait + Clone, A: Allocator + Copy> Iterator
     ghost remaining = { λ s. at_most s.waits.left };
 
     fn next(&mut self) -> Option<(T, P)> {
-        self.waits.next_on(&self.receiver.handle, Receive)
+        self.waits.next_on(&self.receiver.handle, TryRecv)
     }
 }
 

@@ -11,7 +11,6 @@ use crate::receiver::Receiver;
 use crate::waiting::{Calling, LeaseNext};
 use priority_channel_calls::places::{Place, TryLease};
 use priority_channel_core::errors::{RecvFault, TryRecvManyError};
-use priority_channel_waiting::attempts::ReceiveHeld;
 use priority_channel_waiting::timeouts::RecvTimeoutError;
 use priority_channel_waiting::until::{Deadline, Endless};
 use std::alloc::{Allocator, Global};
@@ -225,7 +224,7 @@ impl<T: Drop, P: Ord + Drop, R: Wait + Clone, A: Allocator + Copy> Receiver<T, P
     pub fn lease_blocking(&self) -> Result<Lease<'_, T, P, R, A>, RecvFault>
         ensures { IfOk result (λ lease. lease.channel ≡ self.now) }
     {
-        let leased = self.handle.wait(ReceiveHeld, &Endless, &mut None)?;
+        let leased = self.handle.wait(TryLease, &Endless, &mut None)?;
         Ok(Lease::of(&self.handle, leased))
     }
 
@@ -249,7 +248,7 @@ impl<T: Drop, P: Ord + Drop, R: Wait + Clone, A: Allocator + Copy> Receiver<T, P
         ensures { IfOk result (λ lease. lease.channel ≡ self.now) }
     {
         let deadline = Deadline::after(self.handle.rt(), timeout);
-        let leased = self.handle.wait(ReceiveHeld, &deadline, &mut None)?;
+        let leased = self.handle.wait(TryLease, &deadline, &mut None)?;
         Ok(Lease::of(&self.handle, leased))
     }
 
@@ -274,7 +273,7 @@ impl<T: Drop, P: Ord + Drop, R: Wait + Clone, A: Allocator + Copy> Receiver<T, P
         ensures { IfOk result (λ lease. lease.channel ≡ self.now) }
     {
         let deadline = Deadline::at(self.handle.rt(), deadline);
-        let leased = self.handle.wait(ReceiveHeld, &deadline, &mut None)?;
+        let leased = self.handle.wait(TryLease, &deadline, &mut None)?;
         Ok(Lease::of(&self.handle, leased))
     }
 
@@ -293,7 +292,7 @@ impl<T: Drop, P: Ord + Drop, R: Wait + Clone, A: Allocator + Copy> Receiver<T, P
     pub fn lease(&self) -> LeaseNext<'_, T, P, R, A>
         ensures { result ≡ record { channel = self.now; ticket = None; is_done = false } }
     {
-        Calling::new(self, ReceiveHeld)
+        Calling::new(self, TryLease)
     }
 
     /// The messages one after another, each with its place held, until the channel is closed,
@@ -351,7 +350,7 @@ impl<'a, T: Drop, P: Ord + Drop, R: Wait + Clone, A: Allocator + Copy> Iterator
 
     fn next(&mut self) -> Option<Lease<'a, T, P, R, A>> {
         let receiver = self.receiver;
-        let leased = self.waits.next_on(&receiver.handle, ReceiveHeld)?;
+        let leased = self.waits.next_on(&receiver.handle, TryLease)?;
         Some(Lease::of(&receiver.handle, leased))
     }
 }

@@ -9,8 +9,8 @@ use crate::receiver::Receiver;
 use crate::waiting::{RecvState, Task};
 use futures::Future;
 use futures::task::{Context, Poll};
+use priority_channel_calls::receives::TryRecv;
 use priority_channel_core::errors::{RecvError, RecvFault, TryRecvManyError};
-use priority_channel_waiting::attempts::Receive;
 use priority_channel_waiting::states::One;
 use priority_channel_waiting::timeouts::{Ended, RecvTimeoutError};
 use priority_channel_waiting::until::{Deadline, Endless, Until};
@@ -53,9 +53,9 @@ impl<T, P: Ord, R: Wait + Clone, A: Allocator + Copy> Receiver<T, P, R, A> {
     {
         self.make_room(batch, limit);
         let most = limit.min(batch.capacity() - batch.len());
-        let mut held = self.handle.hold();
-        let (received, wakes) = held.core().try_recv_many(batch, most);
-        self.handle.release(held, wakes);
+        let mut locked = self.handle.lock();
+        let (received, to_wake) = locked.receive_many(self.handle.alloc(), batch, most);
+        to_wake.wake(self.handle.rt(), locked);
         match received {
             Ok(0) if limit > 0 => Err(TryRecvManyError::Memory),
             Ok(count) => Ok(count),
@@ -172,17 +172,17 @@ impl<T, P: Ord, R: Wait + Clone, A: Allocator + Copy> Receiver<T, P, R, A> {
         batch: &mut Vec<(T, P), B>,
         limit: usize,
         until: &U,
-    ) -> Result<usize, Ended<Receive, U::Over>>
+    ) -> Result<usize, Ended<(), U::Over>>
         ensures appended { IfOk result (Appends batch.old.items batch.new.items) }
         ensures limited { IfOk result (IsWithin limit) }
         ensures unchanged { OnErr result (batch.new.items ≡ batch.old.items) }
     {
         match self.answer_at_once(batch, limit) {
             Some(Ok(count)) => Ok(count),
-            Some(Err(RecvFault::Closed(_))) => Err(Ended::Closed(Receive)),
-            Some(Err(RecvFault::Memory)) => Err(Ended::Memory(Receive)),
+            Some(Err(RecvFault::Closed(_))) => Err(Ended::Closed(())),
+            Some(Err(RecvFault::Memory)) => Err(Ended::Memory(())),
             None => {
-                let first = self.handle.wait(Receive, until, &mut None)?;
+                let first = self.handle.wait(TryRecv, until, &mut None)?;
                 Ok(self.receive_with(first, batch, limit))
             }
         }

@@ -43,8 +43,8 @@ ghost use Rattle.priority_channel_waiting.specs.Waits.{left_over, given_back};
 use crate::handle::Handle;
 use crossbeam_utils::Backoff;
 use priority_channel_core::side::Side;
-use priority_channel_waiting::attempts::{Attempt, Outcome};
 use priority_channel_waiting::line::{Duty, Lead, Line, Listing, Queued, Ticket};
+use priority_channel_waiting::retry::{Outcome, Retry};
 use priority_channel_waiting::timeouts::Ended;
 use priority_channel_waiting::until::Until;
 use priority_channel_waiting::waiter::Waiter;
@@ -63,103 +63,121 @@ impl<T, P: Ord, R: Wait + Clone, A: Allocator + Copy> Handle<T, P, R, A> {
     /// has to wait, and is left for the next wait.
     #[tactic(auto, using(priority_channel_waiting::proofs::Ends::not_over))]
     #[inline(always)]
-    pub fn wait<C: Attempt<T, P, A>, U: Until>(
+    pub fn wait<C: Retry<T, P, Waiter<A>, A>, U: Until>(
         &self,
         call: C,
         until: &U,
         waiter: &mut Option<Waiter<A>>,
-    ) -> Result<C::Done, Ended<C, U::Over>>
-        requires { C.can_attempt call }
-        ensures { IfErr result (λ ended. C.can_attempt (given_back ended)
+    ) -> Result<C::Done, Ended<C::Left, U::Over>>
+        requires { C.can_make call }
+        ensures { IfErr result (λ ended. C.can_make (C.call_of (given_back ended))
             × C.leaves call (given_back ended) × OnOver ended (U.has_come until.now)) }
     {
         match self.attempt(call).answer() {
             Ok(answer) => answer,
-            Err(blocked) => self.wait_blocked(blocked, until, waiter),
+            Err(left) => self.wait_blocked::<C, U>(left, until, waiter),
         }
     }
 
     /// Makes a call, in one step.
     #[inline(always)]
-    pub fn attempt<C: Attempt<T, P, A>>(&self, call: C) -> Outcome<C::Done, C>
-        requires { C.can_attempt call }
-        ensures { IfSome (left_over result) (λ rest. C.can_attempt rest × C.leaves call rest) }
+    pub fn attempt<C: Retry<T, P, Waiter<A>, A>>(&self, call: C) -> Outcome<C::Done, C::Left>
+        requires { C.can_make call }
+        ensures { IfSome (left_over result) (λ left. C.can_make (C.call_of left)
+            × C.leaves call left) }
     {
-        let mut held = self.hold();
-        let (outcome, wakes) = call.try_on(held.core());
-        self.release(held, wakes);
-        outcome
+        C::outcome(self.call(call))
+    }
+
+    // Makes the call of what is left, in one step.
+    fn attempt_again<C: Retry<T, P, Waiter<A>, A>>(
+        &self,
+        left: C::Left,
+    ) -> Outcome<C::Done, C::Left>
+        requires { C.can_make (C.call_of left) }
+        ensures { IfSome (left_over result) (λ rest. C.can_make (C.call_of rest)
+            × C.leaves (C.call_of left) rest) }
+    {
+        self.attempt(C::again(left))
     }
 
     #[tactic(auto, using(priority_channel_waiting::proofs::Ends::not_over))]
     #[inline(never)]
-    fn wait_blocked<C: Attempt<T, P, A>, U: Until>(
+    fn wait_blocked<C: Retry<T, P, Waiter<A>, A>, U: Until>(
         &self,
-        call: C,
+        left: C::Left,
         until: &U,
         waiter: &mut Option<Waiter<A>>,
-    ) -> Result<C::Done, Ended<C, U::Over>>
-        requires { C.can_attempt call }
-        ensures { IfErr result (λ ended. C.can_attempt (given_back ended)
-            × C.leaves call (given_back ended) × OnOver ended (U.has_come until.now)) }
+    ) -> Result<C::Done, Ended<C::Left, U::Over>>
+        requires { C.can_make (C.call_of left) }
+        ensures { IfErr result (λ ended. C.can_make (C.call_of (given_back ended))
+            × C.leaves (C.call_of left) (given_back ended) × OnOver ended (U.has_come until.now)) }
     {
         if let Err(over) = until.left() {
-            return self.end_wait(call, over, until);
+            return self.end_wait::<C, U>(left, over, until);
         }
-        let blocked = match self.spin(call).answer() {
+        let left = match self.spin::<C>(left).answer() {
             Ok(answer) => return answer,
-            Err(blocked) => blocked,
+            Err(left) => left,
         };
         let Some(waiter) = Waiter::get_or_make(self.alloc(), waiter) else {
-            return Err(Ended::Memory(blocked));
+            return Err(Ended::Memory(left));
         };
         let side = C::side();
         let joined = self.line(side).join(waiter);
         let Ok(queued) = joined else {
-            return Err(Ended::Memory(blocked));
+            return Err(Ended::Memory(left));
         };
         match self.sleep_in_line(side, queued, until, waiter) {
             Ok(lead) => {
-                let answer = self.wait_as_first(blocked, until, waiter);
+                let answer = self.wait_as_first::<C, U>(left, until, waiter);
                 self.hand_on(side, lead);
                 answer
             }
-            Err(over) => self.end_wait(blocked, over, until),
+            Err(over) => self.end_wait::<C, U>(left, over, until),
         }
     }
 
     // Tries the call again for a while, if spinning was recently of use. Meanwhile the head of the
     // queue is not in the channel's list.
-    fn spin<C: Attempt<T, P, A>>(&self, call: C) -> Outcome<C::Done, C>
-        requires { C.can_attempt call }
-        ensures { IfSome (left_over result) (λ rest. C.can_attempt rest × C.leaves call rest) }
+    fn spin<C: Retry<T, P, Waiter<A>, A>>(
+        &self,
+        left: C::Left,
+    ) -> Outcome<C::Done, C::Left>
+        requires { C.can_make (C.call_of left) }
+        ensures { IfSome (left_over result) (λ rest. C.can_make (C.call_of rest)
+            × C.leaves (C.call_of left) rest) }
     {
         let side = C::side();
         if !self.spins(side).are_due() {
-            return Outcome::Blocked(call);
+            return Outcome::Blocked(left);
         }
         let mut line = self.line(side);
         let spinner = line.begin_spin();
         self.unlist(line.take_ticket());
         drop(line);
-        let outcome = self.look_for_a_while(call);
+        let outcome = self.look_for_a_while::<C>(left);
         let mut line = self.line(side);
         let duty = line.end_spin(spinner);
         self.rouse(side, &mut line, duty);
         outcome
     }
 
-    fn look_for_a_while<C: Attempt<T, P, A>>(&self, call: C) -> Outcome<C::Done, C>
-        requires { C.can_attempt call }
-        ensures { IfSome (left_over result) (λ rest. C.can_attempt rest × C.leaves call rest) }
+    fn look_for_a_while<C: Retry<T, P, Waiter<A>, A>>(
+        &self,
+        left: C::Left,
+    ) -> Outcome<C::Done, C::Left>
+        requires { C.can_make (C.call_of left) }
+        ensures { IfSome (left_over result) (λ rest. C.can_make (C.call_of rest)
+            × C.leaves (C.call_of left) rest) }
     {
         let spins = self.spins(C::side());
         let backoff = Backoff::new();
-        let mut rest = call;
+        let mut rest = left;
         for _ in 0..LOOKS {
             backoff.spin();
-            match self.attempt(rest) {
-                Outcome::Blocked(blocked) => rest = blocked,
+            match self.attempt_again::<C>(rest) {
+                Outcome::Blocked(left) => rest = left,
                 outcome => {
                     spins.note(true);
                     return outcome;
@@ -173,9 +191,7 @@ impl<T, P: Ord, R: Wait + Clone, A: Allocator + Copy> Handle<T, P, R, A> {
     // Takes the head of the queue off the channel's list, if it has a ticket there.
     fn unlist(&self, ticket: Option<Ticket>) {
         if let Some(ticket) = ticket {
-            let mut held = self.hold();
-            ticket.give_up(held.core());
-            self.unlock(held);
+            self.call(ticket.into_call());
         }
     }
 
@@ -186,9 +202,9 @@ impl<T, P: Ord, R: Wait + Clone, A: Allocator + Copy> Handle<T, P, R, A> {
         let Some(duty) = line.check(duty) else {
             return;
         };
-        let mut held = self.hold();
-        let unlisted = line.list_for(duty, side, held.core());
-        self.unlock(held);
+        let mut locked = self.lock();
+        let (unlisted, to_wake) = locked.list_for(self.alloc(), side, line, duty);
+        to_wake.wake(self.rt(), locked);
         if let Some(unlisted) = unlisted {
             line.wake_first(unlisted);
         }
@@ -227,33 +243,33 @@ impl<T, P: Ord, R: Wait + Clone, A: Allocator + Copy> Handle<T, P, R, A> {
     }
 
     #[tactic(auto, using(priority_channel_waiting::proofs::Ends::not_over))]
-    fn wait_as_first<C: Attempt<T, P, A>, U: Until>(
+    fn wait_as_first<C: Retry<T, P, Waiter<A>, A>, U: Until>(
         &self,
-        call: C,
+        left: C::Left,
         until: &U,
         waiter: &Waiter<A>,
-    ) -> Result<C::Done, Ended<C, U::Over>>
-        requires { C.can_attempt call }
-        ensures { IfErr result (λ ended. C.can_attempt (given_back ended)
-            × C.leaves call (given_back ended) × OnOver ended (U.has_come until.now)) }
+    ) -> Result<C::Done, Ended<C::Left, U::Over>>
+        requires { C.can_make (C.call_of left) }
+        ensures { IfErr result (λ ended. C.can_make (C.call_of (given_back ended))
+            × C.leaves (C.call_of left) (given_back ended) × OnOver ended (U.has_come until.now)) }
     {
         let side = C::side();
-        let mut rest = call;
+        let mut rest = left;
         for _ in self.rt().forever() {
-            let left = match until.left() {
-                Ok(left) => left,
-                Err(over) => return self.end_wait(rest, over, until),
+            let time = match until.left() {
+                Ok(time) => time,
+                Err(over) => return self.end_wait::<C, U>(rest, over, until),
             };
             match self.list_first(side) {
                 // The thread may wake early. Or another thread may have taken by now what it was
                 // woken for.
-                Listing::Listed => waiter.park(self.rt(), left),
+                Listing::Listed => waiter.park(self.rt(), time),
                 Listing::Free => {}
                 Listing::Refused => return Err(Ended::Memory(rest)),
             }
-            match self.look_again(rest).answer() {
+            match self.look_again::<C>(rest).answer() {
                 Ok(answer) => return answer,
-                Err(blocked) => rest = blocked,
+                Err(left) => rest = left,
             }
         }
         unreachable!()
@@ -262,19 +278,23 @@ impl<T, P: Ord, R: Wait + Clone, A: Allocator + Copy> Handle<T, P, R, A> {
     // Has the channel list the head of the queue, which is this thread.
     fn list_first(&self, side: Side) -> Listing {
         let mut line = self.line(side);
-        let mut held = self.hold();
-        let listing = line.list_first(side, held.core());
-        self.unlock(held);
+        let mut locked = self.lock();
+        let (listing, to_wake) = locked.list_first(self.alloc(), side, &mut line);
+        to_wake.wake(self.rt(), locked);
         listing
     }
 
     // A success right after a wake-up does not count as a success of spinning.
-    fn look_again<C: Attempt<T, P, A>>(&self, call: C) -> Outcome<C::Done, C>
-        requires { C.can_attempt call }
-        ensures { IfSome (left_over result) (λ rest. C.can_attempt rest × C.leaves call rest) }
+    fn look_again<C: Retry<T, P, Waiter<A>, A>>(
+        &self,
+        left: C::Left,
+    ) -> Outcome<C::Done, C::Left>
+        requires { C.can_make (C.call_of left) }
+        ensures { IfSome (left_over result) (λ rest. C.can_make (C.call_of rest)
+            × C.leaves (C.call_of left) rest) }
     {
-        match self.attempt(call) {
-            Outcome::Blocked(blocked) => self.spin(blocked),
+        match self.attempt_again::<C>(left) {
+            Outcome::Blocked(left) => self.spin::<C>(left),
             outcome => outcome,
         }
     }
@@ -288,23 +308,23 @@ impl<T, P: Ord, R: Wait + Clone, A: Allocator + Copy> Handle<T, P, R, A> {
     }
 
     // A last attempt, without memory for waiting.
-    fn end_wait<C: Attempt<T, P, A>, U: Until>(
+    fn end_wait<C: Retry<T, P, Waiter<A>, A>, U: Until>(
         &self,
-        call: C,
+        left: C::Left,
         over: U::Over,
         until: &U,
-    ) -> Result<C::Done, Ended<C, U::Over>>
-        requires call { C.can_attempt call }
+    ) -> Result<C::Done, Ended<C::Left, U::Over>>
+        requires call { C.can_make (C.call_of left) }
         requires over { U.has_come until.now over }
-        ensures { IfErr result (λ ended. C.can_attempt (given_back ended)
-            × C.leaves call (given_back ended) × OnOver ended (U.has_come until.now)) }
+        ensures { IfErr result (λ ended. C.can_make (C.call_of (given_back ended))
+            × C.leaves (C.call_of left) (given_back ended) × OnOver ended (U.has_come until.now)) }
     {
-        match self.attempt(call) {
+        match self.attempt_again::<C>(left) {
             Outcome::Done(done) => Ok(done),
             // If memory is refused only in this attempt, the error is still that the time is over:
             // there was no room in time.
-            Outcome::Blocked(call) | Outcome::Memory(call) => Err(Ended::Over(call, over)),
-            Outcome::Closed(call) => Err(Ended::Closed(call)),
+            Outcome::Blocked(left) | Outcome::Memory(left) => Err(Ended::Over(left, over)),
+            Outcome::Closed(left) => Err(Ended::Closed(left)),
         }
     }
 }

@@ -27,7 +27,7 @@ impl<T, P: Ord, R: Wait + Clone, A: Allocator + Copy> Receiver<T, P, R, A> {
         ensures { IfSome result (λ told. (msg : _) × (priority : _)
             × F.post look msg priority told) }
     {
-        let held = self.handle.look();
+        let held = self.handle.lock();
         match held.core().peek() {
             Some((msg, priority)) => Some(look(msg, priority)),
             None => None,

@@ -121,7 +121,7 @@ impl<T, P: Ord, R: Wait + Clone, A: Allocator + Copy> Sender<T, P, R, A> {
     pub fn reserve_blocking(&self) -> Result<Permit<'_, T, P, R, A>, SendFault<()>>
         ensures { IfOk result (λ permit. permit ≡ self.now) }
     {
-        let place = self.handle.wait((), &Endless, &mut None)?;
+        let place = self.handle.wait(TryReserve, &Endless, &mut None)?;
         Ok(Permit::of(&self.handle, place))
     }
 
@@ -146,7 +146,7 @@ impl<T, P: Ord, R: Wait + Clone, A: Allocator + Copy> Sender<T, P, R, A> {
         ensures { IfOk result (λ permit. permit ≡ self.now) }
     {
         let deadline = Deadline::after(self.handle.rt(), timeout);
-        let place = self.handle.wait((), &deadline, &mut None)?;
+        let place = self.handle.wait(TryReserve, &deadline, &mut None)?;
         Ok(Permit::of(&self.handle, place))
     }
 
@@ -172,7 +172,7 @@ impl<T, P: Ord, R: Wait + Clone, A: Allocator + Copy> Sender<T, P, R, A> {
         ensures { IfOk result (λ permit. permit ≡ self.now) }
     {
         let deadline = Deadline::at(self.handle.rt(), deadline);
-        let place = self.handle.wait((), &deadline, &mut None)?;
+        let place = self.handle.wait(TryReserve, &deadline, &mut None)?;
         Ok(Permit::of(&self.handle, place))
     }
 
@@ -193,6 +193,6 @@ impl<T, P: Ord, R: Wait + Clone, A: Allocator + Copy> Sender<T, P, R, A> {
     pub fn reserve(&self) -> Reserve<'_, T, P, R, A>
         ensures { result ≡ record { channel = self.now; ticket = None; is_done = false } }
     {
-        Calling::new(self, ())
+        Calling::new(self, TryReserve)
     }
 }

@@ -4,7 +4,7 @@
 //! The thread looks at the channel. If nothing is for it, it is listed in the same hold of the
 //! lock, and sleeps until something has changed of what it looks at, or an instant has come for
 //! which it asked.
-ghost use Rattle.std.specs.Prelude.{◌≡◌, true, false, None, IfOk, IfErr, IsSome, OnErr};
+ghost use Rattle.std.specs.Prelude.{◌≡◌, true, false, None, IfOk, IfErr, IsSome};
 ghost use Rattle.priority_channel_core.specs.bag.Prelude.{Tells};
 ghost use Rattle.priority_channel_waiting.specs.Ends.{OnOver};
 ghost use Rattle.priority_channel_waiting.specs.Seeking.{ComesDue, IfEnded, IfFound, IfNotYet};
@@ -13,12 +13,12 @@ use crate::handle::Handle;
 use crate::receiver::Receiver;
 use crate::waiting::{RecvWhere, Seeking};
 use priority_channel_core::errors::RecvFault;
-use priority_channel_waiting::seeking::{Due, Seek, Sought, When, Where};
-use priority_channel_waiting::selecting::{Listed, Sight};
+use priority_channel_waiting::seeking::{Due, Look, Seek, Sought, When, Where};
+use priority_channel_waiting::selecting::Sight;
 use priority_channel_waiting::timeouts::{Ended, RecvTimeoutError};
 use priority_channel_waiting::until::{Deadline, Endless, Until};
 use priority_channel_waiting::waiter::Waiter;
-use std::alloc::{AllocError, Allocator};
+use std::alloc::Allocator;
 use std::sync::{Wait, WaitMethods};
 use std::time::{Clock, Duration, Instant};
 
@@ -232,11 +232,8 @@ impl<T, P: Ord, R: Wait + Clone, A: Allocator + Copy> Handle<T, P, R, A> {
         ensures over { IfErr result (λ ended. OnOver ended (U.has_come until.now)) }
     {
         let left = until.left();
-        match self.seek(seek) {
-            Sought::Found(found) => return Ok(found),
-            Sought::Over => return Err(Ended::Closed(())),
-            Sought::Memory => return Err(Ended::Memory(())),
-            Sought::NotYet(_) => {}
+        if let Ok(answer) = self.seek(seek).answer() {
+            return answer;
         }
         if let Err(over) = left {
             return Err(Ended::Over((), over));
@@ -252,10 +249,7 @@ impl<T, P: Ord, R: Wait + Clone, A: Allocator + Copy> Handle<T, P, R, A> {
         requires { S.can_seek seek.now }
         ensures { IfFound result (S.meets seek.now) }
     {
-        let mut held = self.hold();
-        let (sought, wakes) = seek.seek(held.core());
-        self.release(held, wakes);
-        sought
+        self.call(Look { seek })
     }
 
     // Looks again after each sleep, and is listed while it sleeps.
@@ -275,62 +269,36 @@ impl<T, P: Ord, R: Wait + Clone, A: Allocator + Copy> Handle<T, P, R, A> {
                 Ok(left) => left,
                 Err(over) => return self.seek_last(seek, ticket, over, until),
             };
-            match self.seek_or_listen(seek, &mut ticket, waiter) {
-                Ok(Sought::Found(found)) => return Ok(found),
-                Ok(Sought::Over) => return Err(Ended::Closed(())),
-                Ok(Sought::NotYet(within)) => waiter.park(self.rt(), sooner(left, within)),
-                Ok(Sought::Memory) => return Err(Ended::Memory(())),
-                Err(AllocError) => return Err(Ended::Memory(())),
+            match self.seek_or_list(seek, &mut ticket, waiter).answer() {
+                Ok(answer) => return answer,
+                Err(within) => waiter.park(self.rt(), sooner(left, within)),
             }
         }
         unreachable!()
     }
 
-    /// Looks, and if nothing is found has the waiter listed in the same hold. The error is that
-    /// this was refused.
-    pub fn seek_or_listen<S: Seek<T, P, A>>(
+    /// Looks, and if nothing is found has the waiter listed in the same hold.
+    pub fn seek_or_list<S: Seek<T, P, A>>(
         &self,
         seek: &S,
         ticket: &mut Option<u64>,
         waiter: &Waiter<A>,
-    ) -> Result<Sought<S::Found>, AllocError>
+    ) -> Sought<S::Found>
         requires { S.can_seek seek.now }
-        ensures found { IfOk result (λ sought. IfFound sought (S.meets seek.now)) }
-        ensures listed { IfOk result (λ sought. IfNotYet sought (IsSome ticket.new)) }
-        ensures ended { IfOk result (λ sought. IfEnded sought (ticket.new ≡ None)) }
-        ensures refused { OnErr result (ticket.new ≡ None) }
+        ensures found { IfFound result (S.meets seek.now) }
+        ensures listed { IfNotYet result (IsSome ticket.new) }
+        ensures ended { IfEnded result (ticket.new ≡ None) }
     {
-        let given = ticket.take();
-        let mut held = self.hold();
-        let (sought, wakes) = seek.seek(held.core());
-        let Sought::NotYet(within) = sought else {
-            if let Some(given) = given {
-                held.unlisten(S::sight(), given);
-            }
-            self.release(held, wakes);
-            return Ok(sought);
-        };
-        let (listed, others) = held.listen(self.alloc(), S::sight(), given, waiter);
-        self.release(held, wakes);
-        if let Some(others) = others {
-            others.wake(self.rt());
-        }
-        match listed {
-            Listed::Under(listed) => {
-                *ticket = Some(listed);
-                Ok(Sought::NotYet(within))
-            }
-            Listed::Over => Ok(Sought::Over),
-            Listed::Refused => Err(AllocError),
-        }
+        let mut locked = self.lock();
+        let (sought, to_wake) = locked.seek_or_list(self.alloc(), seek, ticket, waiter);
+        to_wake.wake(self.rt(), locked);
+        sought
     }
 
     /// Takes a waiter off its list beside the core, if it has a ticket.
-    pub fn unlisten(&self, sight: Sight, ticket: Option<u64>) {
+    pub fn unlist_beside(&self, sight: Sight, ticket: Option<u64>) {
         if let Some(ticket) = ticket {
-            let mut held = self.hold();
-            held.unlisten(sight, ticket);
-            self.unlock(held);
+            self.lock().unlist(sight, ticket);
         }
     }
 
@@ -347,7 +315,7 @@ impl<T, P: Ord, R: Wait + Clone, A: Allocator + Copy> Handle<T, P, R, A> {
         ensures found { IfOk result (S.meets seek.now) }
         ensures over { IfErr result (λ ended. OnOver ended (U.has_come until.now)) }
     {
-        self.unlisten(S::sight(), ticket);
+        self.unlist_beside(S::sight(), ticket);
         match self.seek(seek) {
             Sought::Found(found) => Ok(found),
             Sought::Over => Err(Ended::Closed(())),

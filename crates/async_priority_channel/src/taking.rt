@@ -96,7 +96,7 @@ impl<S: Role, T, P: Ord, R: Wait + Clone, A: Allocator + Copy> End<S, T, P, R, A
         F: Drop,
         requires { F.IsAlwaysCallable test }
     {
-        self.handle.look().core().count_where(&test)
+        self.handle.lock().core().count_where(&test)
     }
 
     /// Calls `step` on each pending message in turn, in no specified order, with what the call
@@ -120,7 +120,7 @@ impl<S: Role, T, P: Ord, R: Wait + Clone, A: Allocator + Copy> End<S, T, P, R, A
         requires { F.IsAlwaysCallable step }
         ensures { (pairs : List (T × P)) × FoldsTo (Folds F.Fn step) init pairs result }
     {
-        self.handle.look().core().fold_pending(init, &step)
+        self.handle.lock().core().fold_pending(init, &step)
     }
 
     /// Keeps the pending messages for which the test returns true. All others are returned, in no

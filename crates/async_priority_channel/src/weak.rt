@@ -75,7 +75,7 @@ impl<S: Role, T, P: Ord, R: Wait + Clone, A: Allocator + Copy> Weak<S, T, P, R, 
     /// assert!(rt; weak.is_closed());
     /// ```
     pub fn is_closed(&self) -> bool {
-        self.handle.look().core().is_closed()
+        self.handle.lock().core().is_closed()
     }
 }
 

@@ -1,3 +1,4 @@
+pub mod Chosen
 pub mod Fronts
 pub mod Runs
 pub mod Tails

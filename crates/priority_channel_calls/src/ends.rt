@@ -2,7 +2,7 @@
 ghost use Rattle.priority_channel_core.specs.declared.calls.Call.TheVariants as call;
 ghost use Rattle.priority_channel_core.specs.declared.calls.Answer.TheVariants as answer;
 ghost use Rattle.priority_channel_calls.specs.Told.{joined, joined_open, left};
-ghost use Rattle.priority_channel_calls.specs.Told.Told.{Exactly};
+ghost use Rattle.priority_channel_calls.specs.Told.Told.{Exactly, Nothing};
 
 use crate::call::CoreCall;
 use priority_channel_core::awaitable_atomics::Wakes;
@@ -37,6 +37,22 @@ impl<T, P: Ord, W: Clone, A: Allocator + Copy> CoreCall<T, P, W, A> for CloseWhe
     #[tactic(auto, using(crate::proofs::Runs::makes_one))]
     fn make_on(self, core: &mut PriorityQueueChannel<T, P, W, A>) -> ((), Wakes<W, A>) {
         ((), core.close_when_done())
+    }
+}
+
+/// Memory of a queue that was longer goes back. No state changes.
+#[derive(Clone, Copy)]
+pub struct ShrinkToFit;
+
+impl<T, P: Ord, W: Clone, A: Allocator + Copy> CoreCall<T, P, W, A> for ShrinkToFit {
+    type Answer = ();
+
+    ghost told = { λ it done. Nothing };
+
+    #[tactic(auto, using(crate::proofs::Runs::makes_nothing))]
+    fn make_on(self, core: &mut PriorityQueueChannel<T, P, W, A>) -> ((), Wakes<W, A>) {
+        core.shrink_to_fit();
+        ((), core.nobody())
     }
 }
 

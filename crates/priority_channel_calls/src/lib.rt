@@ -12,3 +12,4 @@ pub mod places;
 pub mod receives;
 pub mod sends;
 pub mod taking;
+pub mod waits;

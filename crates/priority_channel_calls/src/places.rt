@@ -1,9 +1,10 @@
 //! Held places: got, kept, filled and freed.
-ghost use Rattle.std.specs.Prelude.{◌≡◌, true, IfOk, IfErr, IfSome};
+ghost use Rattle.std.specs.Prelude.{◌≡◌, true, false, All, IfOk, IfErr, IfNone, IfSome};
 ghost use Rattle.priority_channel_core.specs.bag.Prelude.{Tells};
 ghost use Rattle.priority_channel_core.specs.declared.calls.Call.TheVariants as call;
 ghost use Rattle.priority_channel_core.specs.declared.calls.Answer.TheVariants as answer;
-ghost use Rattle.priority_channel_calls.specs.Told.{beside_place, beside_place_if, leased_if, leased_where, without_place, put_told};
+ghost use Rattle.priority_channel_calls.specs.Chosen.{MostUrgent};
+ghost use Rattle.priority_channel_calls.specs.Told.{beside_place, beside_place_if, leased_if, leased_where, without_place, put_told, Makes};
 ghost use Rattle.priority_channel_calls.specs.Told.Told.{Exactly, After};
 
 use crate::call::CoreCall;
@@ -115,7 +116,18 @@ impl<T, P: Ord, W: Clone, A: Allocator + Copy, F: Fn(&T, &P) -> bool> CoreCall<T
     ) -> (
         Result<Option<(Place, (T, P))>, TryRecvManyError>,
         Wakes<W, A>,
-    ) {
+    )
+        requires { F.IsAlwaysCallable self.test.now }
+        ensures made { Makes P.cmp W.is_clone core.old.state
+            (leased_where (beside_place_if result.0)) result.1 core.new.state }
+        ensures meets { IfOk result.0 (λ leased. IfSome leased (λ held.
+            Tells F.Fn self.entry.test.now held.1 true)) }
+        ensures greatest { IfOk result.0 (λ leased. IfSome leased (λ held.
+            MostUrgent P.cmp F.Fn self.entry.test.now core.old.state.pending held.1
+            core.new.state.pending)) }
+        ensures none { IfOk result.0 (λ leased. IfNone leased
+            (All (λ pair. Tells F.Fn self.entry.test.now pair false) core.old.state.pending)) }
+    {
         let TryLeaseWhere { test } = self;
         (hold_place(core.try_lease_where(test)), core.nobody())
     }

@@ -1,9 +1,10 @@
 //! Receives of one pair.
-ghost use Rattle.std.specs.Prelude.{true, IfOk, IfSome};
+ghost use Rattle.std.specs.Prelude.{true, false, All, IfOk, IfNone, IfSome};
 ghost use Rattle.priority_channel_core.specs.bag.Prelude.{Tells};
 ghost use Rattle.priority_channel_core.specs.declared.calls.Call.TheVariants as call;
 ghost use Rattle.priority_channel_core.specs.declared.calls.Answer.TheVariants as answer;
-ghost use Rattle.priority_channel_calls.specs.Told.{received_if, received_where};
+ghost use Rattle.priority_channel_calls.specs.Chosen.{MostUrgent};
+ghost use Rattle.priority_channel_calls.specs.Told.{received_if, received_where, Makes};
 ghost use Rattle.priority_channel_calls.specs.Told.Told.{Exactly};
 
 use crate::call::CoreCall;
@@ -77,7 +78,18 @@ impl<T, P: Ord, W: Clone, A: Allocator + Copy, F: Fn(&T, &P) -> bool> CoreCall<T
     fn make_on(
         self,
         core: &mut PriorityQueueChannel<T, P, W, A>,
-    ) -> (Result<Option<(T, P)>, TryRecvError>, Wakes<W, A>) {
+    ) -> (Result<Option<(T, P)>, TryRecvError>, Wakes<W, A>)
+        requires { F.IsAlwaysCallable self.test.now }
+        ensures made { Makes P.cmp W.is_clone core.old.state (received_where result.0) result.1
+            core.new.state }
+        ensures meets { IfOk result.0 (λ taken. IfSome taken (λ pair.
+            Tells F.Fn self.entry.test.now pair true)) }
+        ensures greatest { IfOk result.0 (λ taken. IfSome taken (λ pair.
+            MostUrgent P.cmp F.Fn self.entry.test.now core.old.state.pending pair
+            core.new.state.pending)) }
+        ensures none { IfOk result.0 (λ taken. IfNone taken
+            (All (λ pair. Tells F.Fn self.entry.test.now pair false) core.old.state.pending)) }
+    {
         let TryRecvWhere { test } = self;
         core.try_recv_where(test)
     }

@@ -7,10 +7,8 @@ use Rattle.priority_channel_core.specs.declared.errors.TrySendError.TheVariants 
 use Rattle.priority_channel_core.specs.declared.errors.TryRecvError.TheVariants as try_recv
 use Rattle.priority_channel_core.specs.declared.errors.SendFault.TheVariants as send_fault
 use Rattle.priority_channel_core.specs.declared.errors.RecvFault.TheVariants as recv_fault
-use Rattle.priority_channel_waiting.specs.declared.attempts.Outcome.{Outcome}
-use Rattle.priority_channel_waiting.specs.declared.attempts.Outcome.TheVariants.{Done, Blocked, Closed, Memory}
-use Rattle.priority_channel_waiting.specs.declared.attempts.Receive.{Receive}
-use Rattle.priority_channel_waiting.specs.declared.attempts.ReceiveHeld.{ReceiveHeld}
+use Rattle.priority_channel_waiting.specs.declared.retry.Outcome.{Outcome}
+use Rattle.priority_channel_waiting.specs.declared.retry.Outcome.TheVariants.{Done, Blocked, Closed, Memory}
 use Rattle.priority_channel_core.specs.declared.errors.TryRecvManyError.TheVariants as try_lease
 use Rattle.priority_channel_waiting.specs.declared.timeouts.Ended.{Ended}
 use Rattle.priority_channel_waiting.specs.declared.timeouts.Ended.TheVariants as ended
@@ -29,24 +27,23 @@ module _ {D C : Type 0} where
   left_over (Closed rest) = Some rest
   left_over (Memory rest) = Some rest
 
--- the outcome of a try
-abbrev pub outcome_of_try : {D C : Type 0} → Result D (TrySendError C) → Outcome D C
-outcome_of_try (Ok done) = Done done
-outcome_of_try (Err (try_send.Full rest)) = Blocked rest
-outcome_of_try (Err (try_send.Closed rest)) = Closed rest
-outcome_of_try (Err (try_send.Memory rest)) = Memory rest
+-- what the answers of a send, of a receive and of a lease tell
+abbrev pub outcome_of_send : {D C : Type 0} → Result D (TrySendError C) → Outcome D C
+outcome_of_send (Ok done) = Done done
+outcome_of_send (Err (try_send.Full rest)) = Blocked rest
+outcome_of_send (Err (try_send.Closed rest)) = Closed rest
+outcome_of_send (Err (try_send.Memory rest)) = Memory rest
 
-abbrev pub recv_tried : {X : Type 0} → Receive → RecvReply X → Outcome X Receive
-recv_tried call (Ok pair) = Done pair
-recv_tried call (Err try_recv.Empty) = Blocked call
-recv_tried call (Err try_recv.Closed) = Closed call
+abbrev pub outcome_of_recv : {X : Type 0} → RecvReply X → Outcome X (Unit {0})
+outcome_of_recv (Ok pair) = Done pair
+outcome_of_recv (Err try_recv.Empty) = Blocked tt
+outcome_of_recv (Err try_recv.Closed) = Closed tt
 
-abbrev pub lease_tried : {X : Type 0} → ReceiveHeld → Result X TryRecvManyError
-    → Outcome X ReceiveHeld
-lease_tried call (Ok pair) = Done pair
-lease_tried call (Err try_lease.Empty) = Blocked call
-lease_tried call (Err try_lease.Closed) = Closed call
-lease_tried call (Err try_lease.Memory) = Memory call
+abbrev pub outcome_of_lease : {X : Type 0} → Result X TryRecvManyError → Outcome X (Unit {0})
+outcome_of_lease (Ok leased) = Done leased
+outcome_of_lease (Err try_lease.Empty) = Blocked tt
+outcome_of_lease (Err try_lease.Closed) = Closed tt
+outcome_of_lease (Err try_lease.Memory) = Memory tt
 
 module _ {C O : Type 0} where
   abbrev pub given_back : Ended C O → C

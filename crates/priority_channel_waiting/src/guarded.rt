@@ -1,10 +1,25 @@
-//! What the channel's lock guards, and the holds of the lock.
-ghost use Rattle.std.specs.Prelude.{◌≡◌, false, None, Some, IfSome, IsSomeAnd, box_value, option_map};
-ghost use Rattle.priority_channel_waiting.specs.Selecting.{TakesOff};
+//! What the channel's lock guards, and what is done under it.
+//!
+//! Each call here ends with who is to be woken (`ToWake`), which nobody can forget: it wakes once the
+//! lock is free.
+ghost use Rattle.std.specs.Prelude.{◌≡◌, ◌≢◌, ◌+◌, ◌≤◌, ◌++◌, List, length, None, IfOk, IfNone, IfSome, IsSome, OnErr, option_map, box_value, vec_len, vec_capacity};
+ghost use Rattle.priority_channel_core.specs.Prelude.{IsBlocked, ReceivesInTurn};
+ghost use Rattle.priority_channel_calls.specs.Told.{Makes};
+ghost use Rattle.priority_channel_waiting.specs.Guarded.{HaveSeenAll, TakesOffBeside};
+ghost use Rattle.priority_channel_waiting.specs.Holding.{left_after};
+ghost use Rattle.priority_channel_waiting.specs.Lines.{Lists};
+ghost use Rattle.priority_channel_waiting.specs.Seeking.{IfEnded, IfFound, IfNotYet};
 
+use crate::line::{Duty, Line, Listing, Unlisted, list_waiter};
+use crate::polled::Polled;
+use crate::seeking::{Seek, Sought};
 use crate::selecting::{Listed, OtherWakes, Selecting, Sight};
 use crate::waiter::{Core, Waiter, wake_all};
+use priority_channel_calls::call::CoreCall;
 use priority_channel_core::awaitable_atomics::Wakes;
+use priority_channel_core::calls::CorePoll;
+use priority_channel_core::errors::TryRecvError;
+use priority_channel_core::side::Side;
 use std::alloc::Allocator;
 use std::marker::Model;
 use std::sync::{MutexGuard, Wait};
@@ -13,13 +28,12 @@ use std::sync::{MutexGuard, Wait};
 /// condition.
 ///
 /// While the lock is free, nobody waits so who has not seen what is there. In particular, nobody
-/// waits for the close of a closed channel. The invariant says so, and the prover checks it at each
-/// release.
+/// waits for the close of a closed channel. The invariant says so, and the prover checks it at the
+/// end of each call.
 #[derive(Drop)]
 pub struct Guarded<T, P: Ord, A: Allocator + Copy> {
     core: Core<T, P, A>,
-    // None until the first task or thread waits so, and while a call is made that may change the
-    // core.
+    // None until the first task or thread waits so.
     selecting: Option<Box<Selecting<A>, A>>,
 }
 
@@ -37,38 +51,218 @@ impl<T, P: Ord, A: Allocator + Copy> Model for Guarded<T, P, A> {
     ghost invariant = { λ g. HaveSeenAll (option_map box_value g.selecting) g.core };
 }
 
+/// The waiters that were taken off their lists. They are to be woken once the lock is free.
+pub struct ToWake<A: Allocator> {
+    wakes: Wakes<Waiter<A>, A>,
+    others: Option<OtherWakes<A>>,
+}
+
+impl<A: Allocator> Model for ToWake<A> {
+    ghost use Rattle.priority_channel_waiting.specs.Guarded.{AllWoken};
+
+    ghost Value = { AllWoken };
+
+    ghost view = { λ w. record { handed = w.wakes; others = w.others } };
+}
+
+impl<A: Allocator + Copy> ToWake<A> {
+    // After a call that took no waiter off the core's lists.
+    fn beside<T, P: Ord>(core: &Core<T, P, A>, others: Option<OtherWakes<A>>) -> Self {
+        ToWake {
+            wakes: core.nobody(),
+            others,
+        }
+    }
+
+    /// Releases the lock, and then wakes them.
+    #[inline(always)]
+    pub fn wake<T, P: Ord, R: Wait>(self, rt: &R, locked: MutexGuard<'_, Guarded<T, P, A>>) {
+        drop(locked);
+        let ToWake { wakes, others } = self;
+        wake_all(rt, wakes);
+        if let Some(others) = others {
+            others.wake(rt);
+        }
+    }
+}
+
+// Takes off those beside the core that have to look again.
+#[inline(always)]
+fn take_due<T, P: Ord, A: Allocator + Copy>(
+    selecting: &mut Option<Box<Selecting<A>, A>>,
+    core: &Core<T, P, A>,
+    alloc: A,
+) -> Option<OtherWakes<A>>
+    ensures seen { HaveSeenAll (option_map box_value selecting.new) core.now }
+    ensures moved { TakesOffBeside (option_map box_value selecting.old) result
+        (option_map box_value selecting.new) }
+{
+    match selecting {
+        Some(selecting) => selecting.due(core, alloc),
+        None => None,
+    }
+}
+
 impl<T, P: Ord, A: Allocator + Copy> Guarded<T, P, A> {
-    pub fn new(alloc: A, core: Core<T, P, A>) -> Self {
+    pub fn new(core: Core<T, P, A>) -> Self {
         Guarded {
             core,
             selecting: None,
         }
     }
 
-    // The core for a call that may change it.
+    /// The core, for a query.
     #[inline(always)]
-    fn core(&mut self) -> &mut Core<T, P, A>
-        requires { self.old.selecting ≡ None }
-    {
-        &mut self.core
+    pub fn core(&self) -> &Core<T, P, A> {
+        &self.core
     }
 
+    /// Makes a call.
     #[inline(always)]
-    fn take_selecting(&mut self) -> Option<Box<Selecting<A>, A>>
-        ensures taken { option_map box_value result ≡ self.old.selecting }
-        ensures left { self.new.selecting ≡ None }
+    pub fn make<C: CoreCall<T, P, Waiter<A>, A>>(
+        &mut self,
+        alloc: A,
+        call: C,
+    ) -> (C::Answer, ToWake<A>)
+        requires { C.can_make call }
+        ensures made { Makes P.cmp ⟦<Waiter<A> as Clone>⟧.is_clone self.old.core.state
+            (C.told call result.0) result.1.handed self.new.core.state }
+        ensures beside { TakesOffBeside self.old.selecting result.1.others self.new.selecting }
+        ensures gives { C.gives call result.0 }
     {
-        self.selecting.take()
+        let (answer, wakes) = call.make_on(&mut self.core);
+        let others = take_due(&mut self.selecting, &self.core, alloc);
+        (answer, ToWake { wakes, others })
     }
 
-    // Puts the waiters beside the core back, except for those that have to look again.
-    fn put_back(&mut self, alloc: A, selecting: Box<Selecting<A>, A>) -> Option<OtherWakes<A>>
-        ensures { IsSomeAnd self.new.selecting (TakesOff (box_value selecting) result) }
+    /// Polls what a future keeps.
+    pub fn poll<K: Polled<T, P, Waiter<A>, A>>(
+        &mut self,
+        alloc: A,
+        kept: K,
+        ticket: Option<u64>,
+        waiter: &Waiter<A>,
+    ) -> (CorePoll<K::Answer, K>, ToWake<A>)
+        requires { K.can_poll kept }
+        ensures polled { K.polls kept ticket waiter.now self.old.core result.0 result.1.handed
+            self.new.core }
+        ensures beside { TakesOffBeside self.old.selecting result.1.others self.new.selecting }
+        ensures left { IfSome (left_after K.back result.0)
+            (λ rest. K.can_poll rest × K.leaves kept rest) }
     {
-        let mut selecting = selecting;
-        let due = selecting.due(&self.core, alloc);
-        self.selecting = Some(selecting);
-        due
+        let (polled, wakes) = kept.poll_on(&mut self.core, ticket, waiter);
+        let others = take_due(&mut self.selecting, &self.core, alloc);
+        (polled, ToWake { wakes, others })
+    }
+
+    /// Has the core list a waiter, if it has to wait (see `list_waiter`).
+    pub fn list(
+        &mut self,
+        alloc: A,
+        side: Side,
+        ticket: &mut Option<u64>,
+        waiter: &Waiter<A>,
+    ) -> (Listing, ToWake<A>)
+        ensures listed { result.0 ≡ Listing.Listed → IsBlocked side self.old.core.state
+            × Lists side ticket.old waiter.now ticket.new self.old.core.state
+            self.new.core.state }
+        ensures waits { IsBlocked side self.old.core.state → result.0 ≢ Listing.Free }
+        ensures refused { result.0 ≡ Listing.Refused → ticket.new ≡ None }
+    {
+        let listing = list_waiter(side, &mut self.core, ticket, waiter);
+        let others = take_due(&mut self.selecting, &self.core, alloc);
+        (listing, ToWake::beside(&self.core, others))
+    }
+
+    /// Has the core list the head of a queue (see `Line::list_first`).
+    pub fn list_first(
+        &mut self,
+        alloc: A,
+        side: Side,
+        line: &mut Line<A>,
+    ) -> (Listing, ToWake<A>)
+        ensures listed { result.0 ≡ Listing.Listed → IfSome line.old.first (λ first.
+            IsBlocked side self.old.core.state
+            × Lists side line.old.ticket first.1 line.new.ticket self.old.core.state
+            self.new.core.state) }
+        ensures waits { IsBlocked side self.old.core.state → IsSome line.old.first
+            → result.0 ≢ Listing.Free }
+    {
+        let listing = line.list_first(side, &mut self.core);
+        let others = take_due(&mut self.selecting, &self.core, alloc);
+        (listing, ToWake::beside(&self.core, others))
+    }
+
+    /// The same as a duty (see `Line::list_for`).
+    pub fn list_for(
+        &mut self,
+        alloc: A,
+        side: Side,
+        line: &mut Line<A>,
+        duty: Duty,
+    ) -> (Option<Unlisted>, ToWake<A>)
+        ensures listed { IfNone result.0 (IfSome line.old.first (λ first.
+            IsBlocked side self.old.core.state
+            × Lists side line.old.ticket first.1 line.new.ticket self.old.core.state
+            self.new.core.state)) }
+    {
+        let unlisted = line.list_for(duty, side, &mut self.core);
+        let others = take_due(&mut self.selecting, &self.core, alloc);
+        (unlisted, ToWake::beside(&self.core, others))
+    }
+
+    /// Receives up to `most` pairs, for which `batch` has room.
+    pub fn receive_many<B: Allocator>(
+        &mut self,
+        alloc: A,
+        batch: &mut Vec<(T, P), B>,
+        most: usize,
+    ) -> (Result<usize, TryRecvError>, ToWake<A>)
+        requires { vec_len batch.old + most ≤ vec_capacity batch.old }
+        ensures received { IfOk result.0 (λ n. (pairs : List (T × P)) × (length pairs ≡ n)
+            × (batch.new.items ≡ batch.old.items ++ pairs)
+            × ReceivesInTurn P.cmp ⟦<Waiter<A> as Clone>⟧.is_clone self.old.core.state pairs
+            result.1.handed self.new.core.state) }
+        ensures within { IfOk result.0 (λ n. n ≤ most) }
+        ensures unchanged { OnErr result.0 (batch.new.items ≡ batch.old.items) }
+    {
+        let (received, wakes) = self.core.try_recv_many(batch, most);
+        let others = take_due(&mut self.selecting, &self.core, alloc);
+        (received, ToWake { wakes, others })
+    }
+
+    /// Looks, and if nothing is found lists the waiter in the same hold.
+    pub fn seek_or_list<S: Seek<T, P, A>>(
+        &mut self,
+        alloc: A,
+        seek: &S,
+        ticket: &mut Option<u64>,
+        waiter: &Waiter<A>,
+    ) -> (Sought<S::Found>, ToWake<A>)
+        requires { S.can_seek seek.now }
+        ensures found { IfFound result.0 (S.meets seek.now) }
+        ensures listed { IfNotYet result.0 (IsSome ticket.new) }
+        ensures ended { IfEnded result.0 (ticket.new ≡ None) }
+    {
+        let given = ticket.take();
+        let (sought, wakes) = seek.seek(&mut self.core);
+        let others = take_due(&mut self.selecting, &self.core, alloc);
+        let to_wake = ToWake { wakes, others };
+        let Sought::NotYet(within) = sought else {
+            if let Some(given) = given {
+                self.unlist(S::sight(), given);
+            }
+            return (sought, to_wake);
+        };
+        let sought = match self.listen(alloc, S::sight(), given, waiter) {
+            Listed::Under(listed) => {
+                *ticket = Some(listed);
+                Sought::NotYet(within)
+            }
+            Listed::Over => Sought::Over,
+            Listed::Refused => Sought::Memory,
+        };
+        (sought, to_wake)
     }
 
     // Lists a waiter that has just looked.
@@ -91,166 +285,10 @@ impl<T, P: Ord, A: Allocator + Copy> Guarded<T, P, A> {
         }
     }
 
-    fn unlisten(&mut self, sight: Sight, ticket: u64) {
+    /// Takes a waiter off its list beside the core.
+    pub fn unlist(&mut self, sight: Sight, ticket: u64) {
         if let Some(selecting) = &mut self.selecting {
             selecting.unlisten(sight, ticket);
         }
-    }
-}
-
-/// The core under its lock. Code cannot forget it, since it is not `Drop`: a hold ends by
-/// `Handle::unlock`, or by `Handle::release`, which also wakes the waiters that a call took off the
-/// core's lists. These (`Wakes`) are not `Drop` either, and each call that may close the channel
-/// returns them. Nothing but `release` takes the waiters out of `Wakes`, once the lock is free. No
-/// type says so, since `Wakes::into_lists` is public.
-pub struct Held<'h, T, P: Ord, A: Allocator + Copy> {
-    guarded: MutexGuard<'h, Guarded<T, P, A>>,
-    // The waiters beside the core, while a call is made that may change it.
-    away: Option<Box<Selecting<A>, A>>,
-}
-
-impl<'h, T, P: Ord, A: Allocator + Copy> Held<'h, T, P, A> {
-    #[inline(always)]
-    pub fn of(guarded: MutexGuard<'h, Guarded<T, P, A>>) -> Self {
-        Held {
-            guarded,
-            away: None,
-        }
-    }
-
-    /// The core, for a call that may change it.
-    #[inline(always)]
-    pub fn core(&mut self) -> &mut Core<T, P, A> {
-        self.set_aside();
-        self.guarded.core()
-    }
-
-    // Takes the waiters beside the core out of what the lock guards.
-    #[inline(always)]
-    fn set_aside(&mut self)
-        ensures left { self.new.guarded.value.selecting ≡ None }
-        ensures away { IfSome self.old.guarded.value.selecting
-            (λ selecting. option_map box_value self.new.away ≡ Some selecting) }
-        ensures same { self.old.guarded.value.selecting ≡ None → self.new.away ≡ self.old.away }
-    {
-        if let Some(selecting) = self.guarded.take_selecting() {
-            self.away = Some(selecting);
-        }
-    }
-
-    /// The core, for a query.
-    #[inline(always)]
-    pub fn shown(&self) -> &Core<T, P, A> {
-        &self.guarded.core
-    }
-
-    /// Lists a waiter that has just looked, and has to wait. The others that are returned are to be
-    /// woken.
-    pub fn listen(
-        &mut self,
-        alloc: A,
-        sight: Sight,
-        ticket: Option<u64>,
-        waiter: &Waiter<A>,
-    ) -> (Listed, Option<OtherWakes<A>>) {
-        let others = self.settle(alloc);
-        let listed = self.guarded.listen(alloc, sight, ticket, waiter);
-        (listed, others)
-    }
-
-    /// Takes a waiter off its list beside the core.
-    pub fn unlisten(&mut self, sight: Sight, ticket: u64) {
-        match &mut self.away {
-            Some(selecting) => selecting.unlisten(sight, ticket),
-            None => self.guarded.unlisten(sight, ticket),
-        }
-    }
-
-    /// Releases the lock, and then wakes the waiters that a call took off the core's lists, and
-    /// those beside the core for whom something has changed.
-    #[inline(always)]
-    pub fn release<R: Wait>(self, rt: &R, alloc: A, wakes: Wakes<Waiter<A>, A>) {
-        if self.is_watched() {
-            self.release_watched(rt, alloc, wakes);
-            return;
-        }
-        self.end();
-        wake_all(rt, wakes);
-    }
-
-    // Apart, so that `release` stays small.
-    #[inline(never)]
-    fn release_watched<R: Wait>(mut self, rt: &R, alloc: A, wakes: Wakes<Waiter<A>, A>) {
-        let others = self.settle(alloc);
-        self.end();
-        wake_all(rt, wakes);
-        if let Some(others) = others {
-            others.wake(rt);
-        }
-    }
-
-    /// The same after calls that took no waiter off the core's lists.
-    #[inline(always)]
-    pub fn unlock<R: Wait>(self, rt: &R, alloc: A) {
-        if self.is_watched() {
-            self.unlock_watched(rt, alloc);
-            return;
-        }
-        self.end();
-    }
-
-    #[inline(never)]
-    fn unlock_watched<R: Wait>(mut self, rt: &R, alloc: A) {
-        let others = self.settle(alloc);
-        self.end();
-        if let Some(others) = others {
-            others.wake(rt);
-        }
-    }
-
-    // Whether waiters beside the core may have to be woken.
-    #[inline(always)]
-    fn is_watched(&self) -> bool
-        ensures { result ≡ false → self.now.away ≡ None }
-    {
-        self.away.is_some()
-    }
-
-    // Puts the waiters beside the core back, except for those that have to look again.
-    fn settle(&mut self, alloc: A) -> Option<OtherWakes<A>>
-        ensures back { self.new.away ≡ None }
-        ensures kept { IfSome self.old.away (λ away. IsSomeAnd self.new.guarded.value.selecting
-            (TakesOff (box_value away) result)) }
-    {
-        let selecting = self.away.take()?;
-        self.guarded.put_back(alloc, selecting)
-    }
-
-    // Releases the lock. All waiters are back under it.
-    #[inline(always)]
-    fn end(self)
-        requires { self.away ≡ None }
-    {
-        let Held { guarded, away } = self;
-        drop(away);
-        drop(guarded);
-    }
-}
-
-/// The core under its lock, for queries.
-#[derive(Drop)]
-pub struct Look<'h, T, P: Ord, A: Allocator + Copy> {
-    guarded: MutexGuard<'h, Guarded<T, P, A>>,
-}
-
-impl<'h, T, P: Ord, A: Allocator + Copy> Look<'h, T, P, A> {
-    #[inline(always)]
-    pub fn of(guarded: MutexGuard<'h, Guarded<T, P, A>>) -> Self {
-        Look { guarded }
-    }
-
-    #[inline(always)]
-    pub fn core(&self) -> &Core<T, P, A> {
-        &self.guarded.core
     }
 }

@@ -1,4 +1,4 @@
-//! How senders and receivers wait: what they attempt, the state of a future between its polls, the
+//! How senders and receivers wait: the calls that they make again, the state of a future between its polls, the
 //! waiter that wakes a task or a thread, the queue of a waiting thread, the time limit, and what a
 //! channel's lock guards.
 //!
@@ -6,12 +6,12 @@
 //! `timeouts` to its callers. Nothing here takes a channel's lock.
 #![tactic(auto)]
 
-pub mod attempts;
 pub mod guarded;
 pub mod laws;
 pub mod line;
 pub mod polled;
 mod reading;
+pub mod retry;
 pub mod seeking;
 pub mod selecting;
 pub mod spins;

@@ -8,11 +8,11 @@
 //! see to it that something wakes the head (`Duty`, `Unlisted`). Whoever takes the head's ticket
 //! must take it off the channel's list (`Ticket`).
 ghost use Rattle.std.specs.Prelude.{◌≡◌, ◌≢◌, ◌↔◌, ℕ, ◌+◌, ◌-◌, ◌<◌, ◌≤◌, ◌∷◌, ◌++◌, [], option_to_list, IfOk, IfErr, IfNone, IfSome, IsSome, IsTrue, OnOk, OnErr, Some, None};
-ghost use Rattle.priority_channel_core.specs.Prelude.{without, unlist, IsBlocked, nobody, Step, IsGood};
+ghost use Rattle.priority_channel_core.specs.Prelude.{without, unlist, IsBlocked, IsGood};
 ghost use Rattle.priority_channel_waiting.specs.Lines.{IsFirst, Lists};
 
 use crate::waiter::{Core, Waiter};
-use priority_channel_core::calls::{Answer, Call};
+use priority_channel_calls::waits::GiveUp;
 use priority_channel_core::comparisons::Comparisons;
 use priority_channel_core::side::Side;
 use priority_channel_core::waiting_list::WaitingList;
@@ -74,13 +74,12 @@ pub struct Ticket {
 }
 
 impl Ticket {
-    /// Takes it off the channel's list.
-    pub fn give_up<T, P: Ord, A: Allocator + Copy>(self, core: &mut Core<T, P, A>)
-        ensures { Step P.cmp ⟦<Waiter<A> as Clone>⟧.is_clone core.old.state
-            (Call.GiveUp self.number) Answer.GiveUp nobody core.new.state }
+    /// The call that takes it off the channel's list.
+    pub fn into_call(self) -> GiveUp
+        ensures { result.ticket ≡ self.number }
     {
         let Ticket { number } = self;
-        core.give_up(number);
+        GiveUp { ticket: number }
     }
 }
 

@@ -1,20 +1,22 @@
 //! Waits with a condition: receives and leases that choose their message by one, and the wait for
 //! the close.
-ghost use Rattle.std.specs.Prelude.{◌≡◌, ◌≢◌, ⊤, true, false, length, All, IfOk, IfErr, Ok, Err, Some};
-ghost use Rattle.priority_channel_core.specs.bag.Prelude.{PassesGreatest, TakesOne, Tells};
-ghost use Rattle.priority_channel_core.specs.Prelude.{nobody, Step};
-ghost use Rattle.priority_channel_calls.specs.Told.{Makes};
-ghost use Rattle.priority_channel_calls.specs.Told.Told.{Exactly, Leases};
+ghost use Rattle.std.specs.Prelude.{◌≡◌, ◌≢◌, ⊤, ℕ, true, false, All, IfOk, IfErr};
+ghost use Rattle.priority_channel_core.specs.bag.Prelude.{Tells};
+ghost use Rattle.priority_channel_core.specs.Prelude.{State};
+ghost use Rattle.priority_channel_calls.specs.Chosen.{MostUrgent};
+ghost use Rattle.priority_channel_calls.specs.Told.{Told, Makes};
 ghost use Rattle.priority_channel_waiting.specs.declared.selecting.Sight.{Sight};
-ghost use Rattle.priority_channel_waiting.specs.Seeking.{ComesDue, IfFound, IfNotYet, IfOver, NoneDue};
+ghost use Rattle.priority_channel_waiting.specs.Ends.{OnOver};
+ghost use Rattle.priority_channel_waiting.specs.Seeking.{leased, leased_where, received, seen_closed, sought_by, taken_where, ComesDue, IfFound, IfNotYet, NoneDue};
 
 use crate::reading::Reading;
 use crate::selecting::Sight;
+use crate::timeouts::Ended;
 use crate::waiter::{Core, Waiter};
 use priority_channel_calls::call::CoreCall;
 use priority_channel_calls::places::{Place, TryLease, TryLeaseWhere};
+use priority_channel_calls::receives::{TryRecv, TryRecvWhere};
 use priority_channel_core::awaitable_atomics::Wakes;
-use priority_channel_core::calls::{Answer, Call};
 use priority_channel_core::errors::{TryRecvError, TryRecvManyError};
 use std::alloc::Allocator;
 use std::convert::Infallible;
@@ -42,15 +44,34 @@ pub enum Sought<F> {
     Found(F),
     /// Nothing can come any more.
     Over,
-    /// All numbers of pairs are used, so a lease could not come back.
+    /// All numbers of pairs are used, so a lease could not come back. Or memory for waiting was
+    /// refused.
     Memory,
     /// Nothing meets the condition. Something may meet it within this time, if there is one,
     /// although nothing else changes.
     NotYet(Option<Duration>),
 }
 
+impl<F> Sought<F> {
+    /// The answer, if there is one; otherwise the time after which something may meet the condition.
+    pub fn answer<O>(self) -> Result<Result<F, Ended<(), O>>, Option<Duration>>
+        ensures answered { IfOk result (λ answer. self ≡ sought_by answer) }
+        ensures not_yet { IfErr result (λ within. self ≡ Sought.NotYet within) }
+        ensures not_over { IfOk result (λ answer. IfErr answer (λ ended. OnOver ended (λ _. ⊥))) }
+    {
+        match self {
+            Sought::Found(found) => Ok(Ok(found)),
+            Sought::Over => Ok(Err(Ended::Closed(()))),
+            Sought::Memory => Ok(Err(Ended::Memory(()))),
+            Sought::NotYet(within) => Err(within),
+        }
+    }
+}
+
 /// A wait with a condition.
 pub trait Seek<T, P: Ord, A: Allocator + Copy> {
+    ghost use Rattle.priority_channel_waiting.specs.declared.seeking.Sought.{Sought};
+
     type Found;
 
     // Holds for a condition that may be asked.
@@ -58,6 +79,15 @@ pub trait Seek<T, P: Ord, A: Allocator + Copy> {
 
     // Holds for what may have met the condition.
     ghost meets: { Self → Self.Found → Type 0 };
+
+    // What it and what came of a look tell of the steps that were made.
+    ghost told: { Self → Sought Self.Found → Told T P ℕ };
+
+    // What is found is the one that it seeks, in this state and the one after it.
+    ghost chooses: { Self → State T P ℕ → Self.Found → State T P ℕ → Type 0 } = { λ _ _ _ _. ⊤ };
+
+    // In this state nothing is found.
+    ghost misses: { Self → State T P ℕ → Type 0 } = { λ _ _. ⊤ };
 
     // At what it looks.
     ghost looks_at: { Sight };
@@ -69,7 +99,33 @@ pub trait Seek<T, P: Ord, A: Allocator + Copy> {
     /// Looks, and receives what meets the condition, if anything does.
     fn seek(&self, core: &mut Core<T, P, A>) -> (Sought<Self::Found>, Wakes<Waiter<A>, A>)
         requires { can_seek self.now }
-        ensures { IfFound result.0 (meets self.now) };
+        ensures made { Makes P.cmp ⟦<Waiter<A> as Clone>⟧.is_clone core.old.state
+            (told self.now result.0) result.1 core.new.state }
+        ensures met { IfFound result.0 (meets self.now) }
+        ensures chosen { IfFound result.0 (λ found.
+            chooses self.now core.old.state found core.new.state) }
+        ensures none { IfNotYet result.0 (misses self.now core.old.state) };
+}
+
+/// A look, as a call.
+pub struct Look<'s, S> {
+    pub seek: &'s S,
+}
+
+impl<T, P: Ord, A: Allocator + Copy, S: Seek<T, P, A>> CoreCall<T, P, Waiter<A>, A>
+    for Look<'_, S> {
+    type Answer = Sought<S::Found>;
+
+    ghost can_make = { λ it. S.can_seek it.seek.now };
+
+    ghost told = { λ it sought. S.told it.seek.now sought };
+
+    ghost gives = { λ it sought. IfFound sought (S.meets it.seek.now) };
+
+    fn make_on(self, core: &mut Core<T, P, A>) -> (Sought<S::Found>, Wakes<Waiter<A>, A>) {
+        let Look { seek } = self;
+        seek.seek(core)
+    }
 }
 
 // Whether it is due. The error is the time that is left, or None if it never comes. An instant
@@ -103,29 +159,24 @@ impl<T, P: Ord, A: Allocator + Copy, F: Fn(&T, &P) -> Due, C: Clock> Seek<T, P, 
 
     ghost meets = { λ s pair. ComesDue F.Fn s.when pair };
 
+    ghost told = { λ s sought. received sought };
+
+    ghost misses = { λ s state. NoneDue F.Fn s.when P.cmp state.pending };
+
     ghost looks_at = { Sight.First };
 
     fn sight() -> Sight {
         Sight::First
     }
 
-    fn seek(&self, core: &mut Core<T, P, A>) -> (Sought<(T, P)>, Wakes<Waiter<A>, A>)
-        requires { F.IsAlwaysCallable self.now.when }
-        ensures received { IfFound result.0 (λ pair. Step P.cmp ⟦<Waiter<A> as Clone>⟧.is_clone
-            core.old.state Call.TryRecv (Answer.TryRecv (Ok pair)) result.1 core.new.state) }
-        ensures met { IfFound result.0 (ComesDue F.Fn self.now.when) }
-        ensures over { IfOver result.0 (Step P.cmp ⟦<Waiter<A> as Clone>⟧.is_clone core.old.state
-            Call.TryRecv (Answer.TryRecv (Err TryRecvError.Closed)) result.1 core.new.state) }
-        ensures kept { IfNotYet result.0 ((core.new.state ≡ core.old.state) × (result.1 ≡ nobody)
-            × NoneDue F.Fn self.now.when P.cmp core.old.state.pending) }
-    {
+    fn seek(&self, core: &mut Core<T, P, A>) -> (Sought<(T, P)>, Wakes<Waiter<A>, A>) {
         if let Some((msg, priority)) = core.peek() {
             let due = (self.when)(msg, priority);
             if let Err(within) = check_due(self.clock, due) {
                 return (Sought::NotYet(within), core.nobody());
             }
         }
-        let (received, wakes) = core.try_recv();
+        let (received, wakes) = TryRecv.make_on(core);
         let sought = match received {
             Ok(pair) => Sought::Found(pair),
             Err(TryRecvError::Closed) => Sought::Over,
@@ -148,28 +199,20 @@ impl<T, P: Ord, A: Allocator + Copy, F: Fn(&T, &P) -> bool> Seek<T, P, A> for Wh
 
     ghost meets = { λ s pair. Tells F.Fn s.test pair true };
 
+    ghost told = { λ s sought. taken_where sought };
+
+    ghost chooses = { λ s old pair new. MostUrgent P.cmp F.Fn s.test old.pending pair new.pending };
+
+    ghost misses = { λ s state. All (λ pair. Tells F.Fn s.test pair false) state.pending };
+
     ghost looks_at = { Sight.All };
 
     fn sight() -> Sight {
         Sight::All
     }
 
-    fn seek(&self, core: &mut Core<T, P, A>) -> (Sought<(T, P)>, Wakes<Waiter<A>, A>)
-        requires { F.IsAlwaysCallable self.now.test }
-        ensures taken { IfFound result.0 (λ pair.
-            (one : TakesOne core.old.state.pending pair core.new.state.pending)
-            × Step P.cmp ⟦<Waiter<A> as Clone>⟧.is_clone core.old.state
-            (Call.TakeWhere (length one.before)) (Answer.TakeWhere (Some pair)) result.1
-            core.new.state
-            × PassesGreatest P.cmp (λ pair. Tells F.Fn self.now.test pair true)
-            (λ pair. Tells F.Fn self.now.test pair false) one) }
-        ensures met { IfFound result.0 (λ pair. Tells F.Fn self.now.test pair true) }
-        ensures over { IfOver result.0 (Step P.cmp ⟦<Waiter<A> as Clone>⟧.is_clone core.old.state
-            Call.TryRecv (Answer.TryRecv (Err TryRecvError.Closed)) result.1 core.new.state) }
-        ensures kept { IfNotYet result.0 ((core.new.state ≡ core.old.state) × (result.1 ≡ nobody)
-            × All (λ pair. Tells F.Fn self.now.test pair false) core.old.state.pending) }
-    {
-        let (received, wakes) = core.try_recv_where(&self.test);
+    fn seek(&self, core: &mut Core<T, P, A>) -> (Sought<(T, P)>, Wakes<Waiter<A>, A>) {
+        let (received, wakes) = TryRecvWhere { test: &self.test }.make_on(core);
         let sought = match received {
             Ok(Some(pair)) => Sought::Found(pair),
             Err(TryRecvError::Closed) => Sought::Over,
@@ -194,19 +237,17 @@ impl<T, P: Ord, A: Allocator + Copy, F: Fn(&T, &P) -> Due, C: Clock> Seek<T, P, 
 
     ghost meets = { λ s leased. ComesDue F.Fn s.when leased.1 };
 
+    ghost told = { λ s sought. leased sought };
+
+    ghost misses = { λ s state. NoneDue F.Fn s.when P.cmp state.pending };
+
     ghost looks_at = { Sight.First };
 
     fn sight() -> Sight {
         Sight::First
     }
 
-    fn seek(&self, core: &mut Core<T, P, A>) -> (Sought<(Place, (T, P))>, Wakes<Waiter<A>, A>)
-        requires { F.IsAlwaysCallable self.now.when }
-        ensures leased { IfFound result.0 (λ leased. Makes P.cmp ⟦<Waiter<A> as Clone>⟧.is_clone
-            core.old.state (Exactly Call.TryLease (Answer.TryLease (Ok leased.1))) result.1
-            core.new.state) }
-        ensures met { IfFound result.0 (λ leased. ComesDue F.Fn self.now.when leased.1) }
-    {
+    fn seek(&self, core: &mut Core<T, P, A>) -> (Sought<(Place, (T, P))>, Wakes<Waiter<A>, A>) {
         if let Some((msg, priority)) = core.peek() {
             let due = (self.when)(msg, priority);
             if let Err(within) = check_due(self.clock, due) {
@@ -237,18 +278,20 @@ impl<T, P: Ord, A: Allocator + Copy, F: Fn(&T, &P) -> bool> Seek<T, P, A> for Le
 
     ghost meets = { λ s leased. Tells F.Fn s.test leased.1 true };
 
+    ghost told = { λ s sought. leased_where sought };
+
+    ghost chooses = { λ s old leased new.
+        MostUrgent P.cmp F.Fn s.test old.pending leased.1 new.pending };
+
+    ghost misses = { λ s state. All (λ pair. Tells F.Fn s.test pair false) state.pending };
+
     ghost looks_at = { Sight.All };
 
     fn sight() -> Sight {
         Sight::All
     }
 
-    fn seek(&self, core: &mut Core<T, P, A>) -> (Sought<(Place, (T, P))>, Wakes<Waiter<A>, A>)
-        requires { F.IsAlwaysCallable self.now.test }
-        ensures leased { IfFound result.0 (λ leased. Makes P.cmp ⟦<Waiter<A> as Clone>⟧.is_clone
-            core.old.state (Leases leased.1) result.1 core.new.state) }
-        ensures met { IfFound result.0 (λ leased. Tells F.Fn self.now.test leased.1 true) }
-    {
+    fn seek(&self, core: &mut Core<T, P, A>) -> (Sought<(Place, (T, P))>, Wakes<Waiter<A>, A>) {
         let (leased, wakes) = TryLeaseWhere { test: &self.test }.make_on(core);
         let sought = match leased {
             Ok(Some(leased)) => Sought::Found(leased),
@@ -271,17 +314,15 @@ impl<T, P: Ord, A: Allocator + Copy> Seek<T, P, A> for UntilClosed {
 
     ghost meets = { λ _ _. ⊤ };
 
+    ghost told = { λ _ sought. seen_closed sought };
+
     ghost looks_at = { Sight.Close };
 
     fn sight() -> Sight {
         Sight::Close
     }
 
-    fn seek(&self, core: &mut Core<T, P, A>) -> (Sought<Infallible>, Wakes<Waiter<A>, A>)
-        ensures over { IfOver result.0 (core.old.state.is_closed ≡ true) }
-        ensures kept { IfNotYet result.0 (core.old.state.is_closed ≡ false) }
-        ensures unchanged { (core.new ≡ core.old) × (result.1 ≡ nobody) }
-    {
+    fn seek(&self, core: &mut Core<T, P, A>) -> (Sought<Infallible>, Wakes<Waiter<A>, A>) {
         if core.is_closed() {
             return (Sought::Over, core.nobody());
         }

@@ -36,6 +36,7 @@ struct Seen {
 
 impl Seen {
     // None if the wait is over.
+    #[inline(always)]
     fn of<T, P: Ord, A: Allocator + Copy>(sight: Sight, core: &Core<T, P, A>) -> Option<Self>
         ensures { result ≡ seen_of sight core.now }
     {
@@ -63,6 +64,7 @@ impl Seen {
     }
 
     // None if the channel is closed.
+    #[inline(always)]
     fn of_open<T, P: Ord, A: Allocator + Copy>(core: &Core<T, P, A>) -> Option<Self>
         ensures { result ≡ seen_of sight.Close core.now }
     {
@@ -188,6 +190,7 @@ impl<A: Allocator + Copy> Watchers<A> {
     }
 
     /// Takes all off, to be woken, unless what they have seen is what is there.
+    #[inline(never)]
     pub fn due<T, P: Ord>(&mut self, core: &Core<T, P, A>, sight: Sight, alloc: A) -> Taken<A>
         ensures seen { HaveSeen sight self.new core.now }
         ensures moved { result.items ++ self.new.waiters ≡ self.old.waiters }
@@ -201,6 +204,7 @@ impl<A: Allocator + Copy> Watchers<A> {
     }
 
     // Whether all who are listed have seen what is there.
+    #[inline(always)]
     fn have_seen<T, P: Ord>(&self, core: &Core<T, P, A>, sight: Sight) -> bool
         ensures seen { result ≡ true → HaveSeen sight self.now core.now }
         ensures due { HaveSeen sight self.now core.now → result ≡ true }
@@ -280,6 +284,10 @@ impl<A: Allocator + Copy> Selecting<A> {
     }
 
     /// Takes off the waiters that have to look again, to be woken. None if there are none.
+    ///
+    /// Each call on the channel looks here while anybody waits so, and mostly nobody is due. So what
+    /// finds that out is inline.
+    #[inline(always)]
     pub fn due<T, P: Ord>(&mut self, core: &Core<T, P, A>, alloc: A) -> Option<OtherWakes<A>>
         ensures seen { AllHaveSeen self.new core.now }
         ensures moved { TakesOff self.old result self.new }
@@ -299,7 +307,7 @@ impl<A: Allocator + Copy> Selecting<A> {
         Some(OtherWakes { first, all, close })
     }
 
-    // Each call that may change the core looks here while anybody waits, and mostly nobody is due.
+    #[inline(always)]
     fn have_seen<T, P: Ord>(&self, core: &Core<T, P, A>) -> bool
         ensures { result ≡ true → AllHaveSeen self.now core.now }
     {

@@ -81,8 +81,8 @@ impl<K, N> State<K, N> {
 }
 
 impl<K: Drop, N> State<K, N> {
-    // Takes out the remaining work and the ticket. None if it was done.
-    fn take(&mut self) -> Option<(K, Option<u64>)>
+    /// Takes out the remaining work and the ticket. None if it was done.
+    pub fn take(&mut self) -> Option<(K, Option<u64>)>
         ensures taken { MatchOption result (self.old ≡ done) (λ taken.
             self.old ≡ record { kept = Some taken.0; ticket = taken.1 }) }
         ensures done { self.new ≡ done }
@@ -92,8 +92,8 @@ impl<K: Drop, N> State<K, N> {
         Some((kept, ticket))
     }
 
-    // Stores what a poll handed back, and returns the result of the poll.
-    fn keep<R>(&mut self, answer: CorePoll<R, K>) -> Poll<R>
+    /// Stores what a poll handed back, and returns the result of the poll.
+    pub fn keep<R>(&mut self, answer: CorePoll<R, K>) -> Poll<R>
         ensures told { result ≡ told_by answer }
         ensures left { self.new ≡ left_by answer }
     {

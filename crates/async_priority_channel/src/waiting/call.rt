@@ -14,9 +14,11 @@ use crate::receiver::Receiving;
 use crate::sender::Sending;
 use futures::Future;
 use futures::task::{Context, Poll};
+use priority_channel_calls::places::{TryLease, TryReserve};
+use priority_channel_calls::waits::GiveUp;
 use priority_channel_core::errors::{RecvFault, SendFault};
-use priority_channel_waiting::attempts::{Attempt, ReceiveHeld};
-use priority_channel_waiting::line::{Listing, list_waiter};
+use priority_channel_waiting::line::Listing;
+use priority_channel_waiting::retry::Retry;
 use priority_channel_waiting::timeouts::Ended;
 use priority_channel_waiting::waiter::Waiter;
 use std::alloc::{Allocator, Global};
@@ -28,14 +30,14 @@ impl<T, P: Ord, R: Wait + Clone, A: Allocator + Copy> Handle<T, P, R, A> {
     // Makes a task's call, in one step and without memory for waiting. If the call is blocked, has
     // the channel list the task. Where what it waits for comes in between, it makes the call again,
     // and where another one is faster then, the task asks to be polled again.
-    fn poll_call<C: Attempt<T, P, A> + Copy + Drop>(
+    fn poll_call<C: Retry<T, P, Waiter<A>, A, Left = ()> + Copy + Drop>(
         &self,
         cx: &mut Context<'_>,
         call: C,
         ticket: &mut Option<u64>,
         waiter: &mut Option<Waiter<A>>,
-    ) -> Poll<Result<C::Done, Ended<C, Infallible>>>
-        requires { C.can_attempt call }
+    ) -> Poll<Result<C::Done, Ended<(), Infallible>>>
+        requires { C.can_make call }
         ensures registered { OnPending result (Covers cx.new (λ source.
             source ≡ source_of C.waits_on self.now)) }
         ensures kept { Keeps cx.old cx.new }
@@ -47,14 +49,14 @@ impl<T, P: Ord, R: Wait + Clone, A: Allocator + Copy> Handle<T, P, R, A> {
         let side = C::side();
         let Some(waiter) = self.register(cx, side, waiter) else {
             self.give_up(ticket.take());
-            return Poll::Ready(Err(Ended::Memory(call)));
+            return Poll::Ready(Err(Ended::Memory(())));
         };
-        let mut held = self.hold();
-        let listing = list_waiter(side, held.core(), ticket, waiter);
-        self.unlock(held);
+        let mut locked = self.lock();
+        let (listing, to_wake) = locked.list(self.alloc(), side, ticket, waiter);
+        to_wake.wake(self.rt(), locked);
         match listing {
             Listing::Listed => Poll::Pending,
-            Listing::Refused => Poll::Ready(Err(Ended::Memory(call))),
+            Listing::Refused => Poll::Ready(Err(Ended::Memory(()))),
             Listing::Free => match self.answer_call(call, ticket) {
                 Some(answer) => Poll::Ready(answer),
                 None => cx.yield_now(),
@@ -63,12 +65,12 @@ impl<T, P: Ord, R: Wait + Clone, A: Allocator + Copy> Handle<T, P, R, A> {
     }
 
     // The answer of a call that need not wait, which then gives up its ticket.
-    fn answer_call<C: Attempt<T, P, A> + Drop>(
+    fn answer_call<C: Retry<T, P, Waiter<A>, A, Left = ()>>(
         &self,
         call: C,
         ticket: &mut Option<u64>,
-    ) -> Option<Result<C::Done, Ended<C, Infallible>>>
-        requires { C.can_attempt call }
+    ) -> Option<Result<C::Done, Ended<(), Infallible>>>
+        requires { C.can_make call }
         ensures { IsSome result → ticket.new ≡ None }
     {
         let answer = self.attempt(call).answer().ok()?;
@@ -76,12 +78,10 @@ impl<T, P: Ord, R: Wait + Clone, A: Allocator + Copy> Handle<T, P, R, A> {
         Some(answer)
     }
 
-    // Takes a ticket off the channel's list.
-    fn give_up(&self, ticket: Option<u64>) {
+    /// Takes a ticket off the channel's list, if there is one.
+    pub(crate) fn give_up(&self, ticket: Option<u64>) {
         if let Some(ticket) = ticket {
-            let mut held = self.hold();
-            held.core().give_up(ticket);
-            self.unlock(held);
+            self.call(GiveUp { ticket });
         }
     }
 }
@@ -158,7 +158,7 @@ impl<S: Role, C: Copy, T, P: Ord, R: Wait + Clone, A: Allocator + Copy> Drop
 /// The error is `Closed`, or `Memory` if memory was refused.
 ///
 /// Cost: as `try_reserve` for each try (see `Calling`).
-pub type Reserve<'a, T, P, R, A = Global> = Calling<'a, Sending, (), T, P, R, A>;
+pub type Reserve<'a, T, P, R, A = Global> = Calling<'a, Sending, TryReserve, T, P, R, A>;
 
 impl<'a, T, P: Ord, R: Wait + Clone, A: Allocator + Copy> Future for Reserve<'a, T, P, R, A> {
     type Output = Result<Permit<'a, T, P, R, A>, SendFault<()>>;
@@ -188,7 +188,7 @@ impl<'a, T, P: Ord, R: Wait + Clone, A: Allocator + Copy> Future for Reserve<'a,
         }
         let end = self.end;
         let handle = &end.handle;
-        let polled = handle.poll_call(cx, (), &mut self.ticket, &mut self.waiter);
+        let polled = handle.poll_call(cx, TryReserve, &mut self.ticket, &mut self.waiter);
         let Poll::Ready(reserved) = polled else {
             return Poll::Pending;
         };
@@ -205,7 +205,7 @@ impl<'a, T, P: Ord, R: Wait + Clone, A: Allocator + Copy> Future for Reserve<'a,
 /// The error is `Closed` if no message can come any more, or `Memory` if memory was refused.
 ///
 /// Cost: as `try_lease` for each try (see `Calling`).
-pub type LeaseNext<'a, T, P, R, A = Global> = Calling<'a, Receiving, ReceiveHeld, T, P, R, A>;
+pub type LeaseNext<'a, T, P, R, A = Global> = Calling<'a, Receiving, TryLease, T, P, R, A>;
 
 impl<'a, T: Drop, P: Ord + Drop, R: Wait + Clone, A: Allocator + Copy> Future
     for LeaseNext<'a, T, P, R, A> {
@@ -236,7 +236,7 @@ impl<'a, T: Drop, P: Ord + Drop, R: Wait + Clone, A: Allocator + Copy> Future
         }
         let end = self.end;
         let handle = &end.handle;
-        let polled = handle.poll_call(cx, ReceiveHeld, &mut self.ticket, &mut self.waiter);
+        let polled = handle.poll_call(cx, TryLease, &mut self.ticket, &mut self.waiter);
         let Poll::Ready(leased) = polled else {
             return Poll::Pending;
         };

@@ -13,7 +13,7 @@ use crate::receiver::Receiving;
 use futures::Future;
 use futures::task::{Context, Poll};
 use priority_channel_core::errors::RecvFault;
-use priority_channel_waiting::seeking::{LeaseWhere, Seek, Sought, UntilClosed, Where};
+use priority_channel_waiting::seeking::{LeaseWhere, Seek, UntilClosed, Where};
 use priority_channel_waiting::selecting::Sight;
 use priority_channel_waiting::timeouts::Ended;
 use priority_channel_waiting::waiter::Waiter;
@@ -44,15 +44,12 @@ impl<T, P: Ord, R: Wait + Clone, A: Allocator + Copy> Handle<T, P, R, A> {
             return Poll::Ready(answer);
         }
         let Some(waiter) = self.register_beside(cx, S::sight(), waiter) else {
-            self.unlisten(S::sight(), ticket.take());
+            self.unlist_beside(S::sight(), ticket.take());
             return Poll::Ready(Err(Ended::Memory(())));
         };
-        match self.seek_or_listen(seek, ticket, waiter) {
-            Ok(Sought::Found(found)) => Poll::Ready(Ok(found)),
-            Ok(Sought::Over) => Poll::Ready(Err(Ended::Closed(()))),
-            Ok(Sought::NotYet(_)) => Poll::Pending,
-            Ok(Sought::Memory) => Poll::Ready(Err(Ended::Memory(()))),
-            Err(AllocError) => Poll::Ready(Err(Ended::Memory(()))),
+        match self.seek_or_list(seek, ticket, waiter).answer() {
+            Ok(answer) => Poll::Ready(answer),
+            Err(_) => Poll::Pending,
         }
     }
 
@@ -66,13 +63,8 @@ impl<T, P: Ord, R: Wait + Clone, A: Allocator + Copy> Handle<T, P, R, A> {
         ensures found { IfSome result (λ answer. IfOk answer (S.meets seek.now)) }
         ensures given_up { IsSome result → ticket.new ≡ None }
     {
-        let answer = match self.seek(seek) {
-            Sought::Found(found) => Ok(found),
-            Sought::Over => Err(Ended::Closed(())),
-            Sought::Memory => Err(Ended::Memory(())),
-            Sought::NotYet(_) => return None,
-        };
-        self.unlisten(S::sight(), ticket.take());
+        let answer = self.seek(seek).answer().ok()?;
+        self.unlist_beside(S::sight(), ticket.take());
         Some(answer)
     }
 }
@@ -149,7 +141,7 @@ impl<S: Role, C: Drop, T, P: Ord, R: Wait + Clone, A: Allocator + Copy> Drop
             waiter,
             is_done: _,
         } = self;
-        end.handle.unlisten(sight, ticket);
+        end.handle.unlist_beside(sight, ticket);
         drop(seek);
         drop(waiter);
     }

@@ -9,12 +9,38 @@ ghost use Rattle.async_priority_channel.specs.Handles.{source_of};
 use crate::handle::Handle;
 use crate::waiting::RecvState;
 use futures::task::{Context, Poll};
+use priority_channel_waiting::guarded::Guarded;
 use priority_channel_waiting::line::is_blocked;
 use priority_channel_waiting::polled::Polled;
 use priority_channel_waiting::states::{One, State};
 use priority_channel_waiting::waiter::Waiter;
 use std::alloc::Allocator;
-use std::sync::Wait;
+use std::sync::{MutexGuard, Wait};
+
+impl<T, P: Ord, R: Wait + Clone, A: Allocator + Copy> Handle<T, P, R, A> {
+    // Polls the state of a future under this lock.
+    fn poll<K: Polled<T, P, Waiter<A>, A> + Drop, N>(
+        &self,
+        locked: MutexGuard<'_, Guarded<T, P, A>>,
+        state: &mut State<K, N>,
+        waiter: &Waiter<A>,
+    ) -> Poll<K::Answer>
+        requires { ForSome state.old.kept K.can_poll }
+        ensures answered { IfReady result (λ _. state.new ≡ done) }
+        ensures waits { OnPending result (is_some state.new.kept ≡ is_some state.old.kept) }
+        ensures handed_back { IfReady result (λ answer.
+            IsRestOf K.can_poll K.leaves state.old (K.back answer)) }
+        ensures left { IsRestOf K.can_poll K.leaves state.old state.new.kept }
+    {
+        let mut locked = locked;
+        let Some((kept, ticket)) = state.take() else {
+            return Poll::Pending;
+        };
+        let (polled, to_wake) = locked.poll(self.alloc(), kept, ticket, waiter);
+        to_wake.wake(self.rt(), locked);
+        state.keep(polled)
+    }
+}
 
 /// The state of a future, and the waiter of its task, which is made when it first waits.
 #[derive(Drop)]
@@ -45,10 +71,9 @@ impl<K: Drop, N, A: Allocator + Copy> Task<K, N, A> {
         ensures kept { result ≡ self.old.state.kept }
         ensures done { self.new.state ≡ done }
     {
-        let mut held = handle.hold();
-        let unsent = self.state.give_up_on(held.core());
-        handle.unlock(held);
-        unsent
+        let (kept, ticket) = self.state.take()?;
+        handle.give_up(ticket);
+        Some(kept)
     }
 
     // Makes the call at once, in one hold of the lock and without a waiter of its own, or else
@@ -76,16 +101,14 @@ impl<K: Drop, N, A: Allocator + Copy> Task<K, N, A> {
         if self.state.is_done() {
             return cx.yield_now();
         }
-        let mut held = handle.hold();
-        if is_blocked(K::side(), held.shown()) {
-            handle.unlock(held);
+        let locked = handle.lock();
+        if is_blocked(K::side(), locked.core()) {
+            drop(locked);
             return self.wait(handle, cx);
         }
         // Only a bulk send can be pending here: one that sent a part. It is listed with a waiter
         // that nobody hears, and then again with its own.
-        let (polled, wakes) = self.state.poll_on(held.core(), handle.unheard());
-        handle.release(held, wakes);
-        match polled {
+        match handle.poll(locked, &mut self.state, handle.unheard()) {
             Poll::Ready(answer) => Poll::Ready(answer),
             Poll::Pending => self.wait(handle, cx),
         }
@@ -117,10 +140,7 @@ impl<K: Drop, N, A: Allocator + Copy> Task<K, N, A> {
             };
             return Poll::Ready(rest.refuse());
         };
-        let mut held = handle.hold();
-        let (polled, wakes) = self.state.poll_on(held.core(), waiter);
-        handle.release(held, wakes);
-        polled
+        handle.poll(handle.lock(), &mut self.state, waiter)
     }
 
     /// Gives up the ticket, if there is one.

@@ -1,5 +1,6 @@
 use Rattle.async_priority_channel.proofs.handle.Handle.wait_as_first.Given as goal
 
--- the rest of the call came back of the call, and may be attempted
+-- what is left may be made again, and is left of the call
 abbrev pub invariant-loop : goal.invariant-loop
-invariant-loop g l = g.C.Attempt.can_attempt l.rest × g.C.Attempt.leaves l.fn.call l.rest
+invariant-loop g l = g.C.CoreCall.can_make (g.C.Retry.call_of l.rest)
+    × g.C.Retry.leaves (g.C.Retry.call_of l.fn.left) l.rest

@@ -1,4 +1,4 @@
-use Rattle.std.proofs.Common.{sym, ◌∙◌, subst, refl}
+use Rattle.std.proofs.Common.{refl, sym, ◌∙◌, subst, inr}
 use Rattle.priority_channel_core.specs.bag.Prelude.{Tells}
 use Rattle.priority_channel_core.proofs.items.Extremes.{one_greatest}
 use Rattle.priority_channel_core.proofs.Lists.{has_item}
@@ -21,3 +21,8 @@ returns-clause-met g c = elim c.match-leased.branch [
   | in-Err-Empty w ↦ rw w.sought-is tt
   | in-Err-Memory w ↦ rw w.sought-is tt
 ]
+
+pub returns-in-Err-clause-none : goal.returns-in-Err-clause-none
+returns-in-Err-clause-none g c =
+    let told : Tells g.F.Fn c.args.self.now.when (c.in-Some.msg.now, c.in-Some.priority.now) c.when-due.result = record { msg = _; priority = _; shows = (refl, refl); says = record { met = c.when-due.ensures } } in
+    inr (_, c.in-Some.ensures.0, c.in-Some.ensures.1, c.when-due.result, told, c.in-Err.ensures.waits)

@@ -1,6 +1,6 @@
 use Rattle.priority_channel_waiting.proofs.Seen.{all_seen_without}
-use Rattle.priority_channel_waiting.proofs.guarded.Guarded.unlisten.Goals as goal
-use Rattle.priority_channel_waiting.proofs.guarded.Guarded.unlisten.Goals.{in-Some, in_default}
+use Rattle.priority_channel_waiting.proofs.guarded.Guarded.unlist.Goals as goal
+use Rattle.priority_channel_waiting.proofs.guarded.Guarded.unlist.Goals.{in-Some, in_default}
 
 pub invariant_of-self : goal.invariant_of-self
 invariant_of-self g c = elim c.match-self.branch [
