@@ -11,9 +11,12 @@ mod event_loop;
 mod expiry;
 mod fair;
 mod frontier;
+mod in_hand;
 mod lease;
+mod metrics;
 mod own_queue;
 mod permit;
+mod pipeline;
 mod producer;
 mod rate;
 mod replies;
@@ -40,5 +43,8 @@ fn main(rt: HostRuntime) -> anyhow::Result<()> {
     expiry::run(rt)?;
     rate::run(&rt)?;
     event_loop::run(&rt)?;
-    fair::run(&rt)
+    fair::run(&rt)?;
+    in_hand::run(&rt)?;
+    pipeline::run(rt)?;
+    metrics::run(&rt)
 }
