@@ -21,6 +21,7 @@ mod producer;
 mod rate;
 mod replies;
 mod retry;
+mod tasks;
 mod tenants;
 mod timer;
 
@@ -46,5 +47,6 @@ fn main(rt: HostRuntime) -> anyhow::Result<()> {
     fair::run(&rt)?;
     in_hand::run(&rt)?;
     pipeline::run(rt)?;
-    metrics::run(&rt)
+    metrics::run(&rt)?;
+    tasks::run(&rt)
 }
