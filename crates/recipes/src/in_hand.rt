@@ -27,7 +27,7 @@ struct Board<R: Wait + Clone> {
     admitted: Mutex<HashMap<u64, (&'static str, Arc<AtomicBool>)>>,
 }
 
-impl<R: Wait + Clone + AllocGlobal> Board<R> {
+impl<R: Wait + Clone + Print + AllocGlobal> Board<R> {
     fn admit(&self, rt: &R, number: u64, tenant: &'static str, urgency: u8) -> anyhow::Result<()> {
         let permit = self.tx.reserve_blocking()?;
         let stop = Arc::new(rt.alloc(), AtomicBool::new(false))?;
@@ -70,20 +70,16 @@ impl<R: Wait + Clone + AllocGlobal> Board<R> {
         let pending = self.tx.count_where(|job, _| job.tenant == tenant);
         (pending, all.saturating_sub(pending))
     }
-}
 
-fn work<R: Wait + Clone + Print + AllocGlobal>(
-    rt: &R,
-    board: &Board<R>,
-    lease: Lease<'_, Job, u8, R>,
-) -> anyhow::Result<()> {
-    let job = lease.message();
-    let may_go_on = |_: &u64| !job.stop.load(Ordering::SeqCst);
-    let steps = (0..STEPS).take_while(may_go_on).count();
-    println!(rt; "in_hand: {steps} steps of job {}", job.number)?;
-    let (job, _) = lease.finish();
-    board.end(rt, job.number);
-    Ok(())
+    fn work(&self, rt: &R, lease: Lease<'_, Job, u8, R>) -> anyhow::Result<()> {
+        let job = lease.message();
+        let may_go_on = |_: &u64| !job.stop.load(Ordering::SeqCst);
+        let steps = (0..STEPS).take_while(may_go_on).count();
+        println!(rt; "in_hand: {steps} steps of job {}", job.number)?;
+        let (job, _) = lease.finish();
+        self.end(rt, job.number);
+        Ok(())
+    }
 }
 
 // Here this thread is the worker too.
@@ -101,6 +97,6 @@ pub fn run<R: Wait + Clone + Print + AllocGlobal>(rt: &R) -> anyhow::Result<()> 
         let was_there = board.cancel(rt, number);
         println!(rt; "in_hand: job {number} is cancelled: {was_there}")?;
     }
-    work(rt, &board, lease)?;
-    work(rt, &board, jobs.try_lease()?)
+    board.work(rt, lease)?;
+    board.work(rt, jobs.try_lease()?)
 }

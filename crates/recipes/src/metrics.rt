@@ -16,7 +16,7 @@ struct Job {
     sent: Instant,
 }
 
-#[derive(Drop)]
+#[derive(Default, Drop)]
 struct Counters {
     accepted: AtomicU64,
     refused: AtomicU64,
@@ -79,11 +79,7 @@ where
     R: Wait + Clone + Clock + Print + AllocGlobal,
 {
     let (tx, jobs) = bounded(rt, rt.alloc(), 3)?;
-    let counters = Counters {
-        accepted: AtomicU64::new(0),
-        refused: AtomicU64::new(0),
-        finished: AtomicU64::new(0),
-    };
+    let counters = Counters::default();
     let sent = Instant::now(rt)?;
     for urgency in [9, 5, 1, 1] {
         send(&counters, &tx, Job { sent }, urgency);

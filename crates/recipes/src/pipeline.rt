@@ -13,7 +13,7 @@ use std::thread::{self, Threads};
 
 const ROOM: u64 = 2;
 
-fn read<R: Wait + Clone>(words: &'static [&'static str], to_parse: &Sender<&'static str, (), R>) {
+fn read<R: Wait + Clone>(words: &[&'static str], to_parse: &Sender<&'static str, (), R>) {
     for word in words {
         if to_parse.send_blocking(*word, ()).is_err() {
             break; // a stage has failed
