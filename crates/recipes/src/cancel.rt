@@ -3,8 +3,8 @@
 //! You need this where those that ask for work may change their minds. `take_where` is a call of a
 //! sender too, which keeps no receiver for it: that would keep the channel open once its workers
 //! have gone. None tells that the message was received before, so it is too late: a worker that may
-//! be stopped in its work needs a flag in the message, also since a lease that is put back is
-//! pending again. Equal messages are told apart by a number.
+//! be stopped in its work needs a flag in the message (`in_hand.rt`), also since a lease that is
+//! put back is pending again. Equal messages are told apart by a number.
 
 use async_priority_channel::{Sender, unbounded};
 use std::alloc::AllocGlobal;
