@@ -48,5 +48,5 @@ fn main(rt: HostRuntime) -> anyhow::Result<()> {
     in_hand::run(&rt)?;
     pipeline::run(rt)?;
     metrics::run(&rt)?;
-    tasks::run(&rt)
+    tasks::run(rt)
 }

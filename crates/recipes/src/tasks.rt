@@ -12,11 +12,11 @@ use std::alloc::AllocGlobal;
 use std::random::RandomSource;
 use std::sync::Wait;
 
-pub fn run<R>(rt: &R) -> anyhow::Result<()>
+pub fn run<R>(rt: R) -> anyhow::Result<()>
 where
-    R: Wait + Clone + RandomSource + Print + AllocGlobal,
+    R: Wait + Copy + RandomSource + Print + AllocGlobal,
 {
-    let (tx, rx) = bounded(rt, rt.alloc(), 2)?;
+    let (tx, rx) = bounded(&rt, rt.alloc(), 2)?;
     let jobs = [("tidy up", 1), ("fire", 9), ("sweep", 2)];
     let sending = tx.sendv(jobs.into_iter().peekable()).map(|sent| {
         tx.close();
@@ -25,7 +25,7 @@ where
     let working = rx.stream().map(Ok).try_for_each(|(job, urgency)| {
         future::ready(println!(rt; "tasks: {job} ({urgency})"))
     });
-    let (all_sent, worked) = block_on(rt, join(sending, working))?;
+    let (all_sent, worked) = block_on(&rt, join(sending, working))?;
     worked?;
     println!(rt; "tasks: all were sent: {all_sent}")?;
     Ok(())
