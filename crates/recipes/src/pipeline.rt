@@ -1,4 +1,4 @@
-//! Three stages on threads. If one fails, all stop, and its error is told.
+//! Three stages on threads: if one fails, all stop, and its error is told.
 //!
 //! You need this where what one stage makes is the work of the next. A stage that fails closes the
 //! channels on both of its sides, and drops what is pending there, which others would still work
