@@ -73,7 +73,7 @@ impl<T, P: Ord, R: Wait + Clone, A: Allocator + Copy> Receiver<T, P, R, A> {
     /// let (tx, rx) = bounded(&rt, rt.alloc(), 1)?;
     /// tx.try_send("Foo", 0)?;
     /// let limit = Duration::from_millis(5);
-    /// let deadline = Instant::now(&rt)?.checked_add(limit).ok_or("too late")?;
+    /// let deadline = Instant::now(&rt)?.checked_add(limit).expect(&rt, "too late");
     /// assert_eq!(rt; rx.recv_deadline(deadline), Ok(("Foo", 0)));
     /// assert_eq!(rt; rx.recv_deadline(deadline), Err(RecvTimeoutError::Timeout));
     /// assert!(rt; deadline <= Instant::now(&rt)?);
@@ -147,7 +147,7 @@ impl<T, P: Ord, R: Wait + Clone, A: Allocator + Copy> Sender<T, P, R, A> {
     /// ```
     /// let (tx, _rx) = bounded(&rt, rt.alloc(), 1)?;
     /// let limit = Duration::from_millis(5);
-    /// let deadline = Instant::now(&rt)?.checked_add(limit).ok_or("too late")?;
+    /// let deadline = Instant::now(&rt)?.checked_add(limit).expect(&rt, "too late");
     /// tx.send_deadline("Foo", 0, deadline)?;
     /// let late = tx.send_deadline("Bar", 2, deadline);
     /// assert_eq!(rt; late, Err(SendTimeoutError::Timeout(("Bar", 2))));
@@ -233,7 +233,7 @@ impl<T: Drop, P: Ord + Drop, R: Wait + Clone, A: Allocator + Copy> Sender<T, P, 
     /// ```
     /// let (tx, rx) = bounded(&rt, rt.alloc(), 1)?;
     /// let limit = Duration::from_millis(5);
-    /// let deadline = Instant::now(&rt)?.checked_add(limit).ok_or("too late")?;
+    /// let deadline = Instant::now(&rt)?.checked_add(limit).expect(&rt, "too late");
     /// let jobs = [("compile", 1), ("link", 2)].into_iter().peekable();
     /// if let Err(error) = tx.sendv_deadline(jobs, deadline) {
     ///     assert!(rt; error.is_timeout());

@@ -96,7 +96,7 @@ impl<S: Role, T, P: Ord, R: Wait + Clone, A: Allocator + Copy> End<S, T, P, R, A
     /// ```
     /// let (tx, rx) = unbounded::<&str, u64, _, _>(&rt, rt.alloc())?;
     /// let limit = Duration::from_millis(5);
-    /// let deadline = Instant::now(&rt)?.checked_add(limit).ok_or("too late")?;
+    /// let deadline = Instant::now(&rt)?.checked_add(limit).expect(&rt, "too late");
     /// assert_eq!(rt; tx.closed_deadline(deadline), Ok(false));
     /// drop(rx);
     /// assert_eq!(rt; tx.closed_deadline(deadline), Ok(true));

@@ -96,6 +96,9 @@ impl<S: Role, T, P: Ord, R: Wait + Clone, A: Allocator + Copy> End<S, T, P, R, A
     /// producer that has more to send holds a permit meanwhile, in a bounded channel one of its
     /// places. A pool that only puts messages back ends as well by the drop of its last sender.
     ///
+    /// A send or a reserve that waits for room does not count as work. Once all is done, also by
+    /// `retain` or `take_where`, it is refused as `Closed`.
+    ///
     /// Cost: no comparison. No memory.
     ///
     /// ```

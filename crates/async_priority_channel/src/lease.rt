@@ -27,7 +27,8 @@ use std::time::{Clock, Duration, Instant};
 /// That is never refused: not by a full channel, since the place was held, nor by a closed one, nor
 /// for memory. A loop that drops its leases gets the same message again and again, and so does a
 /// pool whose workers all fail at it: count the tries in the message, before the work. A lease that
-/// is kept for ever keeps the receivers of a closed channel waiting for its message.
+/// is kept for ever keeps the receivers of a closed channel waiting for its message: it does not
+/// expire.
 ///
 /// `Receiver::try_lease` and its variants make it.
 ///
@@ -259,7 +260,7 @@ impl<T: Drop, P: Ord + Drop, R: Wait + Clone, A: Allocator + Copy> Receiver<T, P
     /// ```
     /// let (tx, rx) = bounded(&rt, rt.alloc(), 1)?;
     /// let limit = Duration::from_millis(5);
-    /// let deadline = Instant::now(&rt)?.checked_add(limit).ok_or("too late")?;
+    /// let deadline = Instant::now(&rt)?.checked_add(limit).expect(&rt, "too late");
     /// assert!(rt; rx.lease_deadline(deadline).is_err_and(|error| error.is_timeout()));
     /// tx.try_send("Foo", 0)?;
     /// assert_eq!(rt; rx.lease_deadline(deadline)?.finish(), ("Foo", 0));

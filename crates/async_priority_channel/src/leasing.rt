@@ -28,7 +28,7 @@ impl<T: Drop, P: Ord + Drop, R: Wait + Clone, A: Allocator + Copy> Receiver<T, P
     /// tx.try_send("reindex", 1)?;
     /// assert!(rt; rx.try_lease_if(|_, priority| *priority > 5)?.is_none());
     /// tx.try_send("page the admin", 9)?;
-    /// let urgent = rx.try_lease_if(|_, priority| *priority > 5)?.ok_or("none")?;
+    /// let urgent = rx.try_lease_if(|_, priority| *priority > 5)?.expect(&rt, "none");
     /// assert_eq!(rt; urgent.finish(), ("page the admin", 9));
     /// ```
     pub fn try_lease_if<F: Fn(&T, &P) -> bool>(
@@ -59,7 +59,7 @@ impl<T: Drop, P: Ord + Drop, R: Wait + Clone, A: Allocator + Copy> Receiver<T, P
     /// let (tx, rx) = unbounded(&rt, rt.alloc())?;
     /// let jobs = [("compile", 2), ("link", 1), ("test", 3)];
     /// tx.try_sendv(jobs.into_iter().peekable())?;
-    /// let lease = rx.try_lease_where(|job, _| *job == "link")?.ok_or("none")?;
+    /// let lease = rx.try_lease_where(|job, _| *job == "link")?.expect(&rt, "none");
     /// assert_eq!(rt; *lease.message(), "link");
     /// drop(lease);
     /// assert_eq!(rt; rx.len(), 3);
@@ -92,7 +92,7 @@ impl<T: Drop, P: Ord + Drop, R: Wait + Clone, A: Allocator + Copy> Receiver<T, P
     /// let (tx, rx) = unbounded(&rt, rt.alloc())?;
     /// let now = Instant::now(&rt)?;
     /// tx.try_send("call back", Reverse(now))?;
-    /// let later = now.checked_add(Duration::from_millis(5)).ok_or("too late")?;
+    /// let later = now.checked_add(Duration::from_millis(5)).expect(&rt, "too late");
     /// rx.lease_when_blocking(|_, due| Due::At(due.0))?.put_back(Reverse(later));
     /// rx.lease_when_blocking(|_, due| Due::At(due.0))?.finish();
     /// assert!(rt; later <= Instant::now(&rt)?);

@@ -208,11 +208,8 @@
 //!
 //! ```
 //! let (tx, rx) = bounded_reserved(&rt, rt.alloc(), 100)?;
-//! match tx.try_send("Foo", 0) {
-//!     Ok(()) => {}
-//!     Err(TrySendError::Full(unsent) | TrySendError::Closed(unsent)) => drop(unsent),
-//!     Err(TrySendError::Memory(_)) => return Err("not of a reserved channel".into()),
-//! }
+//! let sent = tx.try_send("Foo", 0);
+//! assert!(rt; !sent.is_err_and(|error| error.is_memory()));
 //! ```
 //!
 //! Pending messages stay in memory as long as there is a handle of the channel, also a weak one.

@@ -144,7 +144,7 @@ impl<T, P: Ord, R: Wait + Clone, A: Allocator + Copy> Receiver<T, P, R, A> {
     /// ```
     /// let (tx, rx) = bounded(&rt, rt.alloc(), 10)?;
     /// let limit = Duration::from_millis(5);
-    /// let deadline = Instant::now(&rt)?.checked_add(limit).ok_or("too late")?;
+    /// let deadline = Instant::now(&rt)?.checked_add(limit).expect(&rt, "too late");
     /// let mut batch = Vec::new(rt.alloc());
     /// tx.try_send("Foo", 0)?;
     /// assert_eq!(rt; rx.recv_many_deadline(&mut batch, 8, deadline), Ok(1));

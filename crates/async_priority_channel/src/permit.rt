@@ -157,7 +157,7 @@ impl<T, P: Ord, R: Wait + Clone, A: Allocator + Copy> Sender<T, P, R, A> {
     /// ```
     /// let (tx, _rx) = bounded::<&str, u64, _, _>(&rt, rt.alloc(), 1)?;
     /// let limit = Duration::from_millis(5);
-    /// let deadline = Instant::now(&rt)?.checked_add(limit).ok_or("too late")?;
+    /// let deadline = Instant::now(&rt)?.checked_add(limit).expect(&rt, "too late");
     /// let permit = tx.reserve_deadline(deadline)?;
     /// let refused = tx.reserve_deadline(deadline);
     /// assert!(rt; refused.is_err_and(|error| error.is_timeout()));

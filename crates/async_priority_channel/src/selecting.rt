@@ -44,7 +44,7 @@ impl<T, P: Ord, R: Wait + Clone, A: Allocator + Copy> Receiver<T, P, R, A> {
     /// ```
     /// let (tx, rx) = unbounded(&rt, rt.alloc())?;
     /// let now = Instant::now(&rt)?;
-    /// let soon = now.checked_add(Duration::from_millis(5)).ok_or("too late")?;
+    /// let soon = now.checked_add(Duration::from_millis(5)).expect(&rt, "too late");
     /// tx.try_send("boil the water", Reverse(soon))?;
     /// let (job, _) = rx.recv_when_blocking(|_, due| Due::At(due.0))?;
     /// assert_eq!(rt; job, "boil the water");

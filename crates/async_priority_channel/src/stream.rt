@@ -188,7 +188,7 @@ impl<T: Drop, P: Ord + Drop, R: Wait + Clone, A: Allocator + Copy> Drop for Into
 
 impl<T, P: Ord, R: Wait + Clone, A: Allocator + Copy> Receiver<T, P, R, A> {
     /// The messages as a stream of the kit's `futures`, which ends when the channel is closed and
-    /// empty.
+    /// empty. Keep one `block_on` around all that is done with it, since each costs system calls.
     ///
     /// Cost: none until it is polled (see `RecvStream`).
     ///

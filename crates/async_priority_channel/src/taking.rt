@@ -15,7 +15,8 @@ impl<S: Role, T, P: Ord, R: Wait + Clone, A: Allocator + Copy> End<S, T, P, R, A
     /// Takes out a pending message for which the test returns true, also from a closed channel, as
     /// when its sender or a receiver cancels it. None if there is none. If there are several, it is
     /// not specified which one is taken. A message that is taken is not received: others receive
-    /// their messages in the order as if it had never been sent.
+    /// their messages in the order as if it had never been sent. To cancel a job that a worker may
+    /// already have, its message needs a flag as well.
     ///
     /// The test is called on pending messages in no specified order, and on none after it has
     /// returned true. It is called under the channel's lock (see `End`), and dropped once the lock
@@ -131,7 +132,8 @@ impl<S: Role, T, P: Ord, R: Wait + Clone, A: Allocator + Copy> End<S, T, P, R, A
     /// channel's lock.
     ///
     /// The error is that memory was refused. Then nothing has changed, and the test was not called.
-    /// If a message is taken out, the waiting senders are woken.
+    /// If a message is taken out, the waiting senders are woken. After `close`,
+    /// `retain(|_, _| false)` takes out all that is pending.
     ///
     /// Cost: under the lock memory for n messages, n tests, and for each kept message at most as
     /// many comparisons as the number of kept messages has binary digits.

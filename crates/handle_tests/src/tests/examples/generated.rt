@@ -5,57 +5,61 @@ use super::*;
 
 const FOO: u64 = 1;
 
-const BAR: u64 = 2;
+const TOO_LATE: u64 = 2;
 
-const COMPILE: u64 = 3;
+const BAR: u64 = 3;
 
-const LINK: u64 = 4;
+const COMPILE: u64 = 4;
 
-const TIDY_UP: u64 = 5;
+const LINK: u64 = 5;
 
-const PUT_OUT_THE_FIRE: u64 = 6;
+const TIDY_UP: u64 = 6;
 
-const CALL_FOR_HELP: u64 = 7;
+const PUT_OUT_THE_FIRE: u64 = 7;
 
-const FLAKY: u64 = 8;
+const CALL_FOR_HELP: u64 = 8;
 
-const STEADY: u64 = 9;
+const FLAKY: u64 = 9;
 
-const REINDEX: u64 = 10;
+const STEADY: u64 = 10;
 
-const PAGE_THE_ADMIN: u64 = 11;
+const REINDEX: u64 = 11;
 
-const TEST: u64 = 12;
+const PAGE_THE_ADMIN: u64 = 12;
 
-const CALL_BACK: u64 = 13;
+const NONE: u64 = 13;
 
-const PAUSED: u64 = 14;
+const TEST: u64 = 14;
 
-const LUNCH: u64 = 15;
+const CALL_BACK: u64 = 15;
 
-const BREAKFAST: u64 = 16;
+const PAUSED: u64 = 16;
 
-const WATER_THE_PLANTS: u64 = 17;
+const LUNCH: u64 = 17;
 
-const FIRST: u64 = 18;
+const BREAKFAST: u64 = 18;
 
-const SECOND: u64 = 19;
+const WATER_THE_PLANTS: u64 = 19;
 
-const URGENT: u64 = 20;
+const FIRST: u64 = 20;
 
-const BOIL_THE_WATER: u64 = 21;
+const SECOND: u64 = 21;
 
-const REPORT: u64 = 22;
+const URGENT: u64 = 22;
 
-const THUMBNAIL: u64 = 23;
+const BOIL_THE_WATER: u64 = 23;
 
-const PAYMENT: u64 = 24;
+const REPORT: u64 = 24;
 
-const DEPLOY: u64 = 25;
+const THUMBNAIL: u64 = 25;
 
-const BAZ: u64 = 26;
+const PAYMENT: u64 = 26;
 
-const TEA: u64 = 27;
+const DEPLOY: u64 = 27;
+
+const BAZ: u64 = 28;
+
+const TEA: u64 = 29;
 
 #[test]
 fn example_of_receiver_recv_blocking(rt: HostRuntime) {
@@ -86,8 +90,7 @@ fn example_of_receiver_recv_deadline(rt: HostRuntime) {
     let deadline = Instant::now(&rt)
         .expect(&rt, "now")
         .checked_add(limit)
-        .ok_or("too late")
-        .expect(&rt, "ok_or");
+        .expect(&rt, TOO_LATE);
     expect_equal(&rt, rx.recv_deadline(deadline), Ok((FOO, 0)));
     expect_equal(
         &rt,
@@ -126,8 +129,7 @@ fn example_of_sender_send_deadline(rt: HostRuntime) {
     let deadline = Instant::now(&rt)
         .expect(&rt, "now")
         .checked_add(limit)
-        .ok_or("too late")
-        .expect(&rt, "ok_or");
+        .expect(&rt, TOO_LATE);
     tx.send_deadline(FOO, 0, deadline)
         .expect(&rt, "send_deadline");
     let late = tx.send_deadline(BAR, 2, deadline);
@@ -164,8 +166,7 @@ fn example_of_sender_sendv_deadline(rt: HostRuntime) {
     let deadline = Instant::now(&rt)
         .expect(&rt, "now")
         .checked_add(limit)
-        .ok_or("too late")
-        .expect(&rt, "ok_or");
+        .expect(&rt, TOO_LATE);
     let jobs = [(COMPILE, 1), (LINK, 2)].into_iter().peekable();
     if let Err(error) = tx.sendv_deadline(jobs, deadline) {
         expect_true(&rt, error.is_timeout());
@@ -270,8 +271,7 @@ fn example_of_end_closed_deadline(rt: HostRuntime) {
     let deadline = Instant::now(&rt)
         .expect(&rt, "now")
         .checked_add(limit)
-        .ok_or("too late")
-        .expect(&rt, "ok_or");
+        .expect(&rt, TOO_LATE);
     expect_equal(&rt, tx.closed_deadline(deadline), Ok(false));
     drop(rx);
     expect_equal(&rt, tx.closed_deadline(deadline), Ok(true));
@@ -475,8 +475,7 @@ fn example_of_receiver_lease_deadline(rt: HostRuntime) {
     let deadline = Instant::now(&rt)
         .expect(&rt, "now")
         .checked_add(limit)
-        .ok_or("too late")
-        .expect(&rt, "ok_or");
+        .expect(&rt, TOO_LATE);
     expect_true(
         &rt,
         rx.lease_deadline(deadline)
@@ -532,8 +531,7 @@ fn example_of_receiver_try_lease_if(rt: HostRuntime) {
     let urgent = rx
         .try_lease_if(|_, priority| *priority > 5)
         .expect(&rt, "try_lease_if")
-        .ok_or("none")
-        .expect(&rt, "ok_or");
+        .expect(&rt, NONE);
     expect_equal(&rt, urgent.finish(), (PAGE_THE_ADMIN, 9));
 }
 
@@ -546,8 +544,7 @@ fn example_of_receiver_try_lease_where(rt: HostRuntime) {
     let lease = rx
         .try_lease_where(|job, _| *job == LINK)
         .expect(&rt, "try_lease_where")
-        .ok_or("none")
-        .expect(&rt, "ok_or");
+        .expect(&rt, NONE);
     expect_equal(&rt, *lease.message(), LINK);
     drop(lease);
     expect_equal(&rt, rx.len(), 3);
@@ -560,8 +557,7 @@ fn example_of_receiver_lease_when_blocking(rt: HostRuntime) {
     tx.try_send(CALL_BACK, Reverse(now)).expect(&rt, "try_send");
     let later = now
         .checked_add(Duration::from_millis(5))
-        .ok_or("too late")
-        .expect(&rt, "ok_or");
+        .expect(&rt, TOO_LATE);
     rx.lease_when_blocking(|_, due| Due::At(due.0))
         .expect(&rt, "lease_when_blocking")
         .put_back(Reverse(later));
@@ -767,11 +763,8 @@ fn example_of_futures_2(rt: HostRuntime) {
 #[test]
 fn example_of_memory(rt: HostRuntime) {
     let (tx, rx) = bounded_reserved(&rt, rt.alloc(), 100).expect(&rt, "bounded_reserved");
-    match tx.try_send(FOO, 0) {
-        Ok(()) => {}
-        Err(TrySendError::Full(unsent) | TrySendError::Closed(unsent)) => drop(unsent),
-        Err(TrySendError::Memory(_)) => panic!(rt; "not of a reserved channel"),
-    }
+    let sent = tx.try_send(FOO, 0);
+    expect_true(&rt, !sent.is_err_and(|error| error.is_memory()));
     expect_equal(&rt, rx.len(), 1);
 }
 
@@ -836,8 +829,7 @@ fn example_of_receiver_recv_many_deadline(rt: HostRuntime) {
     let deadline = Instant::now(&rt)
         .expect(&rt, "now")
         .checked_add(limit)
-        .ok_or("too late")
-        .expect(&rt, "ok_or");
+        .expect(&rt, TOO_LATE);
     let mut batch = Vec::new(rt.alloc());
     tx.try_send(FOO, 0).expect(&rt, "try_send");
     expect_equal(&rt, rx.recv_many_deadline(&mut batch, 8, deadline), Ok(1));
@@ -927,8 +919,7 @@ fn example_of_sender_reserve_deadline(rt: HostRuntime) {
     let deadline = Instant::now(&rt)
         .expect(&rt, "now")
         .checked_add(limit)
-        .ok_or("too late")
-        .expect(&rt, "ok_or");
+        .expect(&rt, TOO_LATE);
     let permit = tx
         .reserve_deadline(deadline)
         .expect(&rt, "reserve_deadline");
@@ -983,8 +974,7 @@ fn example_of_receiver_recv_when_blocking(rt: HostRuntime) {
     let now = Instant::now(&rt).expect(&rt, "now");
     let soon = now
         .checked_add(Duration::from_millis(5))
-        .ok_or("too late")
-        .expect(&rt, "ok_or");
+        .expect(&rt, TOO_LATE);
     tx.try_send(BOIL_THE_WATER, Reverse(soon))
         .expect(&rt, "try_send");
     let (job, _) = rx

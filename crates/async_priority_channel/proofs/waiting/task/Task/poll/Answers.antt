@@ -3,10 +3,10 @@ use Rattle.async_priority_channel.proofs.waiting.task.Task.poll.Goals as goal
 
 pub returns-in-Pending-clause-handed_back : goal.returns-in-Pending-clause-handed_back
 returns-in-Pending-clause-handed_back g c =
-    hands_back_after g.K.Polled.can_poll g.K.Polled.leaves g.K.Polled.still g.K.Polled.back c.args.self.now.state c.poll_on-polled.new.self _
-    (rw c.in-Pending.is at c.poll_on-polled.ensures.waits) c.poll_on-polled.ensures.kept c.wait-in-Pending.ensures.handed_back
+    hands_back_after g.K.Polled.can_poll g.K.Polled.leaves g.K.Polled.still g.K.Polled.back c.args.self.now.state c.poll.new.state _
+    (rw c.in-Pending.is at c.poll.ensures.waits) c.poll.ensures.left c.wait-in-Pending.ensures.handed_back
 
 pub returns-in-Pending-clause-left : goal.returns-in-Pending-clause-left
 returns-in-Pending-clause-left g c =
-    later g.K.Polled.can_poll g.K.Polled.leaves g.K.Polled.still g.K.Polled.back c.args.self.now.state.kept c.poll_on-polled.new.self.kept _
-    (rw c.in-Pending.is at c.poll_on-polled.ensures.waits) c.poll_on-polled.ensures.kept c.wait-in-Pending.ensures.left
+    later g.K.Polled.can_poll g.K.Polled.leaves g.K.Polled.still g.K.Polled.back c.args.self.now.state.kept c.poll.new.state.kept _
+    (rw c.in-Pending.is at c.poll.ensures.waits) c.poll.ensures.left c.wait-in-Pending.ensures.left
