@@ -13,9 +13,9 @@ use std::thread::{self, Threads};
 
 const ROOM: u64 = 2;
 
-fn read<R: Wait + Clone>(words: &[&'static str], to_parse: &Sender<&'static str, (), R>) {
-    for word in words {
-        if to_parse.send_blocking(*word, ()).is_err() {
+fn read<R: Wait + Clone>(text: &'static str, to_parse: &Sender<&'static str, (), R>) {
+    for word in text.split_whitespace() {
+        if to_parse.send_blocking(word, ()).is_err() {
             break; // a stage has failed
         }
     }
@@ -61,13 +61,13 @@ fn sum<R: Wait + Clone>(numbers: &Receiver<u64, (), R>) -> anyhow::Result<u64> {
     Ok(sum)
 }
 
-fn sum_of<R>(rt: R, texts: &'static [&'static str]) -> anyhow::Result<u64>
+fn sum_of<R>(rt: R, text: &'static str) -> anyhow::Result<u64>
 where
     R: Threads + Wait + Copy + AllocGlobal + Send + 'static,
 {
     let (to_parse, words) = bounded(&rt, rt.alloc(), ROOM)?;
     let (to_sum, numbers) = bounded(&rt, rt.alloc(), ROOM)?;
-    let reader = thread::spawn(&rt, move || read(texts, &to_parse))?;
+    let reader = thread::spawn(&rt, move || read(text, &to_parse))?;
     let mut parsers = Vec::new(rt.alloc());
     for _ in 0..2 {
         let (words, to_sum) = (words.clone()?, to_sum.clone()?);
@@ -87,8 +87,8 @@ pub fn run<R>(rt: R) -> anyhow::Result<()>
 where
     R: Threads + Wait + Copy + Print + AllocGlobal + Send + 'static,
 {
-    for texts in [&["1", "2", "3", "4"], &["1", "two", "3", "4"]] {
-        match sum_of(rt, texts) {
+    for text in ["1 2 3 4", "1 two 3 4"] {
+        match sum_of(rt, text) {
             Ok(sum) => println!(rt; "pipeline: the sum is {sum}")?,
             Err(error) => println!(rt; "pipeline: {error:#}")?,
         }
