@@ -1,0 +1,23 @@
+-- A step with its reply, put together.
+use Rattle.std.proofs.Common.{◌≡◌, ℕ, Bool, true, false, subst, sym}
+use Rattle.priority_channel_core.specs.Prelude.{Calls, Answers, Handed, nobody}
+use Rattle.priority_channel_c.specs.declared.priority.Priority.{Priority}
+use Rattle.priority_channel_c.specs.declared.reply.Reply.{Reply}
+use Rattle.priority_channel_c.specs.declared.state.Core.{Core}
+use Rattle.priority_channel_c.specs.Replies.{Makes, MakesQuietly, Steps, Tells, has_waiters}
+
+module _ {made : Calls ℕ Priority ℕ} {told : Reply} {old new : Core} (answer : Answers ℕ Priority) where
+  -- whoever was woken is due, where nobody was
+  pub makes : {handed : Handed ℕ} → Steps old made answer handed new → new.due ≡ handed → Tells answer told → has_waiters old.due ≡ false → told.has_due ≡ has_waiters new.due → Makes made told old new
+  makes step kept tells empty due = record {
+    step = λ _. (answer, subst (λ h. Steps old made answer h new) (sym kept) step, tells);
+    put_off = λ some. absurd (cc);
+    due = due;
+  }
+
+  -- the same, where the call that is meant is equal to the one that was made
+  pub makes_equal : {given : Calls ℕ Priority ℕ} {handed : Handed ℕ} → made ≡ given → Steps old given answer handed new → new.due ≡ handed → Tells answer told → has_waiters old.due ≡ false → told.has_due ≡ has_waiters new.due → Makes made told old new
+  makes_equal {handed} same step = makes (subst (λ call. Steps old call answer handed new) (sym same) step)
+
+  pub quietly : Steps old made answer nobody new → Tells answer told → new.due ≡ old.due → told.has_due ≡ has_waiters new.due → MakesQuietly made told old new
+  quietly step tells kept due = record { answer = answer; step = step; tells = tells; kept = kept; due = due }
