@@ -1,2 +1,3 @@
 mod AsBox
 mod Making
+mod Tested

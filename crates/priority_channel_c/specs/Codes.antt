@@ -1,5 +1,5 @@
 -- What C is told of an answer: a code, and the pair and the ticket that came with it.
-use Rattle.std.specs.Prelude.{ℕ, Bool, true, false, Option, Some, None, Ok, Err, Result}
+use Rattle.std.specs.Prelude.{ℕ, Bool, true, false, Option, Some, None, Ok, Err}
 use Rattle.priority_channel_core.specs.Prelude.{Answers}
 use Rattle.priority_channel_core.specs.declared.errors.TrySendError.{TrySendError}
 use Rattle.priority_channel_core.specs.declared.errors.TryRecvError.{TryRecvError}

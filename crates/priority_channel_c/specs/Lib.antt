@@ -2,6 +2,7 @@ pub mod Codes
 pub mod Due
 pub mod Handles
 pub mod Held
+pub mod Keys
 pub mod Opening
 pub mod Priority
 pub mod Queries

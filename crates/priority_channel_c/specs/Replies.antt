@@ -1,10 +1,9 @@
 -- What a reply tells, and what a call does to the channel behind a handle.
 use Rattle.std.specs.Prelude.{◌≡◌, ℕ, Bool, true, false, ◌||◌, if◌then◌else◌, List, [], ◌∷◌, Option, Some, None, IfSome}
-use Rattle.priority_channel_core.specs.Prelude.{State, Step, Calls, Answers, Handed, nobody}
+use Rattle.priority_channel_core.specs.Prelude.{Step, Calls, Answers, Handed, nobody}
 use Rattle.priority_channel_c.specs.declared.priority.Priority.{Priority}
 use Rattle.priority_channel_c.specs.declared.reply.Reply.{Reply}
 use Rattle.priority_channel_c.specs.declared.reply.Waiter.{Waiter}
-use Rattle.priority_channel_c.specs.declared.codes.Code.{Code}
 use Rattle.priority_channel_c.specs.declared.codes.Code.TheVariants.{Due}
 use Rattle.priority_channel_c.specs.declared.state.Core.{Core}
 use Rattle.priority_channel_c.specs.Priority.{priority_cmp}

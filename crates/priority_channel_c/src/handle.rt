@@ -24,6 +24,16 @@ impl Model for Handle {
     ghost also_owns = { λ h. held h.alloc h.at h.value };
 }
 
+unsafe impl Send for Handle {}
+
+// What C gives may come from another thread, so its type has to be `Send`.
+#[inline(always)]
+fn from_any_thread<T: Send>(given: T) -> T
+    ensures { result ≡ given }
+{
+    given
+}
+
 impl Handle {
     fn of_parts(parts: Parts<Core, Global>) -> Handle
         ensures { result.value ≡ Some parts.value }
@@ -47,7 +57,7 @@ impl Handle {
         requires { IsSome self.value }
         ensures { Some result.value ≡ self.value }
     {
-        self.into_parts().into_box()
+        from_any_thread(self).into_parts().into_box()
     }
 
     #[inline(always)]

@@ -1,13 +1,13 @@
 -- `into_parts` moves two fields, and what they own goes with them.
 use mathlib.Core.Path.{refl, sym, subst}
 use mathlib.Core.List.{List, [], ◌∷◌, ◌++◌}
-use Rattle.std.specs.Prelude.{Option, None, Some, IsSome}
+use Rattle.std.specs.Prelude.{Option, IsSome}
 use Rattle.priority_channel_c.proofs.AsBox.{there}
 use Rattle.priority_channel_c.specs.contracts.handle.Handle as Handle
 use Rattle.priority_channel_c.specs.contracts.state.Core as Core
 use seplogic.Ra.Ura.{Ura}
 use mir.Val.{Val}
-use base.Logic.{SProp, ent, emp, id⊢}
+use base.Logic.{SProp, ent, id⊢}
 use base.Fml.{ftrue, fsep}
 use prog.Memory.{Memory}
 use prog.Routine.{Routine}
