@@ -1,7 +1,7 @@
 //! The start and the end of a channel.
-ghost use Rattle.std.specs.Prelude.{◌≡◌, ◌-◌, ◌^◌, true, false, None, IsSome};
+ghost use Rattle.std.specs.Prelude.{◌≡◌, ◌<◌, ◌≤◌, ◌-◌, ◌^◌, true, false, None, IsSome};
 ghost use Rattle.priority_channel_core.specs.Prelude.{opening};
-ghost use Rattle.priority_channel_c.specs.Opening.{Opens, Ends};
+ghost use Rattle.priority_channel_c.specs.Opening.{Opens, RefusesCapacity, Ends};
 
 use crate::codes::Code;
 use crate::due::Due;
@@ -35,7 +35,8 @@ fn put_behind(
 #[unsafe(no_mangle)]
 pub extern "C" fn apc_open_bounded(alloc: Global, out: &mut Handle, capacity: u64) -> u32
     requires { out.old.value ≡ None }
-    ensures { Opens (opening capacity false) result out.new.value }
+    ensures opens { 0 < capacity → Opens (opening capacity false) result out.new.value }
+    ensures refuses { capacity ≡ 0 → RefusesCapacity result out.new.value }
 {
     if capacity == 0 {
         return Code::BadCapacity.number();
@@ -48,7 +49,10 @@ pub extern "C" fn apc_open_bounded(alloc: Global, out: &mut Handle, capacity: u6
 #[unsafe(no_mangle)]
 pub extern "C" fn apc_open_reserved(alloc: Global, out: &mut Handle, capacity: u64) -> u32
     requires { out.old.value ≡ None }
-    ensures { Opens (opening capacity true) result out.new.value }
+    ensures opens { 0 < capacity → capacity < 2 ^ 63
+        → Opens (opening capacity true) result out.new.value }
+    ensures refuses_none { capacity ≡ 0 → RefusesCapacity result out.new.value }
+    ensures refuses_more { 2 ^ 63 ≤ capacity → RefusesCapacity result out.new.value }
 {
     if capacity == 0 || capacity >= 1 << 63 {
         return Code::BadCapacity.number();

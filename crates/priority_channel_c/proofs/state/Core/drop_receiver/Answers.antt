@@ -6,5 +6,5 @@ use Rattle.priority_channel_c.proofs.state.Core.drop_receiver.Goals as goal
 pub returns : goal.returns
 returns c = record {
   some = λ _. makes answer.DropReceiver c.drop_receiver-wakes.ensures.step (search rules) (search rules) (search rules) (search rules);
-  none = λ none. search rules;
+  none = λ none. absurd (search rules);
 }
