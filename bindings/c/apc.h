@@ -25,6 +25,11 @@ typedef struct {
     uint64_t high, low;
 } apc_priority;
 
+typedef struct {
+    uint64_t message;
+    apc_priority priority;
+} apc_pair;
+
 static inline apc_priority apc_unsigned(uint64_t number) {
     return (apc_priority){number, 0};
 }
@@ -80,6 +85,8 @@ uint32_t apc_open_reserved(apc_handle *out, uint64_t capacity);
 uint32_t apc_open_unbounded(apc_handle *out);
 uint32_t apc_free(apc_handle handle, apc_handle *out);
 apc_reply apc_try_send(apc_handle, apc_handle *out, uint64_t message, apc_priority);
+apc_reply apc_try_send_many(apc_handle, apc_handle *out, const apc_pair *, size_t count,
+                            uint64_t *accepted);
 apc_reply apc_try_send_evicting(apc_handle, apc_handle *out, uint64_t message, apc_priority);
 apc_reply apc_try_recv(apc_handle, apc_handle *out);
 apc_reply apc_poll_send(apc_handle, apc_handle *out, uint64_t message, apc_priority, apc_waiter);
@@ -137,6 +144,11 @@ APC_CALL(uint32_t, free, (apc_handle *channel), (open, channel))
 /* DONE, CLOSED, FULL or MEMORY. */
 APC_CALL(apc_reply, try_send, (apc_handle *channel, uint64_t message, apc_priority priority),
          (open, channel, message, priority))
+/* The same of many pairs, as far as there is room, in one step. `accepted` becomes how many were:
+   all at DONE, else the first ones. `pairs` is not null. */
+APC_CALL(apc_reply, try_send_many,
+         (apc_handle *channel, const apc_pair *pairs, size_t count, uint64_t *accepted),
+         (open, channel, pairs, count, accepted))
 /* If the channel is full, the pair of least priority (the last of them) makes room for one of
    greater priority: DISPLACED. */
 APC_CALL(apc_reply, try_send_evicting,

@@ -1,6 +1,6 @@
 /* Random calls beside a plain model, and a refusal of each request for memory in turn.
 
-   The model keeps the pending pairs in the order of their acceptance, and looks through all of them.
+   The model keeps the pending pairs in the order of acceptance, and looks through all of them.
    What is expected is the model's answer, never the library's own. */
 #include "apc.h"
 
@@ -46,13 +46,8 @@ void rattle_dealloc(void *at) {
 /* The model. */
 enum { MOST = 64 };
 
-typedef struct {
-    uint64_t message;
-    apc_priority priority;
-} pair;
-
 static struct {
-    pair pending[MOST];
+    apc_pair pending[MOST];
     int count, held, capacity;
     bool is_closed, ends_when_done;
     size_t senders, receivers;
@@ -91,14 +86,14 @@ static void settle(void) {
 }
 
 static void accept_pair(uint64_t message, apc_priority priority) {
-    model.pending[model.count++] = (pair){message, priority};
+    model.pending[model.count++] = (apc_pair){message, priority};
     wake_message();
 }
 
-static pair take_at(int at) {
-    pair out = model.pending[at];
+static apc_pair take_at(int at) {
+    apc_pair out = model.pending[at];
     model.count--;
-    memmove(&model.pending[at], &model.pending[at + 1], sizeof(pair) * (size_t)(model.count - at));
+    memmove(&model.pending[at], &model.pending[at + 1], sizeof(apc_pair) * (size_t)(model.count - at));
     return out;
 }
 
@@ -173,7 +168,7 @@ static apc_priority random_priority(void) {
                           random_below(2) == 0 ? UINT64_MAX : random_below(2)};
 }
 
-static void check_pair(apc_reply reply, pair wanted) {
+static void check_pair(apc_reply reply, apc_pair wanted) {
     CHECK(reply.message == wanted.message && is_same(reply.priority, wanted.priority));
 }
 
@@ -208,7 +203,7 @@ static void one_call(apc_handle *channel) {
     uint64_t message = next_message;
     uint32_t wanted;
     calls++;
-    switch (random_below(24)) {
+    switch (random_below(25)) {
     case 0: case 1: case 2: case 3:
         next_message++;
         wanted = send_code();
@@ -225,7 +220,7 @@ static void one_call(apc_handle *channel) {
             && is_less(model.pending[makes_room()].priority, priority)) {
             CHECK(reply.code == APC_DISPLACED);
             check_pair(reply, take_at(makes_room()));
-            model.pending[model.count++] = (pair){message, priority};
+            model.pending[model.count++] = (apc_pair){message, priority};
         } else {
             CHECK(reply.code == wanted);
             if (wanted == APC_DONE)
@@ -376,6 +371,22 @@ static void one_call(apc_handle *channel) {
         break;
     }
     case 22: {
+        apc_pair list[3];
+        size_t count = random_below(4);
+        for (size_t at = 0; at < count; at++)
+            list[at] = (apc_pair){next_message++, random_priority()};
+        uint64_t accepted = 77, room = (uint64_t)(model.capacity - model.count - model.held);
+        wanted = send_code();
+        uint64_t fits = wanted != APC_DONE ? 0 : count < room ? count : room;
+        if (wanted == APC_DONE && fits < count)
+            wanted = APC_FULL;
+        reply = pc_try_send_many(channel, list, count, &accepted);
+        CHECK(reply.code == wanted && accepted == fits);
+        for (size_t at = 0; at < fits; at++)
+            accept_pair(list[at].message, list[at].priority);
+        break;
+    }
+    case 23: {
         uint64_t ticket = random_below(model.next_ticket + 1);
         reply = pc_give_up(channel, ticket);
         CHECK(reply.code == APC_DONE);

@@ -6,12 +6,12 @@
     message, priority = channel.get()
 
 The calls have the shape of `queue.PriorityQueue`, but the greatest priority comes first, and
-messages need no order. A priority is an int of 128 bits, or a pair of ints of 64 bits each. Messages
-may be any objects.
+messages need no order: they may be any objects. A priority is an int of 128 bits, or a pair of ints
+of 64 bits each.
 
-The core keeps the order, the limit, the close, the held places and the lists of waiters. This module
-keeps the messages and has the lock; it is tested, and not proved. `library` is the path of the shared
-library, by default `libpriority_channel.so` beside this file.
+The core keeps the order, the limit, the close, the held places and the lists of waiters. This
+module keeps the messages and has the lock; it is tested, and not proved. `library` is the path of
+the shared library, by default `libpriority_channel.so` beside this file.
 """
 
 import ctypes
@@ -177,8 +177,8 @@ class Channel:
                     del self._waiting[waiter.waker]
 
     def put(self, message, priority=0, block=True, timeout=None):
-        """Sends a message. Full if there is no room, for `timeout` seconds or, without `block`, now;
-        Closed; MemoryError. What is refused was not sent."""
+        """Sends a message. Full if there is no room, for `timeout` seconds or, without `block`,
+        now; Closed; MemoryError. What is refused was not sent."""
         if not block:
             timeout = None
         words = _words(priority)
@@ -204,8 +204,8 @@ class Channel:
             raise {FULL: Full, CLOSED: Closed}.get(code, MemoryError)
 
     def get(self, block=True, timeout=None):
-        """Receives the most urgent message, and among equals the first: it with its priority.
-        Empty if nothing comes, for `timeout` seconds or, without `block`, now; Closed."""
+        """Receives the most urgent message, and among equals the first, with its priority. Empty
+        if nothing comes, for `timeout` seconds or, without `block`, now; Closed."""
         if not block:
             with self._lock:
                 return self._received(self._told(self._call("apc_try_recv")))
@@ -237,7 +237,7 @@ class Channel:
         return _Lease(self, reply.message, reply.priority)
 
     def change_priority(self, message, priority):
-        """Gives a pending message, the same object, another priority. False if it is not pending."""
+        """Gives a pending message, the same object, another priority. False if there is none."""
         words = _words(priority)
         with self._lock:
             for number, (pending, _) in self._pairs.items():

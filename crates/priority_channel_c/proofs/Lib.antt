@@ -1,3 +1,4 @@
 mod AsBox
 mod Making
+mod Many
 mod Tested

@@ -1,11 +1,11 @@
 -- What C is told of an answer: a code, and the pair and the ticket that came with it.
-use Rattle.std.specs.Prelude.{ℕ, Bool, true, false, Option, Some, None, Ok, Err}
+use Rattle.std.specs.Prelude.{ℕ, Bool, true, false, Option, Some, None, Result, Ok, Err}
 use Rattle.priority_channel_core.specs.Prelude.{Answers}
 use Rattle.priority_channel_core.specs.declared.errors.TrySendError.{TrySendError}
 use Rattle.priority_channel_core.specs.declared.errors.TryRecvError.{TryRecvError}
 use Rattle.priority_channel_core.specs.declared.errors.SendFault.{SendFault}
 use Rattle.priority_channel_core.specs.declared.errors.RecvFault.{RecvFault}
-use Rattle.priority_channel_core.specs.declared.calls.Answer.TheVariants.{TrySend, TrySendEvicting, TryRecv, TakeWhere, ChangePriority, Close, CloneSender, CloneReceiver, PollSend, PollRecv, TryReserve, TryLease, LeaseWhere, Put, Free}
+use Rattle.priority_channel_core.specs.declared.calls.Answer.TheVariants.{TrySend, TrySendv, TrySendEvicting, TryRecv, TakeWhere, ChangePriority, Close, CloneSender, CloneReceiver, PollSend, PollRecv, TryReserve, TryLease, LeaseWhere, Put, Free}
 use Rattle.priority_channel_core.specs.declared.calls.CorePoll.TheVariants as poll
 use Rattle.priority_channel_core.specs.declared.errors.TryRecvManyError.{TryRecvManyError}
 use Rattle.priority_channel_core.specs.declared.errors.TrySendError.TheVariants as send
@@ -35,6 +35,10 @@ refusal (send.Full held) = Full
 refusal (send.Closed held) = Closed
 refusal (send.Memory held) = Memory
 
+abbrev pub reply_code : {K : Type 0} → Result (Unit {0}) (TrySendError K) → Code
+reply_code (Ok done) = Done
+reply_code (Err error) = refusal error
+
 abbrev pub absence : TryRecvError → Code
 absence recv.Empty = Empty
 absence recv.Closed = Closed
@@ -58,8 +62,8 @@ found true = Done
 found false = Nothing
 
 abbrev pub code_of : Answers ℕ Priority → Code
-code_of (TrySend (Ok done)) = Done
-code_of (TrySend (Err error)) = refusal error
+code_of (TrySend reply) = reply_code reply
+code_of (TrySendv reply) = reply_code reply
 code_of (TrySendEvicting (Ok None)) = Done
 code_of (TrySendEvicting (Ok (Some out))) = Displaced
 code_of (TrySendEvicting (Err error)) = refusal error
@@ -78,8 +82,7 @@ code_of (PollSend (poll.Pending held ticket)) = Pending
 code_of (PollRecv (poll.Ready (Ok pair))) = Done
 code_of (PollRecv (poll.Ready (Err fault))) = recv_end fault
 code_of (PollRecv (poll.Pending none ticket)) = Pending
-code_of (TryReserve (Ok done)) = Done
-code_of (TryReserve (Err error)) = refusal error
+code_of (TryReserve reply) = reply_code reply
 code_of (TryLease (Ok pair)) = Done
 code_of (TryLease (Err error)) = lease_absence error
 code_of (LeaseWhere (Ok (Some pair))) = Done

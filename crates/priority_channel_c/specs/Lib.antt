@@ -1,3 +1,4 @@
+pub mod Bulk
 pub mod Codes
 pub mod Due
 pub mod Handles

@@ -31,7 +31,7 @@ pub enum Code {
 }
 
 impl Code {
-    ghost use Rattle.priority_channel_c.specs.Codes.{number, refusal, absence, lease_absence, send_end, recv_end, found};
+    ghost use Rattle.priority_channel_c.specs.Codes.{number, refusal, reply_code, absence, lease_absence, send_end, recv_end, found};
 
     pub fn number(self) -> u32
         ensures { result ≡ number self }
@@ -57,6 +57,15 @@ impl Code {
             TrySendError::Full(_) => Code::Full,
             TrySendError::Closed(_) => Code::Closed,
             TrySendError::Memory(_) => Code::Memory,
+        }
+    }
+
+    pub fn of_reply<K>(reply: &Result<(), TrySendError<K>>) -> Code
+        ensures { result ≡ reply_code reply.now }
+    {
+        match reply {
+            Ok(()) => Code::Done,
+            Err(error) => Code::of_refusal(error),
         }
     }
 

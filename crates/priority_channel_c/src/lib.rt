@@ -7,6 +7,7 @@
 //! Only one call at a time may work on a channel, since there is no lock here.
 #![tactic(auto)]
 
+pub mod bulk;
 pub mod closing;
 pub mod codes;
 pub mod due;

@@ -17,10 +17,7 @@ impl Reply {
         ensures tells { Tells (Answer.TrySend sent) result }
         ensures due { result.has_due ≡ has_due }
     {
-        match sent {
-            Ok(()) => Reply::of(Code::Done, has_due),
-            Err(error) => Reply::of(Code::of_refusal(&error), has_due),
-        }
+        Reply::of(Code::of_reply(&sent), has_due)
     }
 
     pub fn of_evicting(sent: Result<Option<Pair>, TrySendError<Pair>>, has_due: bool) -> Reply
@@ -48,10 +45,7 @@ impl Reply {
         ensures tells { Tells (Answer.TryReserve reserved) result }
         ensures due { result.has_due ≡ has_due }
     {
-        match reserved {
-            Ok(()) => Reply::of(Code::Done, has_due),
-            Err(error) => Reply::of(Code::of_refusal(&error), has_due),
-        }
+        Reply::of(Code::of_reply(&reserved), has_due)
     }
 
     pub fn of_lease(leased: Result<Pair, TryRecvManyError>, has_due: bool) -> Reply
