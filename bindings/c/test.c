@@ -93,7 +93,8 @@ static void accept_pair(uint64_t message, apc_priority priority) {
 static apc_pair take_at(int at) {
     apc_pair out = model.pending[at];
     model.count--;
-    memmove(&model.pending[at], &model.pending[at + 1], sizeof(apc_pair) * (size_t)(model.count - at));
+    size_t after = sizeof(apc_pair) * (size_t)(model.count - at);
+    memmove(&model.pending[at], &model.pending[at + 1], after);
     return out;
 }
 
