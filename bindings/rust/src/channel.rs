@@ -81,15 +81,17 @@ impl<T, P> State<T, P> {
     }
 
     /// Lists a task that has to wait: for room in a full channel, or for a message in an empty one.
-    /// False if memory is refused; then it is in no list.
+    /// False if memory is refused; then it is in no list. What has to be dropped once the lock is
+    /// free is left in `waker` and in `old`.
     pub fn list(
         &mut self,
         side: Side,
         listed: &mut Option<Listed>,
         waker: &mut Option<Waker>,
+        old: &mut Option<Waker>,
     ) -> bool {
         let Some(key) = self.waiters.keep(listed.map(|listed| listed.key), waker) else {
-            self.leave(listed, waker);
+            *old = self.leave(listed);
             return false;
         };
         let waiter = Waiter {
@@ -108,19 +110,16 @@ impl<T, P> State<T, P> {
             key,
         });
         if listed.is_none() {
-            *waker = self.waiters.remove(key);
+            *old = self.waiters.remove(key);
         }
         listed.is_some()
     }
 
-    /// Takes a task off the lists. What has to be dropped is left in `waker`.
-    pub fn leave(&mut self, listed: &mut Option<Listed>, waker: &mut Option<Waker>) {
-        if let Some(listed) = listed.take() {
-            self.core.give_up(listed.ticket);
-            if let Some(old) = self.waiters.remove(listed.key) {
-                *waker = Some(old);
-            }
-        }
+    /// Takes a task off the lists. Its waker is to be dropped once the lock is free.
+    pub fn leave(&mut self, listed: &mut Option<Listed>) -> Option<Waker> {
+        let listed = listed.take()?;
+        self.core.give_up(listed.ticket);
+        self.waiters.remove(listed.key)
     }
 }
 

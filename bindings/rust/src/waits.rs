@@ -37,10 +37,10 @@ impl<'a, T, P> Wait<'a, T, P> {
         let listed = &mut self.listed;
         let (answer, is_listed) = self.channel.hold(|state| match attempt(state) {
             Some(answer) => {
-                state.leave(listed, &mut old);
+                old = state.leave(listed);
                 (Some(answer), true)
             }
-            None => (None, state.list(side, listed, &mut waker)),
+            None => (None, state.list(side, listed, &mut waker, &mut old)),
         });
         match answer {
             Some(answer) => Poll::Ready(answer),
@@ -57,9 +57,8 @@ impl<'a, T, P> Wait<'a, T, P> {
 impl<T, P> Drop for Wait<'_, T, P> {
     fn drop(&mut self) {
         if self.listed.is_some() {
-            let mut old = None;
             let listed = &mut self.listed;
-            self.channel.hold(|state| state.leave(listed, &mut old));
+            drop(self.channel.hold(|state| state.leave(listed)));
         }
     }
 }
