@@ -231,7 +231,14 @@ impl<T, P: Priority> Sender<T, P> {
     ///
     /// The channel is closed, and the message comes back.
     pub fn send_blocking(&self, msg: T, priority: P) -> Result<(), SendError<(T, P)>> {
-        block_on(self.send(msg, priority), None).expect("there is no time limit")
+        // A try costs no waker.
+        match self.try_send(msg, priority) {
+            Ok(()) => Ok(()),
+            Err(TrySendError::Closed(pair)) => Err(SendError(pair)),
+            Err(TrySendError::Full((msg, priority)) | TrySendError::Memory((msg, priority))) => {
+                block_on(self.send(msg, priority), None).expect("there is no time limit")
+            }
+        }
     }
 
     /// As [`send`](Sender::send), and blocks the thread for a limited time.
@@ -295,7 +302,13 @@ impl<T, P> Receiver<T, P> {
     ///
     /// The channel is empty and closed.
     pub fn recv_blocking(&self) -> Result<(T, P), RecvError> {
-        block_on(self.recv(), None).expect("there is no time limit")
+        match self.try_recv() {
+            Ok(pair) => Ok(pair),
+            Err(TryRecvError::Closed) => Err(RecvError),
+            Err(TryRecvError::Empty) => {
+                block_on(self.recv(), None).expect("there is no time limit")
+            }
+        }
     }
 
     /// As [`recv`](Receiver::recv), and blocks the thread for a limited time.
