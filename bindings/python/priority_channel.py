@@ -127,7 +127,8 @@ class Channel:
             raise MemoryError("no memory for a channel")
 
     def __del__(self):
-        if getattr(self, "_handle", None):
+        # A channel that did not open has nothing to free.
+        if getattr(self, "_handle", _Handle()).at:
             self._call("apc_close")
             self._wake()
             self._call("apc_free")
@@ -287,6 +288,8 @@ class Channel:
 
 
 class _Lease:
+    """A message in hand. Until `done` or `put_back` its place is held."""
+
     def __init__(self, channel, number, words):
         self._channel, self._number, self._words = channel, number, words
         with channel._lock:
@@ -319,7 +322,3 @@ class _Lease:
         number, channel = self._spend(), self._channel
         with channel._lock:
             channel._told(channel._call("apc_put", number, self._words))
-
-    def __del__(self):
-        if getattr(self, "_number", None) is not None:
-            self.put_back()
