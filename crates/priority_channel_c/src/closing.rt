@@ -7,7 +7,7 @@ use crate::due::Due;
 use crate::handle::Handle;
 use crate::reply::Reply;
 use crate::state::Core;
-use priority_channel_core::calls::{Answer, Call};
+use priority_channel_core::calls::Call;
 
 impl Core {
     fn close(&mut self) -> Reply

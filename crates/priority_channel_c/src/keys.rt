@@ -1,5 +1,5 @@
 //! The core's calls with a test, where the test compares a message or a priority.
-ghost use Rattle.std.specs.Prelude.{◌≡◌, ℕ, All, IfSome, IfNone, IfOk, OnErr};
+ghost use Rattle.std.specs.Prelude.{ℕ, All, IfSome, IfNone, IfOk, OnErr};
 ghost use Rattle.priority_channel_core.specs.Prelude.{Step, nobody};
 ghost use Rattle.priority_channel_core.specs.bag.Prelude.{Changes, PassesFirst};
 ghost use Rattle.priority_channel_c.specs.Replies.{same_waker};

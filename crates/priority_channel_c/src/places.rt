@@ -8,7 +8,7 @@ use crate::handle::Handle;
 use crate::priority::Priority;
 use crate::reply::Reply;
 use crate::state::Core;
-use priority_channel_core::calls::{Answer, Call};
+use priority_channel_core::calls::Call;
 
 impl Core {
     fn try_reserve(&mut self) -> Reply

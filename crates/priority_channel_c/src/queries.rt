@@ -1,5 +1,5 @@
 //! Queries. They change nothing and wake nobody.
-ghost use Rattle.std.specs.Prelude.{◌≡◌, Option, None, IsSome};
+ghost use Rattle.std.specs.Prelude.{◌≡◌, None, IsSome};
 ghost use Rattle.priority_channel_c.specs.Replies.{Between, Looks};
 ghost use Rattle.priority_channel_c.specs.Queries.{TellsCapacity};
 

@@ -1,5 +1,5 @@
 //! Sends that do not wait.
-ghost use Rattle.std.specs.Prelude.{◌≡◌, Option, None, IsSome};
+ghost use Rattle.std.specs.Prelude.{◌≡◌, None, IsSome};
 ghost use Rattle.priority_channel_c.specs.Replies.{Between, Makes};
 
 use crate::codes::Code;
@@ -8,7 +8,7 @@ use crate::handle::Handle;
 use crate::priority::Priority;
 use crate::reply::Reply;
 use crate::state::Core;
-use priority_channel_core::calls::{Answer, Call};
+use priority_channel_core::calls::Call;
 
 impl Core {
     fn try_send(&mut self, message: u64, priority: Priority) -> Reply
