@@ -6,7 +6,6 @@
 //! not proved.
 //!
 //! ```
-//! # use std::future::Future;
 //! let (sender, receiver) = async_priority_channel::bounded(10);
 //! sender.try_send("tidy up", 1)?;
 //! sender.try_send("put out the fire", 9)?;
