@@ -108,7 +108,10 @@ impl<T, P: Ord, R: Wait + Clone, A: Allocator + Copy> Sender<T, P, R, A> {
     pub fn send_blocking(&self, msg: T, priority: P) -> Result<(), SendFault<(T, P)>>
         ensures { IfErr result (λ fault. unsent fault ≡ (msg, priority)) }
     {
-        Ok(self.handle.wait(TrySend { msg, priority }, &Endless, &mut None)?)
+        Ok(
+            self.handle
+                .wait(TrySend { msg, priority }, &Endless, &mut None)?,
+        )
     }
 
     /// As `send_blocking`, but waits no longer than `timeout`, as `recv_timeout` does. Either the
@@ -137,7 +140,10 @@ impl<T, P: Ord, R: Wait + Clone, A: Allocator + Copy> Sender<T, P, R, A> {
         ensures { IfErr result (λ error. unsent_in_time error ≡ (msg, priority)) }
     {
         let deadline = Deadline::after(self.handle.rt(), timeout);
-        Ok(self.handle.wait(TrySend { msg, priority }, &deadline, &mut None)?)
+        Ok(
+            self.handle
+                .wait(TrySend { msg, priority }, &deadline, &mut None)?,
+        )
     }
 
     /// As `send_timeout`, but waits no longer than until `deadline`.
@@ -163,7 +169,10 @@ impl<T, P: Ord, R: Wait + Clone, A: Allocator + Copy> Sender<T, P, R, A> {
         ensures { IfErr result (λ error. unsent_in_time error ≡ (msg, priority)) }
     {
         let deadline = Deadline::at(self.handle.rt(), deadline);
-        Ok(self.handle.wait(TrySend { msg, priority }, &deadline, &mut None)?)
+        Ok(
+            self.handle
+                .wait(TrySend { msg, priority }, &deadline, &mut None)?,
+        )
     }
 }
 

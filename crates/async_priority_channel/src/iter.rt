@@ -33,11 +33,12 @@ impl<A: Allocator + Copy> Waits<A> {
     }
 
     // What a `TryRecv` or a `TryLease` brings next.
-    pub(crate) fn next_on<T, P: Ord, R: Wait + Clone, C: Retry<T, P, Waiter<A>, A, Left = ()> + Copy + Drop>(
-        &mut self,
-        handle: &Handle<T, P, R, A>,
-        call: C,
-    ) -> Option<C::Done>
+    pub(crate) fn next_on<
+        T,
+        P: Ord,
+        R: Wait + Clone,
+        C: Retry<T, P, Waiter<A>, A, Left = ()> + Copy + Drop,
+    >(&mut self, handle: &Handle<T, P, R, A>, call: C) -> Option<C::Done>
         requires { C.can_make call }
         ensures shorter { IfSome result (λ _. self.new.left < self.old.left) }
         ensures ended { IfNone result (self.new.left ≡ 0) }

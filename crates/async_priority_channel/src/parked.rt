@@ -140,10 +140,7 @@ impl<T, P: Ord, R: Wait + Clone, A: Allocator + Copy> Handle<T, P, R, A> {
 
     // Tries the call again for a while, if spinning was recently of use. Meanwhile the head of the
     // queue is not in the channel's list.
-    fn spin<C: Retry<T, P, Waiter<A>, A>>(
-        &self,
-        left: C::Left,
-    ) -> Outcome<C::Done, C::Left>
+    fn spin<C: Retry<T, P, Waiter<A>, A>>(&self, left: C::Left) -> Outcome<C::Done, C::Left>
         requires { C.can_make (C.call_of left) }
         ensures { IfSome (left_over result) (λ rest. C.can_make (C.call_of rest)
             × C.leaves (C.call_of left) rest) }
@@ -285,10 +282,7 @@ impl<T, P: Ord, R: Wait + Clone, A: Allocator + Copy> Handle<T, P, R, A> {
     }
 
     // A success right after a wake-up does not count as a success of spinning.
-    fn look_again<C: Retry<T, P, Waiter<A>, A>>(
-        &self,
-        left: C::Left,
-    ) -> Outcome<C::Done, C::Left>
+    fn look_again<C: Retry<T, P, Waiter<A>, A>>(&self, left: C::Left) -> Outcome<C::Done, C::Left>
         requires { C.can_make (C.call_of left) }
         ensures { IfSome (left_over result) (λ rest. C.can_make (C.call_of rest)
             × C.leaves (C.call_of left) rest) }

@@ -175,12 +175,7 @@ impl<T, P: Ord, A: Allocator + Copy> Guarded<T, P, A> {
     }
 
     /// Has the core list the head of a queue (see `Line::list_first`).
-    pub fn list_first(
-        &mut self,
-        alloc: A,
-        side: Side,
-        line: &mut Line<A>,
-    ) -> (Listing, ToWake<A>)
+    pub fn list_first(&mut self, alloc: A, side: Side, line: &mut Line<A>) -> (Listing, ToWake<A>)
         ensures listed { result.0 ≡ Listing.Listed → IfSome line.old.first (λ first.
             IsBlocked side self.old.core.state
             × Lists side line.old.ticket first.1 line.new.ticket self.old.core.state

@@ -85,6 +85,7 @@ pub trait Retry<T, P: Ord, W: Clone, A: Allocator + Copy>: CoreCall<T, P, W, A> 
 
 impl<T, P: Ord, W: Clone, A: Allocator + Copy> Retry<T, P, W, A> for TryRecv {
     type Done = (T, P);
+
     type Left = ();
 
     ghost call_of = { λ _. record {} };
@@ -119,6 +120,7 @@ impl<T, P: Ord, W: Clone, A: Allocator + Copy> Retry<T, P, W, A> for TryRecv {
 
 impl<T, P: Ord, W: Clone, A: Allocator + Copy> Retry<T, P, W, A> for TryLease {
     type Done = (Place, (T, P));
+
     type Left = ();
 
     ghost call_of = { λ _. record {} };
@@ -139,9 +141,7 @@ impl<T, P: Ord, W: Clone, A: Allocator + Copy> Retry<T, P, W, A> for TryLease {
         TryLease
     }
 
-    fn outcome(
-        answer: Result<(Place, (T, P)), TryRecvManyError>,
-    ) -> Outcome<(Place, (T, P)), ()>
+    fn outcome(answer: Result<(Place, (T, P)), TryRecvManyError>) -> Outcome<(Place, (T, P)), ()>
         ensures told { result ≡ outcome_of_lease answer }
     {
         match answer {
@@ -167,6 +167,7 @@ fn send_outcome<D, L>(answer: Result<D, TrySendError<L>>) -> Outcome<D, L>
 
 impl<T, P: Ord, W: Clone, A: Allocator + Copy> Retry<T, P, W, A> for TrySend<T, P> {
     type Done = ();
+
     type Left = (T, P);
 
     ghost call_of = { λ pair. record { msg = pair.0; priority = pair.1 } };
@@ -206,6 +207,7 @@ impl<T: Drop, P: Ord + Drop, W: Clone, A: Allocator + Copy, I: Iterator<Item = (
     A,
 > for TrySendv<Peekable<I>> {
     type Done = ();
+
     type Left = Peekable<I>;
 
     ghost call_of = { λ msgs. record { msgs = msgs } };
@@ -237,6 +239,7 @@ impl<T: Drop, P: Ord + Drop, W: Clone, A: Allocator + Copy, I: Iterator<Item = (
 
 impl<T, P: Ord, W: Clone, A: Allocator + Copy> Retry<T, P, W, A> for TryReserve {
     type Done = Place;
+
     type Left = ();
 
     ghost call_of = { λ _. record {} };
