@@ -5,61 +5,57 @@ use super::*;
 
 const FOO: u64 = 1;
 
-const TOO_LATE: u64 = 2;
+const BAR: u64 = 2;
 
-const BAR: u64 = 3;
+const COMPILE: u64 = 3;
 
-const COMPILE: u64 = 4;
+const LINK: u64 = 4;
 
-const LINK: u64 = 5;
+const TIDY_UP: u64 = 5;
 
-const TIDY_UP: u64 = 6;
+const PUT_OUT_THE_FIRE: u64 = 6;
 
-const PUT_OUT_THE_FIRE: u64 = 7;
+const CALL_FOR_HELP: u64 = 7;
 
-const CALL_FOR_HELP: u64 = 8;
+const FLAKY: u64 = 8;
 
-const FLAKY: u64 = 9;
+const STEADY: u64 = 9;
 
-const STEADY: u64 = 10;
+const REINDEX: u64 = 10;
 
-const REINDEX: u64 = 11;
+const PAGE_THE_ADMIN: u64 = 11;
 
-const PAGE_THE_ADMIN: u64 = 12;
+const TEST: u64 = 12;
 
-const NONE: u64 = 13;
+const CALL_BACK: u64 = 13;
 
-const TEST: u64 = 14;
+const PAUSED: u64 = 14;
 
-const CALL_BACK: u64 = 15;
+const LUNCH: u64 = 15;
 
-const PAUSED: u64 = 16;
+const BREAKFAST: u64 = 16;
 
-const LUNCH: u64 = 17;
+const WATER_THE_PLANTS: u64 = 17;
 
-const BREAKFAST: u64 = 18;
+const FIRST: u64 = 18;
 
-const WATER_THE_PLANTS: u64 = 19;
+const SECOND: u64 = 19;
 
-const FIRST: u64 = 20;
+const URGENT: u64 = 20;
 
-const SECOND: u64 = 21;
+const BOIL_THE_WATER: u64 = 21;
 
-const URGENT: u64 = 22;
+const REPORT: u64 = 22;
 
-const BOIL_THE_WATER: u64 = 23;
+const THUMBNAIL: u64 = 23;
 
-const REPORT: u64 = 24;
+const PAYMENT: u64 = 24;
 
-const THUMBNAIL: u64 = 25;
+const DEPLOY: u64 = 25;
 
-const PAYMENT: u64 = 26;
+const BAZ: u64 = 26;
 
-const DEPLOY: u64 = 27;
-
-const BAZ: u64 = 28;
-
-const TEA: u64 = 29;
+const TEA: u64 = 27;
 
 #[test]
 fn example_of_receiver_recv_blocking(rt: HostRuntime) {
@@ -90,7 +86,7 @@ fn example_of_receiver_recv_deadline(rt: HostRuntime) {
     let deadline = Instant::now(&rt)
         .expect(&rt, "now")
         .checked_add(limit)
-        .expect(&rt, TOO_LATE);
+        .expect(&rt, "too late");
     expect_equal(&rt, rx.recv_deadline(deadline), Ok((FOO, 0)));
     expect_equal(
         &rt,
@@ -129,7 +125,7 @@ fn example_of_sender_send_deadline(rt: HostRuntime) {
     let deadline = Instant::now(&rt)
         .expect(&rt, "now")
         .checked_add(limit)
-        .expect(&rt, TOO_LATE);
+        .expect(&rt, "too late");
     tx.send_deadline(FOO, 0, deadline)
         .expect(&rt, "send_deadline");
     let late = tx.send_deadline(BAR, 2, deadline);
@@ -166,7 +162,7 @@ fn example_of_sender_sendv_deadline(rt: HostRuntime) {
     let deadline = Instant::now(&rt)
         .expect(&rt, "now")
         .checked_add(limit)
-        .expect(&rt, TOO_LATE);
+        .expect(&rt, "too late");
     let jobs = [(COMPILE, 1), (LINK, 2)].into_iter().peekable();
     if let Err(error) = tx.sendv_deadline(jobs, deadline) {
         expect_true(&rt, error.is_timeout());
@@ -271,7 +267,7 @@ fn example_of_end_closed_deadline(rt: HostRuntime) {
     let deadline = Instant::now(&rt)
         .expect(&rt, "now")
         .checked_add(limit)
-        .expect(&rt, TOO_LATE);
+        .expect(&rt, "too late");
     expect_equal(&rt, tx.closed_deadline(deadline), Ok(false));
     drop(rx);
     expect_equal(&rt, tx.closed_deadline(deadline), Ok(true));
@@ -475,7 +471,7 @@ fn example_of_receiver_lease_deadline(rt: HostRuntime) {
     let deadline = Instant::now(&rt)
         .expect(&rt, "now")
         .checked_add(limit)
-        .expect(&rt, TOO_LATE);
+        .expect(&rt, "too late");
     expect_true(
         &rt,
         rx.lease_deadline(deadline)
@@ -531,7 +527,7 @@ fn example_of_receiver_try_lease_if(rt: HostRuntime) {
     let urgent = rx
         .try_lease_if(|_, priority| *priority > 5)
         .expect(&rt, "try_lease_if")
-        .expect(&rt, NONE);
+        .expect(&rt, "none");
     expect_equal(&rt, urgent.finish(), (PAGE_THE_ADMIN, 9));
 }
 
@@ -544,7 +540,7 @@ fn example_of_receiver_try_lease_where(rt: HostRuntime) {
     let lease = rx
         .try_lease_where(|job, _| *job == LINK)
         .expect(&rt, "try_lease_where")
-        .expect(&rt, NONE);
+        .expect(&rt, "none");
     expect_equal(&rt, *lease.message(), LINK);
     drop(lease);
     expect_equal(&rt, rx.len(), 3);
@@ -557,7 +553,7 @@ fn example_of_receiver_lease_when_blocking(rt: HostRuntime) {
     tx.try_send(CALL_BACK, Reverse(now)).expect(&rt, "try_send");
     let later = now
         .checked_add(Duration::from_millis(5))
-        .expect(&rt, TOO_LATE);
+        .expect(&rt, "too late");
     rx.lease_when_blocking(|_, due| Due::At(due.0))
         .expect(&rt, "lease_when_blocking")
         .put_back(Reverse(later));
@@ -829,7 +825,7 @@ fn example_of_receiver_recv_many_deadline(rt: HostRuntime) {
     let deadline = Instant::now(&rt)
         .expect(&rt, "now")
         .checked_add(limit)
-        .expect(&rt, TOO_LATE);
+        .expect(&rt, "too late");
     let mut batch = Vec::new(rt.alloc());
     tx.try_send(FOO, 0).expect(&rt, "try_send");
     expect_equal(&rt, rx.recv_many_deadline(&mut batch, 8, deadline), Ok(1));
@@ -919,7 +915,7 @@ fn example_of_sender_reserve_deadline(rt: HostRuntime) {
     let deadline = Instant::now(&rt)
         .expect(&rt, "now")
         .checked_add(limit)
-        .expect(&rt, TOO_LATE);
+        .expect(&rt, "too late");
     let permit = tx
         .reserve_deadline(deadline)
         .expect(&rt, "reserve_deadline");
@@ -974,7 +970,7 @@ fn example_of_receiver_recv_when_blocking(rt: HostRuntime) {
     let now = Instant::now(&rt).expect(&rt, "now");
     let soon = now
         .checked_add(Duration::from_millis(5))
-        .expect(&rt, TOO_LATE);
+        .expect(&rt, "too late");
     tx.try_send(BOIL_THE_WATER, Reverse(soon))
         .expect(&rt, "try_send");
     let (job, _) = rx
