@@ -241,14 +241,16 @@ impl<T, P: Ord, A: Allocator + Copy> Guarded<T, P, A> {
     {
         let given = ticket.take();
         let (sought, wakes) = seek.seek(&mut self.core);
+        let Sought::NotYet(within) = sought else {
+            // Who has its answer leaves the list first, so that it is not woken.
+            if let (Some(given), Some(selecting)) = (given, &mut self.selecting) {
+                selecting.unlisten(S::sight(), given);
+            }
+            let others = take_due(&mut self.selecting, &self.core, alloc);
+            return (sought, ToWake { wakes, others });
+        };
         let others = take_due(&mut self.selecting, &self.core, alloc);
         let to_wake = ToWake { wakes, others };
-        let Sought::NotYet(within) = sought else {
-            if let Some(given) = given {
-                self.unlist(S::sight(), given);
-            }
-            return (sought, to_wake);
-        };
         let sought = match self.listen(alloc, S::sight(), given, waiter) {
             Listed::Under(listed) => {
                 *ticket = Some(listed);
