@@ -3,11 +3,9 @@
 use crate::calls::{Calls, Host, channel};
 use crate::load::Load;
 use crate::measure::{Measure, add_at, time_steps};
-use crate::threads::Machine;
 use anyhow::ensure;
-use async_priority_channel::{Ends, Receiver, Sender};
-use std::thread::{self, Parker};
-use std::time::{CpuClock, Duration};
+use async_priority_channel::{Ends, Sender};
+use std::time::CpuClock;
 
 /// A send and a receive, with so many messages pending.
 pub fn steady<R>(rt: &R, calls: Calls, pending: u64, count: u64) -> anyhow::Result<Measure>
@@ -15,43 +13,12 @@ where
     R: Host + CpuClock,
 {
     let (tx, rx) = filled(rt, pending)?;
-    time_ends(rt, calls, &tx, &rx, pending, count)
-}
-
-/// The same while a thread waits for the close.
-pub fn watched<R>(rt: R, calls: Calls, pending: u64, count: u64) -> anyhow::Result<Measure>
-where
-    R: Machine + CpuClock,
-{
-    let (tx, rx) = filled(&rt, pending)?;
-    let watcher: Receiver<u64, i64, R> = rx.clone()?;
-    let watching = thread::spawn(&rt, move || watcher.closed_blocking())?;
-    // By then it is listed.
-    Parker::new().park_timeout(&rt, Duration::from_millis(20));
-    let measure = time_ends(&rt, calls, &tx, &rx, pending, count)?;
-    tx.close();
-    watching.join(&rt)?;
-    Ok(measure)
-}
-
-// The messages below `pending` have been sent.
-fn time_ends<R>(
-    rt: &R,
-    calls: Calls,
-    tx: &Sender<u64, i64, R>,
-    rx: &Receiver<u64, i64, R>,
-    pending: u64,
-    count: u64,
-) -> anyhow::Result<Measure>
-where
-    R: Host + CpuClock,
-{
     time_steps(rt, count, |position| {
         let number = pending.wrapping_add(position);
-        if !calls.send(rt, tx, number, Load::Random.priority(number)) {
+        if !calls.send(rt, &tx, number, Load::Random.priority(number)) {
             return None;
         }
-        calls.recv(rt, rx)
+        calls.recv(rt, &rx)
     })
 }
 

@@ -34,7 +34,7 @@ use std::time::CpuClock;
 use threads::Machine;
 
 // Each ends with its count of messages.
-const ROWS: [&str; 30] = [
+const ROWS: [&str; 29] = [
     // How priorities come, how many pairs are pending.
     "core random 0 1000",
     "core equal 100 1000",
@@ -52,8 +52,6 @@ const ROWS: [&str; 30] = [
     "handles blocking 100 1000",
     "handles future 100 1000",
     "handles lease 100 1000",
-    // While a thread waits for the close: by which calls, how many messages are pending.
-    "watched try 100 1000",
     // How many messages are pending.
     "witnessed 100 1000",
     // How many messages go in one call.
@@ -134,7 +132,6 @@ where
 {
     match (name, numbers) {
         ("handles", [pending, count]) => handles::steady(&rt, calls, *pending, *count),
-        ("watched", [pending, count]) => handles::watched(rt, calls, *pending, *count),
         ("relay", [senders, receivers, capacity, count]) => {
             relays::relay(rt, calls, *senders, *receivers, *capacity, *count)
         }
