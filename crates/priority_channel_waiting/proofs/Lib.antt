@@ -6,3 +6,4 @@ pub mod Lines
 pub mod worlds
 pub mod queue
 pub mod Seen
+pub mod Soughts

@@ -2,13 +2,14 @@
 //!
 //! Each call here ends with who is to be woken (`ToWake`), which nobody can forget: it wakes once the
 //! lock is free.
-ghost use Rattle.std.specs.Prelude.{◌≡◌, ◌≢◌, ◌+◌, ◌≤◌, ◌++◌, List, length, None, IfOk, IfNone, IfSome, IsSome, OnErr, option_map, box_value, vec_len, vec_capacity};
-ghost use Rattle.priority_channel_core.specs.Prelude.{IsBlocked, ReceivesInTurn};
+ghost use Rattle.std.specs.Prelude.{◌≡◌, ◌≢◌, ◌⊎◌, ◌+◌, ◌≤◌, ◌++◌, List, length, None, Err, IfErr, IfOk, IfNone, IfSome, IsSome, OnErr, option_map, box_value, vec_len, vec_capacity};
+ghost use Rattle.priority_channel_core.specs.Prelude.{IsBlocked, ReceivesInTurn, Step};
 ghost use Rattle.priority_channel_calls.specs.Told.{Makes};
 ghost use Rattle.priority_channel_waiting.specs.Guarded.{HaveSeenAll, TakesOffBeside};
 ghost use Rattle.priority_channel_waiting.specs.Holding.{left_after};
 ghost use Rattle.priority_channel_waiting.specs.Lines.{Lists};
 ghost use Rattle.priority_channel_waiting.specs.Seeking.{IfEnded, IfFound, IfNotYet};
+ghost use Rattle.priority_channel_waiting.specs.Selecting.{left_by, looking_at, seen_of, with_looking_at};
 
 use crate::line::{Duty, Line, Listing, Unlisted, list_waiter};
 use crate::polled::Polled;
@@ -17,7 +18,7 @@ use crate::selecting::{Listed, OtherWakes, Selecting, Sight};
 use crate::waiter::{Core, Waiter, wake_all};
 use priority_channel_calls::call::CoreCall;
 use priority_channel_core::awaitable_atomics::Wakes;
-use priority_channel_core::calls::CorePoll;
+use priority_channel_core::calls::{Answer, Call, CorePoll};
 use priority_channel_core::errors::TryRecvError;
 use priority_channel_core::side::Side;
 use std::alloc::Allocator;
@@ -103,8 +104,21 @@ fn take_due<T, P: Ord, A: Allocator + Copy>(
     }
 }
 
+// Takes a waiter off its list, if it has a ticket.
+fn unlist_given<A: Allocator + Copy>(
+    selecting: &mut Option<Box<Selecting<A>, A>>,
+    sight: Sight,
+    given: Option<u64>,
+) {
+    if let (Some(given), Some(selecting)) = (given, selecting) {
+        selecting.unlisten(sight, given);
+    }
+}
+
 impl<T, P: Ord, A: Allocator + Copy> Guarded<T, P, A> {
-    pub fn new(core: Core<T, P, A>) -> Self {
+    pub fn new(core: Core<T, P, A>) -> Self
+        ensures { result ≡ record { core = core; selecting = None } }
+    {
         Guarded {
             core,
             selecting: None,
@@ -113,7 +127,9 @@ impl<T, P: Ord, A: Allocator + Copy> Guarded<T, P, A> {
 
     /// The core, for a query.
     #[inline(always)]
-    pub fn core(&self) -> &Core<T, P, A> {
+    pub fn core(&self) -> &Core<T, P, A>
+        ensures { result.now ≡ self.now.core }
+    {
         &self.core
     }
 
@@ -219,7 +235,11 @@ impl<T, P: Ord, A: Allocator + Copy> Guarded<T, P, A> {
             × ReceivesInTurn P.cmp ⟦<Waiter<A> as Clone>⟧.is_clone self.old.core.state pairs
             result.1.handed self.new.core.state) }
         ensures within { IfOk result.0 (λ n. n ≤ most) }
+        ensures refused { IfErr result.0 (λ error. Step P.cmp ⟦<Waiter<A> as Clone>⟧.is_clone
+            self.old.core.state Call.TryRecv (Answer.TryRecv (Err error)) result.1.handed
+            self.new.core.state) }
         ensures unchanged { OnErr result.0 (batch.new.items ≡ batch.old.items) }
+        ensures beside { TakesOffBeside self.old.selecting result.1.others self.new.selecting }
     {
         let (received, wakes) = self.core.try_recv_many(batch, most);
         let others = take_due(&mut self.selecting, &self.core, alloc);
@@ -236,6 +256,13 @@ impl<T, P: Ord, A: Allocator + Copy> Guarded<T, P, A> {
     ) -> (Sought<S::Found>, ToWake<A>)
         requires { S.can_seek seek.now }
         ensures found { IfFound result.0 (S.meets seek.now) }
+        ensures made { IfFound result.0 (λ found. Makes P.cmp ⟦<Waiter<A> as Clone>⟧.is_clone
+            self.old.core.state (S.told seek.now (Sought.Found found)) result.1.handed
+            self.new.core.state) }
+        ensures over { result.0 ≡ Sought.Over → Makes P.cmp ⟦<Waiter<A> as Clone>⟧.is_clone
+            self.old.core.state (S.told seek.now Sought.Over) result.1.handed self.new.core.state
+            ⊎ (seen_of S.looks_at self.new.core ≡ None) }
+        ensures none { IfNotYet result.0 (S.misses seek.now self.old.core.state) }
         ensures listed { IfNotYet result.0 (IsSome ticket.new) }
         ensures ended { IfEnded result.0 (ticket.new ≡ None) }
     {
@@ -243,9 +270,7 @@ impl<T, P: Ord, A: Allocator + Copy> Guarded<T, P, A> {
         let (sought, wakes) = seek.seek(&mut self.core);
         let Sought::NotYet(within) = sought else {
             // Who has its answer leaves the list first, so that it is not woken.
-            if let (Some(given), Some(selecting)) = (given, &mut self.selecting) {
-                selecting.unlisten(S::sight(), given);
-            }
+            unlist_given(&mut self.selecting, S::sight(), given);
             let others = take_due(&mut self.selecting, &self.core, alloc);
             return (sought, ToWake { wakes, others });
         };
@@ -263,13 +288,10 @@ impl<T, P: Ord, A: Allocator + Copy> Guarded<T, P, A> {
     }
 
     // Lists a waiter that has just looked.
-    fn listen(
-        &mut self,
-        alloc: A,
-        sight: Sight,
-        ticket: Option<u64>,
-        waiter: &Waiter<A>,
-    ) -> Listed {
+    fn listen(&mut self, alloc: A, sight: Sight, ticket: Option<u64>, waiter: &Waiter<A>) -> Listed
+        ensures core { self.new.core ≡ self.old.core }
+        ensures over { result ≡ Listed.Over → seen_of sight self.new.core ≡ None }
+    {
         if self.selecting.is_none() {
             let Ok(selecting) = Box::new(alloc, Selecting::new(alloc)) else {
                 return Listed::Refused;
@@ -283,7 +305,12 @@ impl<T, P: Ord, A: Allocator + Copy> Guarded<T, P, A> {
     }
 
     /// Takes a waiter off its list beside the core.
-    pub fn unlist(&mut self, sight: Sight, ticket: u64) {
+    pub fn unlist(&mut self, sight: Sight, ticket: u64)
+        ensures core { self.new.core ≡ self.old.core }
+        ensures left { self.new.selecting ≡ option_map
+            (λ all. with_looking_at sight (left_by ticket (looking_at sight all)) all)
+            self.old.selecting }
+    {
         if let Some(selecting) = &mut self.selecting {
             selecting.unlisten(sight, ticket);
         }
