@@ -3,20 +3,20 @@ use Rattle.std.proofs.Common.{◌≡◌, ◌+◌, ◌<◌, ◌^◌, true, false,
 use Rattle.std.specs.Prelude.{Ok, Err, take}
 use Rattle.std.proofs.lemmas.List.{take_all, take_at}
 use Rattle.priority_channel_core.specs.declared.errors.TrySendError.TheVariants.{Full, Closed, Memory}
-use Rattle.priority_channel_core.specs.Prelude.{State, Handed, room, Sends, Performs, Ordering, SendReply}
+use Rattle.priority_channel_core.specs.Prelude.{State, Handed, room, Does, Sends, Performs, Ordering, SendReply}
 use Rattle.priority_channel_core.specs.declared.calls.Call.TheVariants as call
 use Rattle.priority_channel_core.specs.declared.calls.Answer.TheVariants as answer
 
 module _ {T P W : Type 0} where
   accepted_in_place : (old new : State T P W) (pairs : List (T × P)) (reply : SendReply (List (T × P))) (handed : Handed W)
       → old.is_closed ≡ false → old.is_reserved ≡ true → old.accepted + old.held + length pairs < 2 ^ 64
-      → Sends old pairs reply handed new → new.pending ≡ old.pending ++ take (room old) pairs
+      → Sends old (Does old handed new) pairs reply → new.pending ≡ old.pending ++ take (room old) pairs
   accepted_in_place old new pairs (Ok done) handed opened reserved numbers sends =
-      ap (λ s. s.pending) sends.2.1.new_is
+      ap (λ s. s.pending) sends.2.1.1
       ∙ ap (λ front. old.pending ++ front) (sym (take_all (room old) pairs sends.1))
   accepted_in_place old new pairs (Err (Closed rest)) handed opened reserved numbers sends = absurd (cc)
   accepted_in_place old new pairs (Err (Full rest)) handed opened reserved numbers (front, pairs_is, long, some, accepts) =
-      rw pairs_is (ap (λ s. s.pending) accepts.1.new_is
+      rw pairs_is (ap (λ s. s.pending) accepts.1.1
       ∙ ap (λ front. old.pending ++ front) (sym (take_at front rest (room old) long)))
   accepted_in_place old new pairs (Err (Memory rest)) handed opened reserved numbers (front, pairs_is, shorter, some, accepts, cause) =
       absurd (elim cause [

@@ -4,36 +4,25 @@ use Rattle.priority_channel_core.specs.declared.calls.Call.TheVariants as call
 use Rattle.priority_channel_core.specs.declared.calls.Answer.TheVariants as answer
 use Rattle.priority_channel_core.specs.declared.errors.TrySendError.TheVariants.{Full, Closed}
 use Rattle.priority_channel_core.specs.Prelude.{State, Handed, nobody, room, IsGood, AddsFront, Ordering}
+use Rattle.priority_channel_core.proofs.Sends.{none_added, within}
 use Rattle.priority_channel_calls.specs.Told.Told.{SendsSome}
 use Rattle.priority_channel_calls.specs.Told.{step_of, Makes}
 
 module _ {T P W : Type 0} (cmp : P → P → Ordering) (is_clone : W → W → Type 0) (old new : State T P W) (handed : Handed W) (good : IsGood new) where
-  none_added : (front : List (T × P)) → AddsFront old front handed new → new ≡ old → front ≡ []
-  none_added [] adds same = refl
-  none_added (x ∷ front) adds same =
-      let e : old.accepted ≡ old.accepted + length (x ∷ front) = ap (λ s. s.accepted) (sym same ∙ adds.new_is) in
-      absurd (omega (arith, e))
-
-  within : (front : List (T × P)) → AddsFront old front handed new → length front ≤ room old
-  within front adds =
-      let fits : length (old.pending ++ front) + old.held ≤ old.capacity = rw adds.new_is at good.within_capacity in
-      let e : length (old.pending ++ front) ≡ length old.pending + length front = length-append old.pending front in
-      omega (arith, fits, e)
-
   refused_closed : (front : List (T × P)) → AddsFront old front handed new → new ≡ old → old.is_closed ≡ true
       → Makes cmp is_clone old SendsSome handed new
   refused_closed front adds same closed =
-      let none = none_added front adds same in
+      let none = none_added old new handed front adds same in
       record {
         run = step_of (call.TrySendv []) (answer.TrySendv (Err (Closed []))) handed ∷ [];
         means = ([], Err (Closed []), refl);
-        leads = (new, record { moves = (closed, refl, ((rw none at adds).handed_is, same)); good = good }, refl);
+        leads = (new, record { moves = (closed, refl, ((rw none at adds).0, same)); good = good }, refl);
       }
 
   refused_full : (front : List (T × P)) → AddsFront old front handed new → new ≡ old → old.is_closed ≡ false → room old ≡ 0
       → Makes cmp is_clone old SendsSome handed new
   refused_full front adds same opened none_left =
-      let none = none_added front adds same in
+      let none = none_added old new handed front adds same in
       record {
         run = step_of (call.TrySendv []) (answer.TrySendv (Err (Full []))) handed ∷ [];
         means = ([], Err (Full []), refl);
@@ -46,7 +35,7 @@ module _ {T P W : Type 0} (cmp : P → P → Ordering) (is_clone : W → W → T
   by_room front adds opened (suc n) is full = record {
     run = step_of (call.TrySendv front) (answer.TrySendv (Ok tt)) handed ∷ [];
     means = (front, Ok tt, refl);
-    leads = (new, record { moves = (omega (arith, is), within front adds, (opened, adds)); good = good }, refl);
+    leads = (new, record { moves = (omega (arith, is), within old new handed front good adds, (opened, adds)); good = good }, refl);
   }
 
   by_closed : (front : List (T × P)) → AddsFront old front handed new → (b : Bool) → old.is_closed ≡ b

@@ -5,11 +5,11 @@ use Rattle.priority_channel_core.specs.declared.errors.TrySendError.{TrySendErro
 use Rattle.priority_channel_core.specs.declared.errors.TrySendError.TheVariants as send_error
 use Rattle.priority_channel_core.specs.declared.calls.Call.TheVariants as call
 use Rattle.priority_channel_core.specs.declared.calls.Answer.TheVariants as answer
-use Rattle.priority_channel_core.specs.Prelude.{State, Handed, rest_of, Sends, Performs, SameReply, Ordering, SendReply}
+use Rattle.priority_channel_core.specs.Prelude.{State, Handed, rest_of, Does, Sends, Performs, SameReply, Ordering, SendReply}
 use Rattle.priority_channel_calls.specs.Tails.{HoldsTail}
 
 pub tails : {T P W : Type 0} (old new : State T P W) (handed : Handed W) (reply : SendReply (List (T × P))) (list : List (T × P))
-    → Sends old list reply handed new → IfErr reply (λ back. (n : ℕ) × (rest_of back ≡ drop n list))
+    → Sends old (Does old handed new) list reply → IfErr reply (λ back. (n : ℕ) × (rest_of back ≡ drop n list))
 tails old new handed (Ok sent) list h = tt
 tails old new handed (Err (send_error.Closed rest)) list h = (0, h.1)
 tails old new handed (Err (send_error.Full rest)) list h = (length h.0, rw h.1 (sym (drop-append_seam h.0 rest)))

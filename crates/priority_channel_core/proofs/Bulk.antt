@@ -3,14 +3,14 @@ use Rattle.std.proofs.Common.{◌≡◌, ℕ, ◌+◌, ◌-◌, ◌<◌, ◌≤�
 use Rattle.std.specs.declared.iter.Ahead.{Ahead}
 use Rattle.priority_channel_core.specs.declared.calls.Call.TheVariants as call
 use Rattle.priority_channel_core.specs.declared.calls.Answer.TheVariants as answer
-use Rattle.priority_channel_core.specs.Prelude.{Full, Closed, Memory, State, Handed, nobody, room, IsGood, Sends, HasList, HasMore, HasEnded, SendsFront, SameReply, Performs, Ordering, SendReply}
+use Rattle.priority_channel_core.specs.Prelude.{Full, Closed, Memory, State, Handed, nobody, room, IsGood, Sends, HasList, HasMore, HasEnded, SendsFront, SameReply, Performs, Ordering, SendReply, Does}
 use Rattle.priority_channel_core.proofs.Sends.{refuses_full}
 
 -- a reply is right for every list that m holds
 pub record Replies {T P W M : Type 0} (holds : M → List (T × P) → Type 0) (old : State T P W) (m : M)
     (reply : SendReply M) (handed : Handed W) (new : State T P W) : Type 0 where
   pub at : (pairs : List (T × P)) → holds m pairs
-      → (told : SendReply (List (T × P))) × SameReply holds reply told × Sends old pairs told handed new
+      → (told : SendReply (List (T × P))) × SameReply holds reply told × Sends old (Does old handed new) pairs told
 
 module _ {T P W M : Type 0} (holds : M → List (T × P) → Type 0) where
   pub performs_sendv : (cmp : P → P → Ordering) (is_clone : W → W → Type 0) (old new : State T P W) (m : M)

@@ -21,6 +21,6 @@ module _ {T P W : Type 0} (cmp : P → P → Ordering) (is_clone : W → W → T
       let long : length after.pending ≡ length bag.pending = grind (arith, length-append) in
       let good = sound.good in
       let is : New ≡ record Old { pending = after.pending } = λ i. record New { accepted = accepted i } in
-      (length change.before, record { moves = (change, refl, refl, is); good = rw is (search arith) })
+      (length change.before, record { moves = (change, refl, (refl, is)); good = rw is (search arith) })
   change_is_step passes fails priority (Err given) changes back unchanged accepted =
       (length bag.pending, rw unchanged (record { moves = (omega arith, back, (refl, refl)); good = sound.good }))

@@ -17,7 +17,7 @@ module _ {T P W : Type 0} (bag bag' : Contents T P) (word word' : Word W) (hande
   New = state_of bag' word' capacity is_reserved senders receivers
 
   pub adds : AddsFront Old front handed New
-  adds = rw (pending, accepted, risen, handed_is, ← long) (record { handed_is = refl; new_is = refl })
+  adds = rw (pending, accepted, risen, handed_is, ← long) (refl, refl)
 
   pub sound_adds : IsSound bag word Old → word.is_closed ≡ false → n ≤ capacity - (length bag.pending + word.held) → bag.slots ≤ bag'.slots
       → length bag'.pending + word.held ≤ bag'.slots

@@ -1,9 +1,9 @@
 -- Polls, by what their try left and how they ended.
 use Rattle.priority_channel_core.proofs.items.Digits.{digits-mono}
-use Rattle.std.proofs.Common.{◌≡◌, ℕ, ◌*◌, ◌≤◌, true, List, length, refl, arith, Ok, Err, Option, None, Some, IfSome, IfErr}
+use Rattle.std.proofs.Common.{◌≡◌, ℕ, ◌*◌, ◌≤◌, ◌⊎◌, true, false, List, [], length, refl, arith, Ok, Err, Option, None, Some, IfSome, IfErr}
 use Rattle.priority_channel_core.specs.declared.calls.Call.TheVariants as call
 use Rattle.priority_channel_core.specs.declared.calls.Answer.TheVariants as answer
-use Rattle.priority_channel_core.specs.Prelude.{Ready, Pending, Side, Room, Full, Closed, Memory, rest_of, is_given_listed, unlist, search_bound, State, Handed, IsGood, AddsFront, Sends, Receives, send_answer, recv_answer, Ends, CountedState, ComparesAtMost, IsBlocked, kept_by, waits_under, PollsFront, SameReply, SamePoll, Performs, Ordering, SendReply, RecvReply, SendPoll, RecvPoll}
+use Rattle.priority_channel_core.specs.Prelude.{Ready, Pending, Side, Room, Full, Closed, Memory, rest_of, is_given_listed, unlist, search_bound, State, Handed, room, IsGood, AddsFront, Sends, Says, send_answer, recv_answer, Ends, CountedState, ComparesAtMost, IsBlocked, kept_by, waits_under, PollsFront, SameReply, SamePoll, Performs, Ordering, SendReply, RecvReply, SendPoll, RecvPoll, Does}
 use Rattle.priority_channel_core.specs.declared.errors.SendFault.TheVariants as send
 use Rattle.priority_channel_core.specs.bag.Prelude.{digits}
 
@@ -43,7 +43,7 @@ pub sent_searches_less : {T P W : Type 0} (old mid : State T P W) (front : List 
 sent_searches_less old mid front handed adds = grind (arith, digits-mono)
 
 pub received_searches_less : {T P W : Type 0} (cmp : P → P → Ordering) (old mid : State T P W) (reply : RecvReply (T × P)) (handed : Handed W)
-    → Receives cmp old reply handed mid → search_bound mid.waiters ≤ search_bound old.waiters
+    → Says cmp old mid.pending (Does old handed mid) call.TryRecv (answer.TryRecv reply) → search_bound mid.waiters ≤ search_bound old.waiters
 received_searches_less cmp old mid reply handed received = grind (arith, digits-mono)
 
 module _ {T P W : Type 0} (is_clone : W → W → Type 0) (old mid new : CountedState T P W) (given listed : Option ℕ) (waker : W) (front : List (T × P))
@@ -54,12 +54,12 @@ module _ {T P W : Type 0} (is_clone : W → W → Type 0) (old mid new : Counted
   poll_costs n tried waited =
       let less = sent_searches_less old.state mid.state front handed adds in grind arith
 
-  pub polls_front : ComparesAtMost (length front * digits (length mid.state.pending)) 0 old mid
+  pub polls_front : (front ≡ []) ⊎ ((old.state.is_closed ≡ false) × (length front ≤ room old.state)) → ComparesAtMost (length front * digits (length mid.state.pending)) 0 old mid
       → ComparesAtMost 0 (search_bound mid.state.waiters) mid new
       → (f : List (T × P)) × PollsFront is_clone old.state given waker f handed new.state
       × ComparesAtMost (length f * digits (length new.state.pending)) (search_bound old.state.waiters) old new
-  polls_front tried waited =
-      (front, record { ticket = listed; mid = mid.state; adds = adds; ends = ends }, poll_costs (length front) tried waited)
+  polls_front accepts tried waited =
+      (front, record { ticket = listed; mid = mid.state; accepts = accepts; adds = adds; ends = ends }, poll_costs (length front) tried waited)
 
 module _ {T P M : Type 0} (holds : M → List (T × P) → Type 0) where
   -- the same reply and the same ticket make the same answer
@@ -84,7 +84,7 @@ module _ {T P M : Type 0} (holds : M → List (T × P) → Type 0) where
     at = λ meant same.
         let k = tried.at (call.TrySendv same.0) (same.0, refl, same.2) in
         let p = same_answer reply k.1.0 listed poll k.1.2 answers in
-        let tries : Sends old same.0 k.1.0 handed mid = rw k.1.1 at k.2.moves in (
+        let tries : Sends old (Does old handed mid) same.0 k.1.0 = rw k.1.1 at k.2.moves in (
           answer.PollSendv p.0,
           (p.0, refl, p.2),
           rw same.1 (record {

@@ -7,7 +7,7 @@ pub use Rattle.priority_channel_core.specs.code.Allowed.{AllowsRun, AllowsSide, 
 pub use Rattle.priority_channel_core.specs.code.Answers.{SameAnswer}
 pub use Rattle.priority_channel_core.specs.code.Calls.{AtSomePlace, Makes, MayCall, Performs, Response, RunsFront, SameButPlace, SameCall, SameOperation, SamePoll, SameReply}
 pub use Rattle.priority_channel_core.specs.code.Channel.{ComparesAtMost, CountedState, IsBlocked, IsSound, search_for_least, state_of}
-pub use Rattle.priority_channel_core.specs.code.Front.{HasEnded, HasMore, MovesFront, PollsFront, SendsFront, sent_before, StopsFor}
+pub use Rattle.priority_channel_core.specs.code.Front.{AddsFront, HasEnded, HasMore, MovesFront, PollsFront, SendsFront, sent_before, StopsFor}
 pub use Rattle.priority_channel_core.specs.code.Lists.{HasList}
 pub use Rattle.priority_channel_core.specs.code.Many.{in_turn, Placed, receives, ReceivesInTurn, takes, TakesInTurn}
 pub use Rattle.priority_channel_core.specs.code.Replies.{kept_by, OnFull, OnMemory, OnMemoryFault, waits_under}
@@ -15,12 +15,11 @@ pub use Rattle.priority_channel_core.specs.code.Room.{HasMemory, HasNumber, HasR
 pub use Rattle.priority_channel_core.specs.code.Tests.{AllMeetTests, MeetsTest}
 pub use Rattle.priority_channel_core.specs.Types.{Ordering, SendReply, SendEnd, SendPoll, RecvReply, RecvEnd, RecvPoll, LeaseReply, Answer, Call, CorePoll, Pending, Ready, RecvError, RecvFault, SendFault, TryRecvError, TrySendError, Closed, Full, Memory, Side, Message, Room}
 pub use Rattle.priority_channel_core.specs.declared.channel.bulk.Stop.{Stop}
-pub use Rattle.priority_channel_core.specs.machine.Evicts.{Evicts, MakesRoom}
+pub use Rattle.priority_channel_core.specs.machine.Change.{added, after, all_receivers, all_senders, Change, counted, Does, everybody, is_last, marked, shut, woken}
 pub use Rattle.priority_channel_core.specs.machine.Good.{IsGood}
-pub use Rattle.priority_channel_core.specs.machine.OtherCalls.{capacity_told, ChangesPriority, Clones, Closes, Drops, EndsWhenDone, Frees, Looks, Receives, Shuts, Takes}
-pub use Rattle.priority_channel_core.specs.machine.Places.{FreesPlace, is_last, Leases, LeasesAt, Puts, Reserves}
 pub use Rattle.priority_channel_core.specs.machine.Polls.{Ends, Polls, recv_answer, send_answer}
 pub use Rattle.priority_channel_core.specs.machine.Run.{Operation, Run}
-pub use Rattle.priority_channel_core.specs.machine.Sends.{Accepts, AddsFront, as_list, Refuses, Sends}
+pub use Rattle.priority_channel_core.specs.machine.Says.{Answers, Calls, capacity_told, Clones, Drops, Says}
+pub use Rattle.priority_channel_core.specs.machine.Sends.{Accepts, as_list, Evicts, Sends}
 pub use Rattle.priority_channel_core.specs.machine.State.{Handed, is_done, IsGoingOn, IsOver, nobody, opening, room, settled, State}
-pub use Rattle.priority_channel_core.specs.machine.Step.{Answers, Calls, Moves, Step}
+pub use Rattle.priority_channel_core.specs.machine.Step.{Moves, Step, Tries}

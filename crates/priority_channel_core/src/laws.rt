@@ -1,7 +1,7 @@
 //! Consequences of the definitions alone.
 //!
 //! Cost: none, since the body of a law is empty.
-ghost use Rattle.std.specs.Prelude.{◌≡◌, ◌⊎◌, ◌+◌, ◌-◌, ◌<◌, ◌≤◌, ◌^◌, ℕ, true, false, List, [], ◌∷◌, ◌++◌, length, map, replicate, None, Ok, Err, IsPermutation};
+ghost use Rattle.std.specs.Prelude.{◌≡◌, ◌≢◌, ◌⊎◌, ◌+◌, ◌-◌, ◌<◌, ◌≤◌, ◌^◌, ℕ, Bool, All, true, false, List, [], ◌∷◌, ◌++◌, length, map, replicate, None, Ok, Err, IsPermutation};
 ghost use Rattle.std.specs.List.{AllZip};
 ghost use Rattle.std.specs.Iterator.{AlwaysYields};
 ghost use Rattle.std.specs.Iterator.Adapters.{peekable_peeked, peekable_source};
@@ -9,7 +9,7 @@ ghost use Rattle.std.specs.declared.iter.Ahead.{Ahead};
 ghost use Rattle.priority_channel_core.specs.declared.calls.Call.TheVariants as call;
 ghost use Rattle.priority_channel_core.specs.declared.calls.Answer.TheVariants as answer;
 ghost use Rattle.priority_channel_core.specs.declared.errors.TryRecvError.TheVariants as recv_error;
-ghost use Rattle.priority_channel_core.specs.Prelude.{State, IsGood, Step, Run, Operation, is_done, HasList};
+ghost use Rattle.priority_channel_core.specs.Prelude.{State, IsGood, opening, Step, Run, Operation, is_done, HasList};
 ghost use Rattle.priority_channel_core.specs.bag.Prelude.{digits, TakesGreatest, TakesLeast};
 ghost use Rattle.priority_channel_core.specs.laws.Accepted.{accepted_in, put_in, received_in, changed_in, Conserves, NeverRise};
 ghost use Rattle.priority_channel_core.specs.laws.Alike.{IsAlike, SameOutcome, SameState};
@@ -60,6 +60,16 @@ pub fn done_law<T, P: Ord, W: Clone>()
         → Step P.cmp W.is_clone old made.call made.answer made.handed new
         → old.is_closed ≡ false → new.is_closed ≡ true
         → Closes old made.call ⊎ ((new.ends_when_done ≡ true) × (is_done new ≡ true)) }
+    // It is to close so only if that was asked for.
+    ensures asked { (old new : State T P W) (made : Operation T P W)
+        → Step P.cmp W.is_clone old made.call made.answer made.handed new
+        → new.ends_when_done ≡ true
+        → (old.ends_when_done ≡ true) ⊎ (made.call ≡ call.CloseWhenDone) }
+    // A channel that never holds a place, and is never to close so, is a plain one for ever.
+    ensures plain { (capacity : ℕ) (is_reserved : Bool) (new : State T P W)
+        (run : List (Operation T P W)) → Run P.cmp W.is_clone (opening capacity is_reserved) run new
+        → All (λ made. made.call ≢ call.CloseWhenDone) run → got_in run ≡ 0
+        → (new.ends_when_done ≡ false) × (new.held ≡ 0) }
 {}
 
 /// Two runs over the same calls have the same outcomes, if each call accepts as many pairs in both

@@ -6,7 +6,8 @@ use Rattle.priority_channel_core.specs.declared.calls.Answer.TheVariants as answ
 use Rattle.priority_channel_core.specs.declared.errors.TrySendError.TheVariants as send_error
 use Rattle.priority_channel_core.specs.declared.errors.TryRecvError.TheVariants as recv_error
 use Rattle.priority_channel_core.proofs.items.Extremes.{one_greatest, one_least}
-use Rattle.priority_channel_core.specs.Prelude.{Handed, opening, settled, AddsFront, Sends, Moves, Step, Answers, Operation, Run, Ordering}
+use Rattle.priority_channel_core.specs.machine.Change.{GoesOut, MakesWay}
+use Rattle.priority_channel_core.specs.Prelude.{Handed, opening, after, AddsFront, Does, Sends, Moves, Step, Answers, Operation, Run, Ordering}
 use Rattle.priority_channel_recorded.specs.declared.book.Call.{Call}
 use Rattle.priority_channel_recorded.specs.declared.book.Call.TheVariants.{TrySend, TrySendEvicting, TryRecv, Close, IsClosed, IsEmpty, IsFull, Len}
 use Rattle.priority_channel_recorded.specs.declared.book.Reply.{Reply}
@@ -35,11 +36,11 @@ module _ {T P : Type 0} {cmp : P → P → Ordering} (o : IsTotalOrder cmp) wher
 
   adds_none : (old new other : Machine T P) (handed others : Handed (Unit {0})) (front again : List (T × P)) → front ≡ [] → again ≡ []
       → AddsFront old front handed new → AddsFront old again others other → new ≡ other
-  adds_none old new other handed others front again e f m n = m.new_is ∙ rw (e, f) refl ∙ sym n.new_is
+  adds_none old new other handed others front again e f m n = m.1 ∙ rw (e, f) refl ∙ sym n.1
 
-  all_sent : (old new other : Machine T P) (handed others : Handed (Unit {0})) (pair : T × P) → Sends old (pair ∷ []) (Ok tt) handed new
-      → Sends old (pair ∷ []) (Ok tt) others other → new ≡ other
-  all_sent old new other handed others pair m n = m.2.1.new_is ∙ sym n.2.1.new_is
+  all_sent : (old new other : Machine T P) (handed others : Handed (Unit {0})) (pair : T × P) → Sends old (Does old handed new) (pair ∷ []) (Ok tt)
+      → Sends old (Does old others other) (pair ∷ []) (Ok tt) → new ≡ other
+  all_sent old new other handed others pair m n = m.2.1.1 ∙ sym n.2.1.1
 
   same_state : (old new other : Machine T P) (handed others : Handed (Unit {0})) (call : Call T P) (told : Answers T P)
       → Goes old call told handed new → Goes old call told others other → new ≡ other
@@ -52,10 +53,7 @@ module _ {T P : Type 0} {cmp : P → P → Ordering} (o : IsTotalOrder cmp) wher
   same_state old new other handed others (TrySendEvicting msg priority) (answer.TrySendEvicting (Ok None)) m n =
       all_sent old new other handed others (msg, priority) m n
   same_state old new other handed others (TrySendEvicting msg priority) (answer.TrySendEvicting (Ok (Some out))) m n =
-      let same = one_least o old.pending out out m.0.pending n.0.pending m.1.least n.1.least in
-      let mid : n.0 ≡ m.0 = n.1.same ∙ ap (λ (rest : List (T × P)). record old { pending = rest }) (sym same.1) ∙ sym m.1.same in
-      all_sent m.0 new other handed others (msg, priority) m.2
-      (subst (λ (state : Machine T P). Sends state ((msg, priority) ∷ []) (Ok tt) others other) mid n.2)
+      m.5.1 ∙ ap (λ (left : List (T × P)). after (MakesWay left (msg, priority)) old) (one_least o old.pending out out m.0 n.0 m.3 n.3).1 ∙ sym n.5.1
   same_state old new other handed others (TrySendEvicting msg priority) (answer.TrySendEvicting (Err (send_error.Closed pair))) m n = m.2.1 ∙ sym n.2.1
   same_state old new other handed others (TrySendEvicting msg priority) (answer.TrySendEvicting (Err (send_error.Full pair))) m n =
       adds_none old new other handed others m.1.0 n.1.0 (no_front _ pair m.1.0 m.1.1) (no_front _ pair n.1.0 n.1.1) m.1.4.1 n.1.4.1
@@ -67,9 +65,7 @@ module _ {T P : Type 0} {cmp : P → P → Ordering} (o : IsTotalOrder cmp) wher
       absurd (omega (arith, n.2, m.1))
   same_state old new other handed others (TrySendEvicting msg priority) (answer.TrySendEvicting (Err (send_error.Memory pair))) (inr m) (inr n) = m.4.1 ∙ sym n.4.1
   same_state old new other handed others TryRecv (answer.TryRecv (Ok pair)) m n =
-      let same = one_greatest o old.pending pair pair new.pending other.pending m.0 n.0 in
-      let after : List (T × P) → Machine T P = λ rest. settled (record old { pending = rest; waiters = record old.waiters { room = [] } }) in
-      m.1.1 ∙ ap after same.1 ∙ sym n.1.1
+      m.1.1 ∙ ap (λ (left : List (T × P)). after (GoesOut left) old) (one_greatest o old.pending pair pair new.pending other.pending m.0 n.0).1 ∙ sym n.1.1
   same_state old new other handed others TryRecv (answer.TryRecv (Err recv_error.Closed)) m n = m.2.1 ∙ sym n.2.1
   same_state old new other handed others TryRecv (answer.TryRecv (Err recv_error.Empty)) m n = m.2.1 ∙ sym n.2.1
   same_state old new other handed others Close (answer.Close true) m n = m.1.1 ∙ sym n.1.1

@@ -4,7 +4,7 @@ use Rattle.std.proofs.Math.Seq.{drop-append_seam}
 use Rattle.priority_channel_core.specs.declared.calls.CorePoll.TheVariants.{Ready, Pending}
 use Rattle.priority_channel_core.specs.declared.errors.TrySendError.{TrySendError}
 use Rattle.priority_channel_core.specs.declared.side.Side.TheVariants.{Room}
-use Rattle.priority_channel_core.specs.Prelude.{State, Handed, rest_of, Sends, send_answer, Polls, Performs, SamePoll, SameReply, kept_by, Ordering, SendReply, SendPoll}
+use Rattle.priority_channel_core.specs.Prelude.{State, Handed, rest_of, Does, Sends, send_answer, Polls, Performs, SamePoll, SameReply, kept_by, Ordering, SendReply, SendPoll}
 use Rattle.priority_channel_core.specs.declared.calls.Call.TheVariants as call
 use Rattle.priority_channel_core.specs.declared.calls.Answer.TheVariants as answer
 use Rattle.priority_channel_core.specs.declared.errors.SendFault.TheVariants as send_fault
@@ -37,7 +37,7 @@ module _ {T P W M : Type 0} (holds : M → List (T × P) → Type 0) (cmp : P �
     same_kept (Pending m ticket) told h held is = (h.0, cc, grind arith)
 
     tail_at : (told : SendPoll (List (T × P))) (list rest : List (T × P))
-        → kept_by told ≡ Some rest → Polls is_clone (Sends old list) send_answer Room given waker told handed new → (n : ℕ) × (rest ≡ drop n list)
+        → kept_by told ≡ Some rest → Polls is_clone (λ reply handed mid. Sends old (Does old handed mid) list reply) send_answer Room given waker told handed new → (n : ℕ) × (rest ≡ drop n list)
     tail_at told list rest back h =
         rw back at (kept_callable (λ r. (n : ℕ) × (r ≡ drop n list)) h.reply h.ticket told (tails old h.mid handed h.reply list h.tried) h.answered)
 

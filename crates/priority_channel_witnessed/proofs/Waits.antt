@@ -1,7 +1,7 @@
 -- The calls of a wait, and what comes back of a send.
 use Rattle.std.proofs.Common.{◌≡◌, ℕ, Bool, List, [], ◌∷◌, ◌++◌, length, refl, sym, ap, subst, arith, length-append, append_assoc, ◌∙◌, Option, Some, None, ◌<◌, Result, Ok, Err, IfOk, IfErr, IfSome}
 use Rattle.priority_channel_core.specs.declared.errors.TrySendError.TheVariants.{Full, Closed, Memory}
-use Rattle.priority_channel_core.specs.Prelude.{rest_of, send_answer, kept_by, State, Handed, as_list, Sends, Calls, Answers, Ordering, SendReply, SendEnd, SendPoll}
+use Rattle.priority_channel_core.specs.Prelude.{rest_of, send_answer, kept_by, State, Handed, as_list, Does, Sends, Calls, Answers, Ordering, SendReply, SendEnd, SendPoll}
 use Rattle.priority_channel_core.specs.declared.errors.SendFault.TheVariants as fault
 use Rattle.priority_channel_waiting.specs.Waits.{unsent_in_time}
 use Rattle.priority_channel_core.specs.declared.calls.Call.TheVariants as call
@@ -21,7 +21,7 @@ last_one x y (z ∷ front) e = let l = ap length e in let m = length-append fron
 
 module _ {T P W : Type 0} where
   back_is : (old new : State T P W) (msg : T) (priority : P) (reply : SendReply (T × P)) (handed : Handed W)
-      → Sends old ((msg, priority) ∷ []) (as_list reply) handed new → IfErr reply (λ error. rest_of error ≡ (msg, priority))
+      → Sends old (Does old handed new) ((msg, priority) ∷ []) (as_list reply) → IfErr reply (λ error. rest_of error ≡ (msg, priority))
   back_is old new msg priority (Ok done) handed sends = tt
   back_is old new msg priority (Err (Closed pair)) handed sends = last_one (msg, priority) pair [] (sym sends.1)
   back_is old new msg priority (Err (Full pair)) handed sends = last_one (msg, priority) pair sends.0 sends.1

@@ -6,16 +6,15 @@ use Rattle.priority_channel_core.specs.declared.calls.Call.TheVariants as call
 use Rattle.priority_channel_core.specs.declared.calls.Answer.TheVariants as answer
 use Rattle.priority_channel_core.specs.declared.calls.CorePoll.TheVariants.{Ready, Pending}
 use Rattle.priority_channel_core.specs.declared.side.Side.{Side}
-use Rattle.priority_channel_core.specs.Prelude.{State, Handed, as_list, send_answer, recv_answer, Ends, Polls, Moves, Ordering, SendReply, RecvReply, SendPoll, RecvPoll}
+use Rattle.priority_channel_core.specs.Prelude.{State, Handed, Does, as_list, send_answer, recv_answer, Ends, Polls, Moves, Ordering, SendReply, RecvReply, SendPoll, RecvPoll}
 use Rattle.priority_channel_core.specs.declared.errors.SendFault.TheVariants as send_fault
 use Rattle.priority_channel_core.specs.laws.Accepted.{poll_sent, accepted_by}
 use Rattle.priority_channel_core.specs.laws.Alike.{is_memory, SameState}
-use Rattle.priority_channel_core.proofs.runs.Effects.{poll_sent-is, accepted_one-is}
+use Rattle.priority_channel_core.proofs.runs.Changes.{poll_sent-is, accepted_one-is}
 use Rattle.priority_channel_core.proofs.alike.Lists.{same_waiting, same_enlists}
-use Rattle.priority_channel_core.proofs.alike.Calls.{Both, sends_same, receives_same}
-
-pub as_list_one : {A : Type 0} (x y : SendReply A) → as_list y ≡ as_list x → y ≡ x
-as_list_one x y h = grind arith
+use Rattle.priority_channel_core.proofs.alike.Calls.{sends_same, receives_same}
+use Rattle.priority_channel_core.proofs.alike.Changes.{Both, does_same}
+use Rattle.priority_channel_core.proofs.alike.Evicting.{as_list_one}
 
 -- of two polls whose tries had the same reply, both wait or neither does, if both or neither
 -- answered Memory
@@ -56,8 +55,8 @@ module _ {T P W : Type 0} (is_clone : W → W → Type 0) {cmp : P → P → Ord
   polls_send_same msg priority given waker x y a b count memory =
       let mine = ap length (accepted_one-is msg priority given waker a.reply a.ticket x a.answered) in
       let other = ap length (accepted_one-is msg priority given waker b.reply b.ticket y b.answered) in
-      let tries = sends_same is_clone s r a.mid b.mid h h' same ((msg, priority) ∷ []) (as_list a.reply) (as_list b.reply) a.tried b.tried (sym other ∙ (count ∙ mine)) in
-      polls_same a b (as_list_one a.reply b.reply tries.0) tries.1 (λ p q. sends_wait_alike (λ z. is_memory {T = T} {P = P} (answer.PollSend z)) (λ rest. refl) (λ rest ticket. refl) a.reply a.ticket b.ticket x y p q memory)
+      let tries = sends_same is_clone same o a.mid.pending b.mid.pending (Does s h a.mid) (Does r h' b.mid) ((msg, priority) ∷ []) (as_list a.reply) (as_list b.reply) a.tried b.tried (sym other ∙ (count ∙ mine)) in
+      polls_same a b (as_list_one a.reply b.reply tries.0) (does_same is_clone s r same a.mid b.mid h h' tries.1.0 tries.1.1 tries.1.2) (λ p q. sends_wait_alike (λ z. is_memory {T = T} {P = P} (answer.PollSend z)) (λ rest. refl) (λ rest ticket. refl) a.reply a.ticket b.ticket x y p q memory)
 
   pub polls_sendv_same : (pairs : List (T × P)) (given : Option ℕ) (waker : W) (x y : SendPoll (List (T × P)))
       → Moves cmp is_clone s (call.PollSendv pairs given waker) (answer.PollSendv x) h k
@@ -66,13 +65,13 @@ module _ {T P W : Type 0} (is_clone : W → W → Type 0) {cmp : P → P → Ord
   polls_sendv_same pairs given waker x y a b count memory =
       let mine = ap length (poll_sent-is pairs a.reply a.ticket x a.answered) in
       let other = ap length (poll_sent-is pairs b.reply b.ticket y b.answered) in
-      let tries = sends_same is_clone s r a.mid b.mid h h' same pairs a.reply b.reply a.tried b.tried (sym other ∙ (count ∙ mine)) in
-      polls_same a b tries.0 tries.1 (λ p q. sends_wait_alike (λ z. is_memory {T = T} {P = P} (answer.PollSendv z)) (λ rest. refl) (λ rest ticket. refl) a.reply a.ticket b.ticket x y p q memory)
+      let tries = sends_same is_clone same o a.mid.pending b.mid.pending (Does s h a.mid) (Does r h' b.mid) pairs a.reply b.reply a.tried b.tried (sym other ∙ (count ∙ mine)) in
+      polls_same a b tries.0 (does_same is_clone s r same a.mid b.mid h h' tries.1.0 tries.1.1 tries.1.2) (λ p q. sends_wait_alike (λ z. is_memory {T = T} {P = P} (answer.PollSendv z)) (λ rest. refl) (λ rest ticket. refl) a.reply a.ticket b.ticket x y p q memory)
 
   pub polls_receive_same : (given : Option ℕ) (waker : W) (x y : RecvPoll (T × P))
       → Moves cmp is_clone s (call.PollRecv given waker) (answer.PollRecv x) h k
       → Moves cmp is_clone r (call.PollRecv given waker) (answer.PollRecv y) h' k'
       → is_memory {T = T} {P = P} (answer.PollRecv y) ≡ is_memory {T = T} {P = P} (answer.PollRecv x) → (y ≡ x) × Both is_clone h h' k k'
   polls_receive_same given waker x y a b memory =
-      let tries = receives_same is_clone s r a.mid b.mid h h' same o a.reply b.reply a.tried b.tried in
-      polls_same a b tries.0 tries.1 (λ p q. recvs_wait_alike a.reply a.ticket b.ticket x y p q memory)
+      let tries = receives_same is_clone same o a.mid.pending b.mid.pending (Does s h a.mid) (Does r h' b.mid) a.reply b.reply a.tried b.tried in
+      polls_same a b tries.0 (does_same is_clone s r same a.mid b.mid h h' tries.1.0 tries.1.1 tries.1.2) (λ p q. recvs_wait_alike a.reply a.ticket b.ticket x y p q memory)

@@ -8,11 +8,12 @@ use Rattle.std.proofs.lemmas.List.Kept.{AllPairs-cons}
 use Rattle.std.proofs.Permutation.{every_append}
 use Rattle.priority_channel_core.specs.declared.calls.Call.TheVariants as call
 use Rattle.priority_channel_core.specs.declared.calls.Answer.TheVariants as answer
-use Rattle.priority_channel_core.specs.Prelude.{State, Handed, IsOver, IsGoingOn, Receives, Moves, Step, Answers, Operation, Run, Ordering, RecvReply}
+use Rattle.priority_channel_core.specs.Prelude.{State, Handed, IsOver, IsGoingOn, Says, Moves, Step, Answers, Operation, Run, Ordering, RecvReply, Does}
 use Rattle.priority_channel_core.specs.declared.errors.TryRecvError.TheVariants as recv_error
 use Rattle.priority_channel_core.proofs.items.Kept.{every_part}
 use Rattle.priority_channel_core.proofs.Closing.{or_left}
-use Rattle.priority_channel_core.specs.laws.Accepted.{accepted_by, put_by, put_in, received_by, displaced_by, taken_by, changed_by, accepted_in, received_in, displaced_in, taken_in, changed_in, Change, priorities, before, after, Conserves, NeverRise}
+use Rattle.priority_channel_core.specs.laws.Accepted.{accepted_by, put_in, received_by, displaced_by, taken_by, changed_by, accepted_in, received_in, displaced_in, taken_in, changed_in, Change, priorities, before, after, Conserves, NeverRise}
+use Rattle.priority_channel_core.proofs.runs.Changes.{account}
 use Rattle.priority_channel_core.proofs.runs.Effects.{Effect, effect}
 
 empty_parts : {A : Type 0} (xs ys : List A) → xs ++ ys ≡ [] → (xs ≡ []) × (ys ≡ [])
@@ -51,8 +52,8 @@ one_after_another old mid new n m a b w r d t x y z u first second =
 
 module _ {T P W : Type 0} (cmp : P → P → Ordering) (is_clone : W → W → Type 0) where
   step_effect : (old new : State T P W) (made : Operation T P W) → Step cmp is_clone old made.call made.answer made.handed new
-      → Effect cmp old (accepted_by made.call made.answer) (put_by made.call made.answer) (received_by made.answer) (displaced_by made.answer) (taken_by made.answer) (changed_by made.call made.answer) new
-  step_effect old new made step = effect cmp is_clone old new made.handed made.call made.answer step.moves
+      → Effect cmp old (account made.call made.answer) new
+  step_effect old new made step = effect cmp old is_clone new made.handed made.call made.answer step.moves
 
   pub Run-split : (old new : State T P W) (front back : List (Operation T P W)) → Run cmp is_clone old (front ++ back) new
       → (mid : State T P W) × Run cmp is_clone old front mid × Run cmp is_clone mid back new
@@ -129,7 +130,7 @@ module _ {T P W : Type 0} (cmp : P → P → Ordering) (is_clone : W → W → T
       run_never_rises second.0 first.0 between second.2 none kept
 
   answered : (old new : State T P W) (handed : Handed W) (reply : Answers T P) → Moves cmp is_clone old call.TryRecv reply handed new
-      → (told : RecvReply (T × P)) × (reply ≡ answer.TryRecv told) × Receives cmp old told handed new
+      → (told : RecvReply (T × P)) × (reply ≡ answer.TryRecv told) × Says cmp old new.pending (Does old handed new) call.TryRecv (answer.TryRecv told)
   answered old new handed (answer.TryRecv told) h = (told, refl, h)
   answered old new handed reply h = absurd h
 
@@ -141,7 +142,7 @@ module _ {T P W : Type 0} (cmp : P → P → Ordering) (is_clone : W → W → T
     answers : map (λ (made : Operation T P W). made.answer) run ≡ map (λ (pair : T × P). answer.TryRecv (Ok pair)) pairs ++ answer.TryRecv (Err recv_error.Closed) ∷ []
 
   step_received : (old new : State T P W) (made : Operation T P W) → Step cmp is_clone old made.call made.answer made.handed new → made.call ≡ call.TryRecv
-      → (told : RecvReply (T × P)) × (made.answer ≡ answer.TryRecv told) × Receives cmp old told made.handed new
+      → (told : RecvReply (T × P)) × (made.answer ≡ answer.TryRecv told) × Says cmp old new.pending (Does old made.handed new) call.TryRecv (answer.TryRecv told)
   step_received old new made step is = answered old new made.handed made.answer (rw is at step.moves)
 
   over_or_not : (s : State T P W) → IsOver s → IsGoingOn s → ⊥
@@ -149,7 +150,7 @@ module _ {T P W : Type 0} (cmp : P → P → Ordering) (is_clone : W → W → T
   over_or_not s over (inr some) = let e = over.1 in absurd (omega arith)
 
   none_left : (old mid : State T P W) (made : Operation T P W) (more : List (Operation T P W)) → IsOver old → length old.pending ≡ 0
-      → (told : RecvReply (T × P)) → made.answer ≡ answer.TryRecv told → Receives cmp old told made.handed mid → more ≡ [] → Drained old.pending (made ∷ more)
+      → (told : RecvReply (T × P)) → made.answer ≡ answer.TryRecv told → Says cmp old mid.pending (Does old made.handed mid) call.TryRecv (answer.TryRecv told) → more ≡ [] → Drained old.pending (made ∷ more)
   none_left old mid made more closed long (Err recv_error.Closed) is h end =
       record { pairs = []; all = rw h.0 (IsPermutation-refl []); given = rw (is, end) refl; answers = rw (is, end) refl }
   none_left old mid made more closed long (Err recv_error.Empty) is h end = absurd (over_or_not old closed h.1)
@@ -168,7 +169,7 @@ module _ {T P W : Type 0} (cmp : P → P → Ordering) (is_clone : W → W → T
       one_more n old run.0 made more closed long t.0 t.1 t.2 (λ c l. drains n run.0 new more run.2 c l (cc))
     where
       one_more : (n : ℕ) (old mid : State T P W) (made : Operation T P W) (more : List (Operation T P W)) → IsOver old → length old.pending ≡ suc n
-          → (told : RecvReply (T × P)) → made.answer ≡ answer.TryRecv told → Receives cmp old told made.handed mid
+          → (told : RecvReply (T × P)) → made.answer ≡ answer.TryRecv told → Says cmp old mid.pending (Does old made.handed mid) call.TryRecv (answer.TryRecv told)
           → (IsOver mid → length mid.pending ≡ n → Drained mid.pending more) → Drained old.pending (made ∷ more)
       one_more n old mid made more closed long (Err recv_error.Closed) is h next = let e = ap length h.0 in absurd (omega arith)
       one_more n old mid made more closed long (Err recv_error.Empty) is h next = absurd (over_or_not old closed h.1)

@@ -3,7 +3,7 @@ use Rattle.std.specs.Prelude.{◌≡◌, List, Ok, Err}
 use Rattle.priority_channel_core.specs.Types.{Answer, Ready, Pending, Closed, Full, Memory, SendReply, SendPoll}
 use Rattle.priority_channel_core.specs.declared.calls.Answer.TheVariants.{TrySend, TrySendv, TrySendEvicting, TryRecv, TakeWhere, ChangePriority, Close, IsClosed, IsEmpty, IsFull, Len, Capacity, SenderCount, ReceiverCount, CloneSender, CloneReceiver, DropSender, DropReceiver, PollSend, PollSendv, PollRecv, GiveUp, CloseWhenDone, TryReserve, TryLease, LeaseWhere, Put, Free, Held}
 use Rattle.priority_channel_core.specs.declared.errors.SendFault.TheVariants as fault
-use Rattle.priority_channel_core.specs.machine.Step.{Answers}
+use Rattle.priority_channel_core.specs.machine.Says.{Answers}
 
 abbrev pub Is : {A : Type 0} → A → A → Type 0
 Is one other = other ≡ one

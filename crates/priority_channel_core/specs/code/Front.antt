@@ -1,14 +1,19 @@
 -- What the loop of a bulk send does, for every list that the iterator has.
-use Rattle.std.specs.Prelude.{◌≡◌, ℕ, ◌<◌, List, [], ◌++◌, length, Option}
+use Rattle.std.specs.Prelude.{◌≡◌, ℕ, ◌<◌, ◌≤◌, ◌⊎◌, false, List, [], ◌++◌, length, Option}
 use Rattle.std.specs.declared.iter.Ahead.{Ahead}
 use Rattle.priority_channel_core.specs.declared.channel.bulk.Stop.{Stop}
 use Rattle.priority_channel_core.specs.declared.channel.bulk.Stop.TheVariants.{Ended, Filled, Memory}
-use Rattle.priority_channel_core.specs.machine.State.{State, Handed}
-use Rattle.priority_channel_core.specs.machine.Sends.{AddsFront}
+use Rattle.priority_channel_core.specs.machine.State.{State, Handed, room}
+use Rattle.priority_channel_core.specs.machine.Change.{Adds, Does}
 use Rattle.priority_channel_core.specs.machine.Polls.{Ends}
 use Rattle.priority_channel_core.specs.Types.{Room}
 use Rattle.priority_channel_core.specs.bag.Prelude.{Contents}
 use Rattle.priority_channel_core.specs.code.Lists.{HasList}
+
+-- only these pairs were added; if there are any, all waiting receivers are woken
+abbrev pub AddsFront : {T P W : Type 0} → State T P W → List (T × P) → Handed W → State T P W
+    → Type 0
+AddsFront old front handed new = Does old handed new (Adds front)
 
 abbrev pub sent_before : Stop → ℕ
 sent_before (Ended n) = n
@@ -49,11 +54,13 @@ module _ {S T P : Type 0} (steps : S → Option (T × P) → S → Type 0) where
     pub takes : Takes steps msgs front left
     pub adds : AddsFront old front handed new
 
--- a poll sent these pairs, and changed nothing else but its listing
+-- a poll sent these pairs, if any into room of an open channel, and changed nothing else but its
+-- listing
 pub record PollsFront {T P W : Type 0} (is_clone : W → W → Type 0) (old : State T P W)
     (given : Option ℕ) (waker : W)
     (front : List (T × P)) (handed : Handed W) (new : State T P W) : Type 0 where
   pub ticket : Option ℕ
   pub mid : State T P W
+  pub accepts : (front ≡ []) ⊎ ((old.is_closed ≡ false) × (length front ≤ room old))
   pub adds : AddsFront old front handed mid
   pub ends : Ends is_clone Room given waker ticket mid new

@@ -1,7 +1,10 @@
--- Sending a list of pairs.
-use Rattle.std.specs.Prelude.{◌≡◌, ◌+◌, ◌-◌, ◌<◌, ◌≤◌, ◌^◌, ◌⊎◌, true, false, ◌==◌, if◌then◌else◌, List, [], ◌∷◌, ◌++◌, length, Ok, Err}
-use Rattle.priority_channel_core.specs.Types.{Full, Closed, Memory, SendReply}
-use Rattle.priority_channel_core.specs.machine.State.{State, Handed, nobody, room}
+-- When a send is accepted, and when it is refused.
+use Rattle.std.specs.Prelude.{◌≡◌, ◌+◌, ◌-◌, ◌<◌, ◌≤◌, ◌^◌, ◌⊎◌, true, false, List, [], ◌∷◌, ◌++◌, length, Option, Some, None, Result, Ok, Err}
+use Rattle.std.specs.declared.cmp.Ordering.TheVariants.{Less}
+use Rattle.priority_channel_core.specs.bag.Prelude.{TakesLeast, NoneBelow}
+use Rattle.priority_channel_core.specs.Types.{Ordering, TrySendError, Full, Closed, Memory, SendReply}
+use Rattle.priority_channel_core.specs.machine.State.{State, room}
+use Rattle.priority_channel_core.specs.machine.Change.{Change, Nothing, Adds, MakesWay}
 
 -- the reply to a send of one pair, as one to a send of a list
 abbrev pub as_list : {A : Type 0} → SendReply A → SendReply (List A)
@@ -10,38 +13,36 @@ as_list (Err (Closed pair)) = Err (Closed (pair ∷ []))
 as_list (Err (Full pair)) = Err (Full (pair ∷ []))
 as_list (Err (Memory pair)) = Err (Memory (pair ∷ []))
 
-module _ {T P W : Type 0} (old : State T P W) where
-  abbrev pub Refuses : Handed W → State T P W → Type 0
-  Refuses handed new = (handed ≡ nobody) × (new ≡ old)
-
-  -- only these pairs were added; if there are any, all waiting receivers are woken
-  pub record AddsFront (front : List (T × P)) (handed : Handed W) (new : State T P W) : Type 0 where
-    pub handed_is : handed
-        ≡ (if length front == 0 then nobody
-        else record { room = []; message = old.waiters.message })
-    pub new_is : new ≡ record old {
-      pending = old.pending ++ front;
-      accepted = old.accepted + length front;
-      waiters = record old.waiters {
-        message = if length front == 0 then old.waiters.message else [];
-      };
-    }
-
-  abbrev pub Accepts : List (T × P) → Handed W → State T P W → Type 0
-  Accepts front handed new = (old.is_closed ≡ false) × AddsFront front handed new
+module _ {T P W : Type 0} (old : State T P W) (does : Change T P → Type 0) where
+  abbrev pub Accepts : List (T × P) → Type 0
+  Accepts front = (old.is_closed ≡ false) × does (Adds front)
 
   -- `rest` was not accepted, and comes back
-  abbrev pub Sends : List (T × P) → SendReply (List (T × P)) → Handed W → State T P W → Type 0
-  Sends pairs (Ok done) handed new =
-      (0 < room old) × (length pairs ≤ room old) × Accepts pairs handed new
-  Sends pairs (Err (Closed rest)) handed new =
-      (old.is_closed ≡ true) × (rest ≡ pairs) × Refuses handed new
+  abbrev pub Sends : List (T × P) → SendReply (List (T × P)) → Type 0
+  Sends pairs (Ok done) = (0 < room old) × (length pairs ≤ room old) × Accepts pairs
+  Sends pairs (Err (Closed rest)) = (old.is_closed ≡ true) × (rest ≡ pairs) × does Nothing
   -- as many as there was room for
-  Sends pairs (Err (Full rest)) handed new =
+  Sends pairs (Err (Full rest)) =
       (front : List (T × P)) × (pairs ≡ front ++ rest) × (length front ≡ room old)
-      × ((room old ≡ 0) ⊎ (0 < length rest)) × Accepts front handed new
+      × ((room old ≡ 0) ⊎ (0 < length rest)) × Accepts front
   -- stopped before a pair that had room
-  Sends pairs (Err (Memory rest)) handed new =
+  Sends pairs (Err (Memory rest)) =
       (front : List (T × P)) × (pairs ≡ front ++ rest) × (length front < room old)
-      × (0 < length rest) × Accepts front handed new
+      × (0 < length rest) × Accepts front
       × ((old.is_reserved ≡ false) ⊎ (old.accepted + old.held + length front ≡ 2 ^ 64 - 1))
+
+  -- a send of one pair, for which the last of the least pairs makes way if it is less
+  abbrev pub Evicts : (P → P → Ordering) → T × P → Result (Option (T × P)) (TrySendError (T × P))
+      → Type 0
+  Evicts cmp pair (Ok None) = Sends (pair ∷ []) (Ok tt)
+  Evicts cmp pair (Ok (Some out)) =
+      (left : List (T × P)) × (room old ≡ 0) × (cmp out.1 pair.1 ≡ Less)
+      × TakesLeast cmp old.pending out left × (old.is_closed ≡ false) × does (MakesWay left pair)
+  Evicts cmp pair (Err (Closed held)) = Sends (pair ∷ []) (Err (Closed (held ∷ [])))
+  Evicts cmp pair (Err (Full held)) =
+      NoneBelow cmp old.pending pair.1 × Sends (pair ∷ []) (Err (Full (held ∷ [])))
+  -- as for a send, or the last number of a pair was used
+  Evicts cmp pair (Err (Memory held)) =
+      Sends (pair ∷ []) (Err (Memory (held ∷ [])))
+      ⊎ ((old.is_closed ≡ false) × (room old ≡ 0) × (old.accepted + old.held ≡ 2 ^ 64 - 1)
+      × (held ≡ pair) × does Nothing)

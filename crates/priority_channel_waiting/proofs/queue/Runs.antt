@@ -9,8 +9,7 @@ use Rattle.priority_channel_waiting.specs.Future.Task.{Send, Sendv, Recv}
 use Rattle.priority_channel_core.specs.declared.calls.Call.TheVariants as call
 use Rattle.priority_channel_core.specs.declared.calls.Answer.TheVariants as answer
 use Rattle.priority_channel_waiting.specs.laws.WaitingLaw.{waker_of, side_of}
-use Rattle.priority_channel_core.proofs.runs.Hands.{Hands, handed_of}
-use Rattle.priority_channel_core.proofs.runs.Effects.{hands}
+use Rattle.priority_channel_core.proofs.runs.Hands.{Hands, handed_of, hands}
 use Rattle.priority_channel_waiting.proofs.worlds.Lookups.{waker_of-relisted, waker_of-below}
 use Rattle.priority_channel_waiting.proofs.worlds.Events.{can_go_on}
 use Rattle.priority_channel_waiting.proofs.worlds.PollEnds.{unlist_side, Ended, Waits, poll_end, still_given, stays_or_leaves}
@@ -76,7 +75,7 @@ module _ {T P : Type 0} (cmp : P → P → Ordering) (old new : State T P ℕ) (
         ∙ (ap (waker_of t) (unlist_side (Some ticket) side old.waiters) ∙ (gone (on_side side old.waiters) (Some ticket) t ne ∙ w));
   }
   lands (call.GiveUp ticket) reply h = absurd h
-  lands made reply h = direct None (hands cmp (λ waker kept. kept ≡ waker) old new handed made reply tt h)
+  lands made reply h = direct None (hands old new handed cmp (λ waker kept. kept ≡ waker) made reply tt h)
 
 module _ {T P : Type 0} where
   -- the waiters on the wakes are woken, and then the lists may change at the tickets of others

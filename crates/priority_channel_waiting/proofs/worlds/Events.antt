@@ -9,8 +9,7 @@ use Rattle.priority_channel_waiting.specs.laws.WaitingLaw.{waker_of, side_of, Ca
 use Rattle.priority_channel_waiting.specs.laws.World.{World, Event, standing_after, call_out, PollsFuture, Happens, Leads, IsOpening}
 use Rattle.priority_channel_waiting.specs.laws.World.Event.{Makes, Polls, GivesUp}
 use Rattle.priority_channel_waiting.proofs.worlds.Positions.{all_at, at_mapped, changed_at}
-use Rattle.priority_channel_core.proofs.runs.Hands.{Hands}
-use Rattle.priority_channel_core.proofs.runs.Effects.{hands}
+use Rattle.priority_channel_core.proofs.runs.Hands.{Hands, hands}
 use Rattle.priority_channel_waiting.proofs.worlds.Worlds.{Keeps, Changes, had_ticket, keeps-call_out, keeps-change, called_from}
 use Rattle.priority_channel_waiting.proofs.worlds.PollEnds.{unlist_side, lists_of, stays_or_leaves, still_given, poll_end}
 use Rattle.priority_channel_waiting.proofs.worlds.Standings.{Keeps-same, Keeps-none, ends, waits}
@@ -142,7 +141,7 @@ module _ {T P W : Type 0} where
     happens_kept : (cmp : P → P → Ordering) (old new : World T P W) (event : Event T P W) (handed : Handed W)
         → Happens cmp is_clone old event handed new → IsKept old → IsNext old handed new
     happens_kept cmp old new (Makes made) handed h k =
-        let handing = hands cmp is_clone old.state new.state handed made h.1 h.0 h.2.moves in (
+        let handing = hands old.state new.state handed cmp is_clone made h.1 h.0 h.2.moves in (
           record { good = h.2.good; keeps = rw h.3 (called_world old k new.state handed handing) },
           record { grows = let n = handing.next in omega arith; held = λ i g t at has lt. had_ticket handed old.futures i g t (rw h.3 at at) has },
           λ j f t w at is. woken_from old k new.state handed handing j f t w (rw h.3 at at) is,

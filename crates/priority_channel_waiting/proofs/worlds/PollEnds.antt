@@ -1,6 +1,7 @@
 -- Each poll wakes some waiters, and then ends its future or leaves it waiting.
 use Rattle.std.proofs.Common.{◌≡◌, ◌≢◌, ℕ, ◌<◌, ◌⊎◌, List, [], ◌∷◌, refl, ap, ◌∙◌, inl, inr, Option, None, Some, All}
 use Rattle.std.proofs.lemmas.List.Elements.{All-nil}
+use Rattle.priority_channel_core.specs.declared.calls.Call.TheVariants as call
 use Rattle.priority_channel_core.specs.declared.calls.Answer.TheVariants as answer
 use Rattle.priority_channel_core.specs.declared.calls.CorePoll.TheVariants.{Ready, Pending}
 use Rattle.priority_channel_core.specs.declared.side.Side.{Side}
@@ -11,8 +12,7 @@ use Rattle.priority_channel_waiting.specs.Future.Standing.{Waiting, Done}
 use Rattle.priority_channel_waiting.specs.Future.Task.{Send, Sendv, Recv}
 use Rattle.priority_channel_core.proofs.Polls.{send_waits_under, recv_waits_under}
 use Rattle.priority_channel_waiting.specs.laws.WaitingLaw.{side_of}
-use Rattle.priority_channel_core.proofs.runs.Effects.{sends, receives}
-use Rattle.priority_channel_core.proofs.runs.Hands.{handed_of, StaysOrLeaves, Hands}
+use Rattle.priority_channel_core.proofs.runs.Hands.{handed_of, StaysOrLeaves, Hands, hands}
 
 module _ {W : Type 0} where
   -- a listed waiter is on its own side
@@ -110,12 +110,12 @@ module _ {T P W : Type 0} where
     pub poll_end : (task : Tasks T P) (reply : Answers T P) → Moves cmp is_clone old (poll_of task given waker) reply handed new
         → Ended old given (future_after task waker reply) handed new ⊎ Waits is_clone old given waker (side_of task) (future_after task waker reply) handed new
     poll_end (Send m p) (answer.PollSend poll) h =
-        ends is_clone Room old h.mid new given h.ticket waker _ handed (sends cmp old h.mid handed ((m, p) ∷ []) (as_list h.reply) h.tried).0 h.ends
+        ends is_clone Room old h.mid new given h.ticket waker _ handed (hands old h.mid handed cmp is_clone (call.TrySend m p) (answer.TrySend h.reply) tt h.tried) h.ends
         (rw (send_waits_under h.reply h.ticket poll h.answered) (stands_send m p waker poll))
     poll_end (Sendv pairs) (answer.PollSendv poll) h =
-        ends is_clone Room old h.mid new given h.ticket waker _ handed (sends cmp old h.mid handed pairs h.reply h.tried).0 h.ends
+        ends is_clone Room old h.mid new given h.ticket waker _ handed (hands old h.mid handed cmp is_clone (call.TrySendv pairs) (answer.TrySendv h.reply) tt h.tried) h.ends
         (rw (send_waits_under h.reply h.ticket poll h.answered) (stands_sendv pairs waker poll))
     poll_end Recv (answer.PollRecv poll) h =
-        ends is_clone Message old h.mid new given h.ticket waker _ handed (receives cmp old h.mid handed h.reply h.tried).0 h.ends
+        ends is_clone Message old h.mid new given h.ticket waker _ handed (hands old h.mid handed cmp is_clone call.TryRecv (answer.TryRecv h.reply) tt h.tried) h.ends
         (rw (recv_waits_under h.reply h.ticket poll h.answered) (stands_recv waker poll))
     poll_end task reply h = absurd h

@@ -1,4 +1,6 @@
+use Rattle.std.proofs.Common.{refl}
 use Rattle.std.specs.Iterator.Adapters.{peekable_can}
+use Rattle.priority_channel_core.proofs.Sends.{none_or_accepted}
 use Rattle.priority_channel_core.specs.Prelude.{HasList}
 use Rattle.priority_channel_core.proofs.Polls.{performs_poll, kept_callable, polls_front, listed_for_room}
 use Rattle.priority_channel_core.proofs.channel.PriorityQueueChannel.poll_sendv.Goals as goal
@@ -26,5 +28,8 @@ pub returns-clause-front : goal.returns-clause-front
 returns-clause-front g c =
     let tried = c.try_sendv-reply.ensures.front in
     let ended = c.end_send.ensures in
+    let old = c.args.self.now.state in let mid = c.try_sendv-reply.new.self.state in
     polls_front g.W.Clone.is_clone c.args.self.now c.try_sendv-reply.new.self c.end_send.new.self c.args.ticket ended.ends.0 c.args.waker.now tried.0
-    c.try_sendv-reply.result.1 tried.1 ended.ends.2 tried.2 ended.cost
+    c.try_sendv-reply.result.1 tried.1 ended.ends.2
+    (none_or_accepted old mid c.try_sendv-reply.result.1 old.is_closed refl tried.0 c.try_sendv-reply.ensures.good tried.1 (λ closed. (c.try_sendv-reply.ensures.closed closed).1))
+    tried.2 ended.cost

@@ -11,7 +11,7 @@ returns-in-Some-clause-step g c =
     let new = state_of c.take_greatest_where.new.self c.lend.new.self.word own.capacity own.is_reserved own.sender_count own.receiver_count in (
       length taken.before,
       record {
-        moves = rw (← c.self.view_is) (taken, refl, refl, search rules);
+        moves = rw (← c.self.view_is) (taken, refl, (refl, search rules));
         good = good_lends old new c.in-Some.pair taken c.self.invariant.good (search rules) (search rules) c.lend.ensures.tickets;
       },
     )
