@@ -4,7 +4,7 @@ use Rattle.std.proofs.Common.{◌≡◌, ℕ, ◌+◌, List, [], ◌∷◌, ◌+
 use Rattle.std.specs.List.{AllZip}
 use Rattle.std.proofs.lemmas.List.{map-append}
 use Rattle.priority_channel_core.specs.bag.Prelude.{Changes, PassesFirst}
-use Rattle.priority_channel_core.specs.Prelude.{Call, Answer, State, Handed, Step, Calls, Answers, Operation, Run, Response, AtSomePlace, SameButPlace, SameCall, SameOperation, Makes, Performs, RunsFront, MeetsTest, AllMeetTests, SameAnswer, Ordering}
+use Rattle.priority_channel_core.specs.Prelude.{Call, Answer, State, Handed, Step, Calls, Answers, Operation, Run, Response, AtSomePlace, SameButPlace, SameCall, SameOperation, Makes, Performs, RunsFront, AddsSome, MeetsTest, AllMeetTests, SameAnswer, Ordering}
 use Rattle.priority_channel_core.specs.declared.calls.Call.TheVariants.{TakeWhere, ChangePriority, LeaseWhere}
 use Rattle.priority_channel_core.specs.declared.errors.TryRecvManyError.{TryRecvManyError}
 use Rattle.priority_channel_core.specs.declared.calls.Answer.TheVariants as answer
@@ -159,14 +159,14 @@ module _ {T P W M F : Type 0} (passes fails : F → T × P → Type 0) (old new 
 module _ {T P W M F : Type 0} (passes fails : F → T × P → Type 0) (holds : M → List (T × P) → Type 0) (cmp : P → P → Ordering) (is_clone : W → W → Type 0) where
   pub meets_more : (old mid new : State T P W) (calls left : List (Call T P W M F)) (done : List (Response T P W M)) (next : Call T P W M F) (response : Response T P W M)
       → next ∷ left ≡ drop (length done) calls → AllMeetTests passes fails holds cmp is_clone old calls done mid
-      → Makes holds cmp is_clone mid next response.answer response.handed new → MeetsTest passes fails mid.pending next response.answer new.pending
+      → Makes holds cmp is_clone mid next response.answer response.handed new → AddsSome is_clone mid next response.handed new → MeetsTest passes fails mid.pending next response.answer new.pending
       → AllMeetTests passes fails holds cmp is_clone old calls (done ++ response ∷ []) new
-  meets_more old mid new [] left [] next response is all step one = absurd (cc)
-  meets_more old mid new [] left (d ∷ done) next response is all step one = absurd all
-  meets_more old mid new (c ∷ calls) left [] next response is all step one =
-      let same : next ≡ c = cc in (new, (rw (same, all) at step), (rw (same, all) at one), refl)
-  meets_more old mid new (c ∷ calls) left (d ∷ done) next response is all step one =
-      (all.0, all.1, all.2, meets_more all.0 mid new calls left done next response is all.3 step one)
+  meets_more old mid new [] left [] next response is all step adds one = absurd (cc)
+  meets_more old mid new [] left (d ∷ done) next response is all step adds one = absurd all
+  meets_more old mid new (c ∷ calls) left [] next response is all step adds one =
+      let same : next ≡ c = cc in (new, (rw (same, all) at step), (rw (same, all) at adds), (rw (same, all) at one), refl)
+  meets_more old mid new (c ∷ calls) left (d ∷ done) next response is all step adds one =
+      (all.0, all.1, all.2, all.3, meets_more all.0 mid new calls left done next response is all.4 step adds one)
 
 pub at_ok : {X E : Type 0} {P : Type 0} (r : Result X E) (b : Bool) → b ≡ is_ok r → b ≡ true → OnOk r P → P
 at_ok r b e h p = grind arith

@@ -1,6 +1,6 @@
 //! Many calls, one after another.
 ghost use Rattle.std.specs.Prelude.{◌≡◌, true, false, All, length, drop};
-ghost use Rattle.priority_channel_core.specs.Prelude.{nobody, IsGood, HasList, MayCall, Makes, RunsFront, IsAllowed, AllowsRun, ChangesHandles, MeetsTest, AllMeetTests};
+ghost use Rattle.priority_channel_core.specs.Prelude.{nobody, IsGood, HasList, MayCall, Makes, RunsFront, IsAllowed, AllowsRun, ChangesHandles, AddsSome, MeetsTest, AllMeetTests};
 ghost use Rattle.std.specs.Iterator.Adapters.{peekable_can};
 ghost use Rattle.priority_channel_core.specs.bag.Prelude.{Tells};
 
@@ -104,6 +104,7 @@ impl<T: Drop, P: Ord + Drop, W: Clone, A: Allocator + Copy> PriorityQueueChannel
         requires callable { MayCall (peekable_can I.can_next) F.IsAlwaysCallable call }
         ensures step { Makes (HasList I.next_gives) P.cmp W.is_clone self.old.state call
             result.answer result.handed self.new.state }
+        ensures adds { AddsSome W.is_clone self.old.state call result.handed self.new.state }
         ensures meets { MeetsTest (λ test pair. Tells F.Fn test pair true)
             (λ test pair. Tells F.Fn test pair false) self.old.state.pending call result.answer
             self.new.state.pending }

@@ -30,6 +30,14 @@ returns-in-TrySendv-clause-step g c =
     rw (c.in-TrySendv.is, c.new-in-TrySendv.ensures.answer, c.new-in-TrySendv.ensures.handed)
     (makes_performed _ _ _ _ _ _ _ _ (call.TrySendv c.in-TrySendv.msgs) c.try_sendv-reply.ensures.step (λ other same. same))
 
+pub returns-in-TrySendv-clause-adds : goal.returns-in-TrySendv-clause-adds
+returns-in-TrySendv-clause-adds g c =
+    let front = c.try_sendv-reply.ensures.front in rw (c.in-TrySendv.is, c.new-in-TrySendv.ensures.handed) (front.0, front.1)
+
+pub returns-in-PollSendv-clause-adds : goal.returns-in-PollSendv-clause-adds
+returns-in-PollSendv-clause-adds g c =
+    let front = c.poll_sendv-poll.ensures.front in rw (c.in-PollSendv.is, c.new-in-PollSendv.ensures.handed) (front.0, front.1)
+
 pub returns-in-PollSendv-clause-step : goal.returns-in-PollSendv-clause-step
 returns-in-PollSendv-clause-step g c =
     rw (c.in-PollSendv.is, c.new-in-PollSendv.ensures.answer, c.new-in-PollSendv.ensures.handed)

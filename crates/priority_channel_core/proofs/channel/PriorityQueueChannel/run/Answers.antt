@@ -35,7 +35,7 @@ loop-done-preserved g c = record {
   meets = rw (c.push_reserved.ensures.items, c.reserve.ensures.items)
       (meets_more (λ test pair. Tells g.F.Fn test pair true) (λ test pair. Tells g.F.Fn test pair false) (HasList g.I.Iterator.next_gives) g.P.Ord.cmp g.W.Clone.is_clone _ _ _
       c.args.calls.items _ c.loop-done.done.items _ c.make.result
-      (rw (c.in-Some.ensures.items, reverse-append) at c.loop-done.invariant.left) c.loop-done.invariant.meets c.make.ensures.step c.make.ensures.meets);
+      (rw (c.in-Some.ensures.items, reverse-append) at c.loop-done.invariant.left) c.loop-done.invariant.meets c.make.ensures.step c.make.ensures.adds c.make.ensures.meets);
   left = rw (c.push_reserved.ensures.items, c.reserve.ensures.items, length-append)
       (drop-past (length c.loop-done.done.items) c.args.calls.items _ _ (rw (c.in-Some.ensures.items, reverse-append) at c.loop-done.invariant.left));
   runs = rw (c.push_reserved.ensures.items, c.reserve.ensures.items)
