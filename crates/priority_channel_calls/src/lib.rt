@@ -8,6 +8,7 @@
 pub mod bulk;
 pub mod call;
 pub mod ends;
+pub mod looks;
 pub mod places;
 pub mod receives;
 pub mod sends;

@@ -27,6 +27,16 @@ module _ {D C : Type 0} where
   left_over (Closed rest) = Some rest
   left_over (Memory rest) = Some rest
 
+  -- what the last call of a wait told that ended so, and what is left of it
+  abbrev pub outcome_of_end : {O : Type 0} → Result D (Ended C O) → Outcome D C
+  outcome_of_end (Ok done) = Done done
+  outcome_of_end (Err (ended.Over rest over)) = Blocked rest
+  outcome_of_end (Err (ended.Closed rest)) = Closed rest
+  outcome_of_end (Err (ended.Memory rest)) = Memory rest
+
+  abbrev pub left_at_end : {O : Type 0} → Result D (Ended C O) → Option C
+  left_at_end result = left_over (outcome_of_end result)
+
 -- what the answers of a send, of a receive and of a lease tell
 abbrev pub outcome_of_send : {D C : Type 0} → Result D (TrySendError C) → Outcome D C
 outcome_of_send (Ok done) = Done done

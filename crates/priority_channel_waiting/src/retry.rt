@@ -3,10 +3,11 @@
 ghost use Rattle.std.specs.Prelude.{◌≡◌, ⊤, IfSome, IfOk, IfErr, Some, refl};
 ghost use Rattle.std.proofs.Common.{◌∙◌};
 ghost use Rattle.priority_channel_core.specs.declared.side.Side.{Side};
+ghost use Rattle.priority_channel_waiting.specs.declared.retry.Outcome.{Outcome};
 ghost use Rattle.priority_channel_core.specs.Prelude.{HasList};
 ghost use Rattle.priority_channel_waiting.specs.Holding.{HoldsTail};
 ghost use Rattle.priority_channel_waiting.specs.Ends.{OnOver};
-ghost use Rattle.priority_channel_waiting.specs.Waits.{left_over, given_back, outcome_of_send, outcome_of_recv, outcome_of_lease};
+ghost use Rattle.priority_channel_waiting.specs.Waits.{left_over, given_back, outcome_of_end, outcome_of_send, outcome_of_recv, outcome_of_lease};
 ghost use Rattle.priority_channel_waiting.specs.Tails.{tail_of_itself, tail_of_tail};
 
 use crate::timeouts::Ended;
@@ -36,6 +37,8 @@ impl<D, L> Outcome<D, L> {
         ensures answered { IfOk result (λ answer. IfErr answer (λ ended.
             left_over self ≡ Some (given_back ended))) }
         ensures not_over { IfOk result (λ answer. IfErr answer (λ ended. OnOver ended (λ _. ⊥))) }
+        ensures told { IfOk result (λ answer. self ≡ outcome_of_end answer) }
+        ensures waits { IfErr result (λ left. self ≡ Outcome.Blocked left) }
         ensures blocked { IfErr result (λ left. left_over self ≡ Some left) }
     {
         match self {
@@ -64,6 +67,9 @@ pub trait Retry<T, P: Ord, W: Clone, A: Allocator + Copy>: CoreCall<T, P, W, A> 
     // The side on which the call waits if it is blocked.
     ghost waits_on: { Side };
 
+    // What an answer of the call tells.
+    ghost says: { Self.Answer → Outcome Self.Done Self.Left };
+
     /// The side on which the call waits if it is blocked.
     fn side() -> Side
         ensures { result ≡ waits_on };
@@ -72,9 +78,10 @@ pub trait Retry<T, P: Ord, W: Clone, A: Allocator + Copy>: CoreCall<T, P, W, A> 
     fn again(left: Self::Left) -> Self
         ensures { result ≡ call_of left };
 
-    /// What the answer of a call tells.
+    /// What an answer of the call tells.
     fn outcome(answer: Self::Answer) -> Outcome<Self::Done, Self::Left>
-        ensures { (call : Self) → Self.gives call answer → IfSome (left_over result)
+        ensures told { result ≡ says answer }
+        ensures left { (call : Self) → Self.gives call answer → IfSome (left_over result)
             (λ left. Self.can_make (call_of left) × leaves call left) };
 
     ghost whole: { (left : Self.Left) → leaves (call_of left) left };
@@ -94,6 +101,8 @@ impl<T, P: Ord, W: Clone, A: Allocator + Copy> Retry<T, P, W, A> for TryRecv {
 
     ghost waits_on = { Side.Message };
 
+    ghost says = { outcome_of_recv };
+
     ghost whole = { λ _. tt };
 
     ghost still = { λ _ _ _ _ _. tt };
@@ -107,9 +116,7 @@ impl<T, P: Ord, W: Clone, A: Allocator + Copy> Retry<T, P, W, A> for TryRecv {
     }
 
     #[inline(always)]
-    fn outcome(answer: Result<(T, P), TryRecvError>) -> Outcome<(T, P), ()>
-        ensures told { result ≡ outcome_of_recv answer }
-    {
+    fn outcome(answer: Result<(T, P), TryRecvError>) -> Outcome<(T, P), ()> {
         match answer {
             Ok(pair) => Outcome::Done(pair),
             Err(TryRecvError::Empty) => Outcome::Blocked(()),
@@ -129,6 +136,8 @@ impl<T, P: Ord, W: Clone, A: Allocator + Copy> Retry<T, P, W, A> for TryLease {
 
     ghost waits_on = { Side.Message };
 
+    ghost says = { outcome_of_lease };
+
     ghost whole = { λ _. tt };
 
     ghost still = { λ _ _ _ _ _. tt };
@@ -141,9 +150,7 @@ impl<T, P: Ord, W: Clone, A: Allocator + Copy> Retry<T, P, W, A> for TryLease {
         TryLease
     }
 
-    fn outcome(answer: Result<(Place, (T, P)), TryRecvManyError>) -> Outcome<(Place, (T, P)), ()>
-        ensures told { result ≡ outcome_of_lease answer }
-    {
+    fn outcome(answer: Result<(Place, (T, P)), TryRecvManyError>) -> Outcome<(Place, (T, P)), ()> {
         match answer {
             Ok(leased) => Outcome::Done(leased),
             Err(TryRecvManyError::Empty) => Outcome::Blocked(()),
@@ -153,8 +160,9 @@ impl<T, P: Ord, W: Clone, A: Allocator + Copy> Retry<T, P, W, A> for TryLease {
     }
 }
 
+/// What the answer of a send tells.
 #[inline(always)]
-fn send_outcome<D, L>(answer: Result<D, TrySendError<L>>) -> Outcome<D, L>
+pub fn send_outcome<D, L>(answer: Result<D, TrySendError<L>>) -> Outcome<D, L>
     ensures { result ≡ outcome_of_send answer }
 {
     match answer {
@@ -176,6 +184,8 @@ impl<T, P: Ord, W: Clone, A: Allocator + Copy> Retry<T, P, W, A> for TrySend<T, 
 
     ghost waits_on = { Side.Room };
 
+    ghost says = { outcome_of_send };
+
     ghost whole = { λ _. refl };
 
     ghost still = { λ _ _ _ one other. other ∙ one };
@@ -192,9 +202,7 @@ impl<T, P: Ord, W: Clone, A: Allocator + Copy> Retry<T, P, W, A> for TrySend<T, 
 
     #[tactic(auto, using(crate::proofs::LeftOver::left_of_send))]
     #[inline(always)]
-    fn outcome(answer: Result<(), TrySendError<(T, P)>>) -> Outcome<(), (T, P)>
-        ensures told { result ≡ outcome_of_send answer }
-    {
+    fn outcome(answer: Result<(), TrySendError<(T, P)>>) -> Outcome<(), (T, P)> {
         send_outcome(answer)
     }
 }
@@ -216,6 +224,8 @@ impl<T: Drop, P: Ord + Drop, W: Clone, A: Allocator + Copy, I: Iterator<Item = (
 
     ghost waits_on = { Side.Room };
 
+    ghost says = { outcome_of_send };
+
     ghost whole = { λ left. tail_of_itself (HasList I.next_gives) left };
 
     ghost still = { λ first next last.
@@ -230,9 +240,7 @@ impl<T: Drop, P: Ord + Drop, W: Clone, A: Allocator + Copy, I: Iterator<Item = (
     }
 
     #[tactic(auto, using(crate::proofs::LeftOver::left_of_send))]
-    fn outcome(answer: Result<(), TrySendError<Peekable<I>>>) -> Outcome<(), Peekable<I>>
-        ensures told { result ≡ outcome_of_send answer }
-    {
+    fn outcome(answer: Result<(), TrySendError<Peekable<I>>>) -> Outcome<(), Peekable<I>> {
         send_outcome(answer)
     }
 }
@@ -248,6 +256,8 @@ impl<T, P: Ord, W: Clone, A: Allocator + Copy> Retry<T, P, W, A> for TryReserve 
 
     ghost waits_on = { Side.Room };
 
+    ghost says = { outcome_of_send };
+
     ghost whole = { λ _. tt };
 
     ghost still = { λ _ _ _ _ _. tt };
@@ -260,9 +270,7 @@ impl<T, P: Ord, W: Clone, A: Allocator + Copy> Retry<T, P, W, A> for TryReserve 
         TryReserve
     }
 
-    fn outcome(answer: Result<Place, TrySendError<()>>) -> Outcome<Place, ()>
-        ensures told { result ≡ outcome_of_send answer }
-    {
+    fn outcome(answer: Result<Place, TrySendError<()>>) -> Outcome<Place, ()> {
         send_outcome(answer)
     }
 }

@@ -5,7 +5,7 @@ use Rattle.std.proofs.lemmas.List.Sorted.{sum_by_popped, sum_by-IsPermutation, I
 use Rattle.std.proofs.lemmas.List.Elements.{All-nil, All-cons}
 use Rattle.std.proofs.lemmas.Bool.Decides.{nat_tests}
 use Rattle.priority_channel_recorded.proofs.Accounts.{sums_same, same_sums, split_calls, hit}
-use Rattle.priority_channel_witnessed.specs.declared.entry.Entry.{Entry}
+use Rattle.priority_channel_witnessed.specs.declared.chronicle.Entry.{Entry}
 use Rattle.priority_channel_witnessed.specs.History.{who_of}
 use Rattle.priority_channel_witnessed.specs.Passes.{Carried, calls_of, calls_made, is_of_others, calls_of_others, calls_under, times_in, AreApart, AreGiven, IsShared}
 

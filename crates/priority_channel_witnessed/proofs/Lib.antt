@@ -1,5 +1,5 @@
 pub mod Histories
 pub mod Items
 pub mod Leaving
-pub mod Waits
 pub mod Steps
+pub mod Waits

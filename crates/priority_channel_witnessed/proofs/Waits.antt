@@ -1,102 +1,79 @@
--- The calls of a wait, and what comes back of a send.
-use Rattle.std.proofs.Common.{◌≡◌, ℕ, Bool, List, [], ◌∷◌, ◌++◌, length, refl, sym, ap, subst, arith, length-append, append_assoc, ◌∙◌, Option, Some, None, ◌<◌, Result, Ok, Err, IfOk, IfErr, IfSome}
-use Rattle.priority_channel_core.specs.declared.errors.TrySendError.TheVariants.{Full, Closed, Memory}
-use Rattle.priority_channel_core.specs.Prelude.{rest_of, send_answer, kept_by, State, Handed, as_list, Does, Sends, Calls, Answers, Ordering, SendReply, SendEnd, SendPoll}
-use Rattle.priority_channel_core.specs.declared.errors.SendFault.TheVariants as fault
-use Rattle.priority_channel_waiting.specs.Waits.{unsent_in_time}
-use Rattle.priority_channel_core.specs.declared.calls.Call.TheVariants as call
-use Rattle.priority_channel_core.specs.declared.calls.Answer.TheVariants as answer
-use Rattle.priority_channel_core.proofs.Polls.{kept_callable}
+-- The calls of a wait.
+use Rattle.std.proofs.Common.{◌≡◌, ℕ, Bool, List, [], ◌∷◌, ◌++◌, refl, sym, subst, arith, append_assoc, ◌∙◌, Option, Some, None, ◌<◌, Result, Ok, Err, IfOk, IfErr, IfSome, inr}
+use Rattle.priority_channel_core.specs.Prelude.{Handed, Ordering}
+use Rattle.priority_channel_calls.specs.Told.{Told}
+use Rattle.std.specs.declared.convert.Infallible.{Infallible}
+use Rattle.priority_channel_core.specs.declared.calls.CorePoll.{CorePoll}
+use Rattle.priority_channel_core.specs.declared.calls.CorePoll.TheVariants.{Ready, Pending}
+use Rattle.priority_channel_waiting.specs.declared.timeouts.Ended.{Ended}
+use Rattle.priority_channel_waiting.specs.Holding.{left_after}
+use Rattle.priority_channel_waiting.specs.Ends.{OnOver}
+use Rattle.priority_channel_waiting.specs.Waits.{given_back, left_at_end, outcome_of_end}
+use Rattle.priority_channel_waiting.specs.declared.retry.Outcome.{Outcome}
+use Rattle.priority_channel_waiting.specs.declared.retry.Outcome.TheVariants.{Blocked, Memory}
+use Rattle.priority_channel_witnessed.specs.declared.chronicle.Entry.{Entry}
 use Rattle.priority_channel_witnessed.specs.History.{entry}
-use Rattle.priority_channel_witnessed.specs.declared.entry.Entry.{Entry}
-use Rattle.priority_channel_witnessed.specs.Items.{Items, list_in, listed, listed_poll}
 use Rattle.priority_channel_witnessed.specs.Passes.{Carried, IsTold, Tells}
-use Rattle.priority_channel_witnessed.specs.Waits.{Ending, SendEnding, ends, Underway, Makes, ComesTo, at_last, before, gave_up, Gives, IsBack, Tried, send_result, polled_to, SendCalls, SendvCalls}
-use Rattle.priority_channel_witnessed.proofs.Histories.{told_step}
+use Rattle.priority_channel_witnessed.specs.Waits.{listed_as, Ending, ends, left, IsCall, tries, polls, polled_to, Tried, Underway, ComesTo, Gives, at_last, before, gave_up}
 
--- who gets the only pair back gets that pair
-last_one : {X : Type 0} (x y : X) (front : List X) → x ∷ [] ≡ front ++ y ∷ [] → y ≡ x
-last_one x y [] e = cc
-last_one x y (z ∷ front) e = let l = ap length e in let m = length-append front (y ∷ []) in absurd (omega arith)
+module _ {T P W : Type 0} (cmp : P → P → Ordering) (is_clone : W → W → Type 0) (capacity : ℕ) (is_reserved : Bool) {C S D L : Type 0} (told : C → S → Told T P W) (says : S → Outcome D L)
+    (polled : C → Option ℕ → W → Ending D L → Told T P W) where
+  -- a call was tried, and told this
+  abbrev pub Attempts : Carried T P W → C → Outcome D L → Carried T P W → Type 0
+  Attempts old own outcome new = (reply : S) × (handed : Handed W) × Tells cmp is_clone capacity is_reserved old (told own reply) handed new × (says reply ≡ outcome)
 
-module _ {T P W : Type 0} where
-  back_is : (old new : State T P W) (msg : T) (priority : P) (reply : SendReply (T × P)) (handed : Handed W)
-      → Sends old (Does old handed new) ((msg, priority) ∷ []) (as_list reply) → IfErr reply (λ error. rest_of error ≡ (msg, priority))
-  back_is old new msg priority (Ok done) handed sends = tt
-  back_is old new msg priority (Err (Closed pair)) handed sends = last_one (msg, priority) pair [] (sym sends.1)
-  back_is old new msg priority (Err (Full pair)) handed sends = last_one (msg, priority) pair sends.0 sends.1
-  back_is old new msg priority (Err (Memory pair)) handed sends = last_one (msg, priority) pair sends.0 sends.1
+  tried_to : (own : C) (reply : S) (outcome : Outcome D L) (ending : Ending D L) → says reply ≡ outcome → Tried outcome ending
+      → IsCall told says polled own None (told own reply) ending
+  tried_to own reply outcome ending is tried = tries reply refl refl (subst (λ o. Tried o ending) (sym is) tried)
 
-  module _ (cmp : P → P → Ordering) (is_clone : W → W → Type 0) (capacity : ℕ) (is_reserved : Bool) (old new : Carried T P W) (who : ℕ) (msg : T) (priority : P) (handed : Handed W) where
-    -- what comes back of a send is its pair
-    pub tried_back : (reply : SendReply (T × P))
-        → IsTold cmp is_clone capacity is_reserved old (entry who (call.TrySend msg priority) (answer.TrySend reply) handed) new
-        → IfErr reply (λ error. rest_of error ≡ (msg, priority))
-    tried_back reply told =
-        let next = (told_step cmp is_clone capacity is_reserved old new _ told).1 in
-        back_is next.old next.new msg priority reply handed next.step.moves
+  module _ (call_of : L → C) where
+    -- a try that ends the wait
+    pub tried_last : (old new : Carried T P W) (own : C) (outcome end : Outcome D L) → Attempts old own outcome new → Tried outcome (ends end)
+        → ComesTo cmp is_clone capacity is_reserved call_of (IsCall told says polled) old own None (ends end) new
+    tried_last old new own outcome end attempt tried = at_last attempt.2 (tried_to own attempt.0 outcome (ends end) attempt.3 tried)
 
-    pub polled_back : (ticket : Option ℕ) (waker : W) (polled : SendPoll (T × P))
-        → IsTold cmp is_clone capacity is_reserved old (entry who (call.PollSend msg priority ticket waker) (answer.PollSend polled) handed) new
-        → IfSome (kept_by polled) (λ kept. kept ≡ (msg, priority))
-    polled_back ticket waker polled told =
-        let next = (told_step cmp is_clone capacity is_reserved old new _ told).1 in
-        let moves = next.step.moves in
-        kept_callable (λ kept. kept ≡ (msg, priority)) moves.reply moves.ticket polled (back_is next.old moves.mid msg priority moves.reply handed moves.tried) moves.answered
+    -- one after which it goes on
+    pub tried_first : (old mid new : Carried T P W) (own : C) (outcome : Outcome D L) (rest : L) (ending : Ending D L) → Attempts old own outcome mid → outcome ≡ Blocked rest
+        → ComesTo cmp is_clone capacity is_reserved call_of (IsCall told says polled) mid (call_of rest) None ending new
+        → ComesTo cmp is_clone capacity is_reserved call_of (IsCall told says polled) old own None ending new
+    tried_first old mid new own outcome rest ending attempt blocked more =
+        before attempt.2 (tried_to own attempt.0 outcome (left rest None) attempt.3 (blocked, refl)) more
 
--- a bulk send's try and its poll are calls of its wait
-module _ {T P Z W : Type 0} (cmp : P → P → Ordering) (is_clone : W → W → Type 0) (capacity : ℕ) (is_reserved : Bool) (old new : Carried T P W) (msgs : Items (T × P) Z) (handed : Handed W) where
-  pub tries_on : (ending : Items (T × P) Z → SendEnding (Items (T × P) Z)) (reply : SendReply (Items (T × P) Z))
-      (result : Result (SendEnd (Items (T × P) Z)) (Items (T × P) Z))
-      → Tells cmp is_clone capacity is_reserved old (call.TrySendv (list_in msgs)) (answer.TrySendv (listed reply)) handed new
-      → IfErr result (λ rest. Tried send_answer (λ blocked. Err (Full blocked)) reply (ending rest))
-      → IfErr result (λ rest. Makes cmp is_clone capacity is_reserved (SendvCalls msgs None) old (ending rest) new)
-  tries_on ending reply (Ok sent) told tried = tt
-  tries_on ending reply (Err rest) told tried = record {
-    made = call.TrySendv (list_in msgs);
-    reply = answer.TrySendv (listed reply);
-    handed = handed;
-    told = told;
-    comes = (refl, refl, (reply, refl, tried));
-  }
+    -- a try that was blocked, of a wait for which memory is refused
+    pub refused_last : (old new : Carried T P W) (own : C) (outcome : Outcome D L) (rest : L) → Attempts old own outcome new → outcome ≡ Blocked rest
+        → ComesTo cmp is_clone capacity is_reserved call_of (IsCall told says polled) old own None (ends (Memory rest)) new
+    refused_last old new own outcome rest attempt blocked = tried_last old new own outcome (Memory rest) attempt (inr (rest, blocked, refl))
 
-  pub polls_all : (ticket : Option ℕ) (waker : W) (polled : SendPoll (Items (T × P) Z)) (ending : SendEnding (Items (T × P) Z))
-      → Tells cmp is_clone capacity is_reserved old (call.PollSendv (list_in msgs) ticket waker) (answer.PollSendv (listed_poll polled)) handed new → ending ≡ polled_to polled
-      → Makes cmp is_clone capacity is_reserved (SendvCalls msgs ticket) old ending new
-  polls_all ticket waker polled ending told is = record {
-    made = call.PollSendv (list_in msgs) ticket waker;
-    reply = answer.PollSendv (listed_poll polled);
-    handed = handed;
-    told = told;
-    comes = (refl, refl, (polled, refl, is));
-  }
+    module _ {O : Type 0} (old new : Carried T P W) (own : C) (ticket : Option ℕ) (waker : W) (handed : Handed W) where
+      -- a poll that answers ends the wait
+      pub polled_last : (reply : CorePoll (Result D (Ended L O)) L) → Tells cmp is_clone capacity is_reserved old (polled own ticket waker (polled_to reply)) handed new
+          → IfOk (listed_as reply)
+          (λ answer. ComesTo cmp is_clone capacity is_reserved call_of (IsCall told says polled) old own ticket (ends (outcome_of_end answer)) new)
+      polled_last (Ready answer) tells = at_last tells (polls waker refl)
+      polled_last (Pending rest at) tells = tt
 
--- what comes back of a wait to send a pair is the pair
-module _ {T P W : Type 0} (cmp : P → P → Ordering) (is_clone : W → W → Type 0) (capacity : ℕ) (is_reserved : Bool) where
-  pub comes_back : {old new : Carried T P W} {pair : T × P} {ticket : Option ℕ} {ending : SendEnding (T × P)}
-      → ComesTo cmp is_clone capacity is_reserved SendCalls old pair ticket ending new → IsBack pair ending
-  comes_back (at_last made) = made.comes.0
-  comes_back {ending = ending} (before made more) = subst (λ (p : T × P). IsBack p ending) made.comes.0 (comes_back more)
-  comes_back (gave_up told more) = comes_back more
+      -- and one that lists is a call of it
+      pub polled_first : (can : C → Type 0) (leaves : L → Type 0) (reply : CorePoll (Result D (Ended L O)) L) → Tells cmp is_clone capacity is_reserved old (polled own ticket waker (polled_to reply)) handed new
+          → IfSome (left_after left_at_end reply) (λ rest. can (call_of rest) × leaves rest)
+          → IfErr (listed_as reply) (λ rest. can (call_of rest.0) × ((made : Told T P W) × (h : Handed W) × Tells cmp is_clone capacity is_reserved old made h new
+          × IsCall told says polled own ticket made (left rest.0 (Some rest.1))))
+      polled_first can leaves (Ready answer) tells rest = tt
+      polled_first can leaves (Pending rest at) tells gives = (gives.0, (polled own ticket waker (left rest (Some at)), handed, tells, polls waker refl))
 
-pub back_in_time : {Q : Type 0} (end : Result (SendEnd Q) Q) (pair : Q) → IsBack pair (ends end) → IfErr (send_result end) (λ error. unsent_in_time error ≡ pair)
-back_in_time (Ok (Ok done)) pair is = tt
-back_in_time (Ok (Err (fault.Closed e))) pair is = is
-back_in_time (Ok (Err (fault.Memory rest))) pair is = is
-back_in_time (Err rest) pair is = is
-
-module _ {T P W R X O : Type 0} (cmp : P → P → Ordering) (is_clone : W → W → Type 0) (capacity : ℕ) (is_reserved : Bool) (calls : X → Option ℕ → Calls T P W → Answers T P → Ending R X → Type 0)
-    (old new : Carried T P W) (own : X) (ticket : Option ℕ) where
-  -- a call that is the last
-  pub ok_last : (result : Result R O) → IfOk result (λ reply. Makes cmp is_clone capacity is_reserved (calls own ticket) old (ends (Ok reply)) new)
-      → IfOk result (λ reply. ComesTo cmp is_clone capacity is_reserved calls old own ticket (ends (Ok reply)) new)
-  ok_last (Ok reply) made = at_last made
-  ok_last (Err rest) made = tt
+-- what is left at the end of the rest of a wait is left at its end
+module _ {D L O : Type 0} (can then now : L → Type 0) (over : O → Type 0) where
+  pub left_later : (result : Result D (Ended L O)) → ((rest : L) → then rest → now rest)
+      → IfErr result (λ ended. can (given_back ended) × then (given_back ended) × OnOver ended over)
+      → IfErr result (λ ended. can (given_back ended) × now (given_back ended) × OnOver ended over)
+  left_later (Ok done) later rest = tt
+  left_later (Err ended) later rest = (rest.0, later (given_back ended) rest.1, rest.2)
 
 -- what a future gives, where it holds this
-module _ {T P W R X : Type 0} (cmp : P → P → Ordering) (is_clone : W → W → Type 0) (capacity : ℕ) (is_reserved : Bool) (calls : X → Option ℕ → Calls T P W → Answers T P → Ending R X → Type 0) (future : Underway (Carried T P W) X) (pass : Carried T P W) (own : X) where
-  pub gives_of : (given : R × Carried T P W) → future.holds ≡ Some (pass, own)
-      → ComesTo cmp is_clone capacity is_reserved calls pass own future.ticket (ends (Ok given.0)) given.1 → Gives cmp is_clone capacity is_reserved calls future given
+module _ {T P W : Type 0} (cmp : P → P → Ordering) (is_clone : W → W → Type 0) (capacity : ℕ) (is_reserved : Bool) {C D L : Type 0} (call_of : L → C)
+    (is_call : C → Option ℕ → Told T P W → Ending D L → Type 0) (future : Underway (Carried T P W) C) (pass : Carried T P W) (own : C) where
+  pub gives_of : (given : Result D (Ended L Infallible) × Carried T P W) → future.holds ≡ Some (pass, own)
+      → ComesTo cmp is_clone capacity is_reserved call_of is_call pass own future.ticket (ends (outcome_of_end given.0)) given.1
+      → Gives cmp is_clone capacity is_reserved call_of is_call future given
   gives_of given is comes = rw is comes
 
 pub if_held : {A : Type 0} (held : Option A) (x : A) (P : A → Type 0) → held ≡ Some x → P x → IfSome held P
@@ -104,13 +81,13 @@ if_held held x P is so = rw is so
 
 -- what is told after a call is told from before it
 module _ {T P W : Type 0} (cmp : P → P → Ordering) (is_clone : W → W → Type 0) (capacity : ℕ) (is_reserved : Bool) (old mid new : Carried T P W) where
-  told_later : (made last_made : Calls T P W) (reply last_reply : Answers T P) (handed last_handed : Handed W)
-      → Tells cmp is_clone capacity is_reserved old made reply handed mid
-      → IsTold cmp is_clone capacity is_reserved mid (entry mid.number last_made last_reply last_handed) new
-      → IsTold cmp is_clone capacity is_reserved old (entry old.number last_made last_reply last_handed) new
-  told_later made last_made reply last_reply handed last_handed first told =
+  told_later : (made last_made : Told T P W) (handed last_handed : Handed W)
+      → Tells cmp is_clone capacity is_reserved old made handed mid
+      → IsTold cmp is_clone capacity is_reserved mid (entry mid.number last_made last_handed) new
+      → IsTold cmp is_clone capacity is_reserved old (entry old.number last_made last_handed) new
+  told_later made last_made handed last_handed first told =
       let number = first.number in
-      let own : List (Entry T P W) = entry old.number made reply handed ∷ [] in
+      let own : List (Entry T P W) = entry old.number made handed ∷ [] in
       let between = first.told.between ++ own in
       let begun : mid.seen ≡ old.seen ++ between = first.told.seen ∙ append_assoc old.seen first.told.between own in
       record {
@@ -120,28 +97,25 @@ module _ {T P W : Type 0} (cmp : P → P → Ordering) (is_clone : W → W → T
         counted = told.counted;
       }
 
-module _ {T P W R X : Type 0} (cmp : P → P → Ordering) (is_clone : W → W → Type 0) (capacity : ℕ) (is_reserved : Bool) (calls : X → Option ℕ → Calls T P W → Answers T P → Ending R X → Type 0) where
-  abbrev LastTold : Carried T P W → Ending R X → Carried T P W → Type 0
+module _ {T P W : Type 0} (cmp : P → P → Ordering) (is_clone : W → W → Type 0) (capacity : ℕ) (is_reserved : Bool) {C D L : Type 0} (call_of : L → C)
+    (is_call : C → Option ℕ → Told T P W → Ending D L → Type 0) where
+  abbrev LastTold : Carried T P W → Ending D L → Carried T P W → Type 0
   LastTold old ending new =
-      (own : X) × (ticket : Option ℕ) × (made : Calls T P W) × (reply : Answers T P) × (handed : Handed W)
-      × IsTold cmp is_clone capacity is_reserved old (entry old.number made reply handed) new × calls own ticket made reply ending
+      (own : C) × (ticket : Option ℕ) × (made : Told T P W) × (handed : Handed W)
+      × IsTold cmp is_clone capacity is_reserved old (entry old.number made handed) new × is_call own ticket made ending
+
+  later_told : {old mid new : Carried T P W} {ending : Ending D L} {made : Told T P W} {handed : Handed W} → Tells cmp is_clone capacity is_reserved old made handed mid
+      → (new.number ≡ mid.number) × (mid.count < new.count) × LastTold mid ending new → (new.number ≡ old.number) × (old.count < new.count) × LastTold old ending new
+  later_told {old = old} {mid = mid} {new = new} {made = made} {handed = handed} tells later =
+      let last = later.2 in (
+        later.0 ∙ tells.number,
+        omega (arith, tells.counted, later.1),
+        (last.0, last.1, last.2, last.3, told_later cmp is_clone capacity is_reserved old mid new made last.2 handed last.3 tells last.4, last.5),
+      )
 
   -- a wait has made a call or more, and the pass was told of the last
-  pub last_told : {old new : Carried T P W} {own : X} {ticket : Option ℕ} {ending : Ending R X} → ComesTo cmp is_clone capacity is_reserved calls old own ticket ending new
+  pub last_told : {old new : Carried T P W} {own : C} {ticket : Option ℕ} {ending : Ending D L} → ComesTo cmp is_clone capacity is_reserved call_of is_call old own ticket ending new
       → (new.number ≡ old.number) × (old.count < new.count) × LastTold old ending new
-  last_told (at_last {own = own} {ticket = ticket} made) =
-      (made.told.number, omega (arith, made.told.counted), (own, ticket, made.made, made.reply, made.handed, made.told.told, made.comes))
-  last_told (before {old = old} {mid = mid} {new = new} made more) =
-      let later = last_told more in
-      let last = later.2 in (
-        later.0 ∙ made.told.number,
-        omega (arith, made.told.counted, later.1),
-        (last.0, last.1, last.2, last.3, last.4, told_later cmp is_clone capacity is_reserved old mid new made.made last.2 made.reply last.3 made.handed last.4 made.told last.5, last.6),
-      )
-  last_told (gave_up {old = old} {mid = mid} {new = new} told more) =
-      let later = last_told more in
-      let last = later.2 in (
-        later.0 ∙ told.number,
-        omega (arith, told.counted, later.1),
-        (last.0, last.1, last.2, last.3, last.4, told_later cmp is_clone capacity is_reserved old mid new _ last.2 _ last.3 _ last.4 told last.5, last.6),
-      )
+  last_told (at_last {own = own} {ticket = ticket} tells is) = (tells.number, omega (arith, tells.counted), (own, ticket, _, _, tells.told, is))
+  last_told (before tells is more) = later_told tells (last_told more)
+  last_told (gave_up tells more) = later_told tells (last_told more)

@@ -1,6 +1,5 @@
 pub mod History
 pub mod Items
-pub mod Tells
 pub mod Passes
-pub mod Waits
 pub mod Uses
+pub mod Waits

@@ -1,7 +1,8 @@
 -- What a pass carries, and what a call adds to it.
 use Rattle.std.specs.Prelude.{◌≡◌, ◌==◌, ◌≤◌, ℕ, Bool, true, not, ◌&&◌, List, [], ◌∷◌, ◌+◌, length, count_by, sum_by}
-use Rattle.priority_channel_witnessed.specs.declared.entry.Entry.{Entry}
-use Rattle.priority_channel_core.specs.Prelude.{Handed, Calls, Answers, Ordering}
+use Rattle.priority_channel_calls.specs.Told.{Told}
+use Rattle.priority_channel_core.specs.Prelude.{Handed, Ordering}
+use Rattle.priority_channel_witnessed.specs.declared.chronicle.Entry.{Entry}
 use Rattle.priority_channel_witnessed.specs.History.{entry, who_of, IsLegal}
 use Rattle.priority_channel_recorded.specs.chronicle.Passes as chronicle
 pub use Rattle.priority_channel_recorded.specs.chronicle.Passes.{AreNew, calls_made, AreApart}
@@ -56,8 +57,8 @@ IsTold cmp is_clone capacity is_reserved =
 
 -- one more call was made with the pass, under its number, and the pass has seen that call
 pub record Tells {T P W : Type 0} (cmp : P → P → Ordering) (is_clone : W → W → Type 0)
-    (capacity : ℕ) (is_reserved : Bool) (old : Carried T P W) (made : Calls T P W)
-    (reply : Answers T P) (handed : Handed W) (new : Carried T P W) : Type 0 where
+    (capacity : ℕ) (is_reserved : Bool) (old : Carried T P W) (made : Told T P W)
+    (handed : Handed W) (new : Carried T P W) : Type 0 where
   pub number : new.number ≡ old.number
   pub counted : new.count ≡ old.count + 1
-  pub told : IsTold cmp is_clone capacity is_reserved old (entry old.number made reply handed) new
+  pub told : IsTold cmp is_clone capacity is_reserved old (entry old.number made handed) new

@@ -1,9 +1,18 @@
 -- What a caller knows after its own call, whatever others do.
-use Rattle.std.specs.Prelude.{◌≡◌, ℕ, false, Bool, List, ◌++◌}
+use Rattle.std.specs.Prelude.{◌≡◌, ℕ, false, Bool, List, [], ◌++◌}
 use Rattle.priority_channel_core.specs.bag.Prelude.{TakesGreatest}
-use Rattle.priority_channel_core.specs.Prelude.{State, room, Ordering}
-use Rattle.priority_channel_witnessed.specs.declared.entry.Entry.{Entry}
-use Rattle.priority_channel_witnessed.specs.History.{IsHistory}
+use Rattle.priority_channel_core.specs.laws.Accepted.{Conserves}
+use Rattle.priority_channel_core.specs.Prelude.{State, Operation, room, Ordering}
+use Rattle.priority_channel_witnessed.specs.declared.chronicle.Entry.{Entry}
+use Rattle.priority_channel_witnessed.specs.History.{HasSteps, IsHistory}
+
+-- of the pairs that the calls of a history accepted, these are left, and each other one has gone
+-- out one way
+pub record IsBalanced {T P W : Type 0} (history : List (Entry T P W))
+    (left : List (T × P)) : Type 0 where
+  pub run : List (Operation T P W)
+  pub steps : HasSteps history run
+  pub balance : Conserves [] run left
 
 module _ {T P W : Type 0} (cmp : P → P → Ordering) (is_clone : W → W → Type 0) (capacity : ℕ)
     (is_reserved : Bool) where

@@ -1,145 +1,117 @@
 -- The calls that a wait makes, and how it ends.
-use Rattle.std.specs.Prelude.{◌≡◌, ℕ, Bool, Option, Some, None, Result, Ok, Err, IfErr, IfSome, IsSomeAnd}
-use Rattle.std.specs.Result.{result_map_both}
-use Rattle.priority_channel_core.specs.declared.errors.TryRecvError.TheVariants.{Empty}
-use Rattle.priority_channel_core.specs.declared.errors.TrySendError.TheVariants.{Full}
-use Rattle.priority_channel_core.specs.declared.calls.CorePoll.{CorePoll}
-use Rattle.priority_channel_core.specs.declared.calls.CorePoll.TheVariants.{Ready, Pending}
-use Rattle.priority_channel_core.specs.Prelude.{unsent, recv_answer, send_answer, Handed, nobody, Calls, Answers, Ordering, SendReply, SendEnd, RecvEnd, SendPoll}
+use Rattle.std.specs.Prelude.{◌≡◌, ◌⊎◌, ℕ, Bool, Option, Some, None, Result, Ok, Err, IfSome, IsSomeAnd}
+use Rattle.std.specs.declared.convert.Infallible.{Infallible}
 use Rattle.priority_channel_core.specs.declared.calls.Call.TheVariants as call
 use Rattle.priority_channel_core.specs.declared.calls.Answer.TheVariants as answer
-use Rattle.priority_channel_waiting.specs.declared.timeouts.RecvTimeoutError.{RecvTimeoutError}
-use Rattle.priority_channel_waiting.specs.declared.timeouts.RecvTimeoutError.TheVariants as recv_late
-use Rattle.priority_channel_waiting.specs.declared.timeouts.SendTimeoutError.{SendTimeoutError}
-use Rattle.priority_channel_waiting.specs.declared.timeouts.SendTimeoutError.TheVariants as send_late
-use Rattle.priority_channel_waiting.specs.Waits.{recv_fault_in_time, send_fault_in_time}
-use Rattle.priority_channel_witnessed.specs.Items.{Items, list_in, listed, listed_poll}
+use Rattle.priority_channel_core.specs.declared.calls.CorePoll.{CorePoll}
+use Rattle.priority_channel_core.specs.declared.calls.CorePoll.TheVariants.{Ready, Pending}
+use Rattle.priority_channel_core.specs.declared.errors.RecvFault.TheVariants as recv_fault
+use Rattle.priority_channel_core.specs.declared.errors.SendFault.TheVariants as send_fault
+use Rattle.priority_channel_core.specs.declared.side.Side.{Side}
+use Rattle.priority_channel_core.specs.declared.side.Side.TheVariants.{Room, Message}
+use Rattle.priority_channel_core.specs.Prelude.{Handed, Ordering, RecvPoll, SendPoll}
+use Rattle.priority_channel_calls.specs.Told.{Told}
+use Rattle.priority_channel_calls.specs.Told.Told.{Exactly}
+use Rattle.priority_channel_waiting.specs.declared.retry.Outcome.{Outcome}
+use Rattle.priority_channel_waiting.specs.declared.retry.Outcome.TheVariants.{Done, Blocked, Closed, Memory}
+use Rattle.priority_channel_waiting.specs.declared.timeouts.Ended.{Ended}
+use Rattle.priority_channel_waiting.specs.Waits.{outcome_of_end}
 use Rattle.priority_channel_witnessed.specs.Passes.{Carried, Tells}
 
--- A wait has ended: with its reply, or, if its time is over, with the work that is left. Or work is
--- left, and is listed under this ticket, if any.
-pub data Ending (R X : Type 0) : Type 0 where
-  ends : Result R X → Ending R X
-  left : X → Option ℕ → Ending R X
+-- A wait has ended, and its last call told this. Or this is left of the call, and is listed under
+-- this ticket, if any.
+pub data Ending (D L : Type 0) : Type 0 where
+  ends : Outcome D L → Ending D L
+  left : L → Option ℕ → Ending D L
 
--- what a send comes to: it gives back `K`, or goes on with it
-abbrev pub SendEnding : Type 0 → Type 0
-SendEnding K = Ending (SendEnd K) K
-
--- a future: its pass and the work that is left, until it has answered; its ticket, once listed; and
--- the source of its wakes
-pub record Underway (S X : Type 0) : Type 0 where
-  pub holds : Option (S × X)
+-- a future: its pass and its call, until it has answered; its ticket, once listed; and the source
+-- of its wakes
+pub record Underway (S C : Type 0) : Type 0 where
+  pub holds : Option (S × C)
   pub ticket : Option ℕ
   pub source : ℕ
 
--- the end of a wait, without the evidence that its time is over
-abbrev pub without_evidence : {R X O : Type 0} → Result R (X × O) → Result R X
-without_evidence result = result_map_both (λ reply. reply) (λ rest. rest.0) result
+-- of these two sources, the one that wakes the tasks that wait on this side
+abbrev pub source_of : Side → ℕ → ℕ → ℕ
+source_of Room room message = room
+source_of Message room message = message
 
--- what a receive with a time limit returns
-abbrev pub recv_result : {X C : Type 0} → Result (RecvEnd X) C → Result X RecvTimeoutError
-recv_result (Ok received) = result_map_both (λ pair. pair) recv_fault_in_time received
-recv_result (Err call) = Err recv_late.Timeout
-
--- what a send with a time limit returns
-abbrev pub send_result : {K : Type 0} → Result (SendEnd K) K
-    → Result (Unit {0}) (SendTimeoutError K)
-send_result (Ok sent) = result_map_both (λ done. done) send_fault_in_time sent
-send_result (Err rest) = Err (send_late.Timeout rest)
-
--- After a blocked try the time is over, the wait goes on, or memory for it is refused. Other tries
--- end the wait with their reply.
-abbrev pub Tried : {Q R X : Type 0} → (Q → Option ℕ → Option (CorePoll R X)) → (X → Q) → Q
-    → Ending R X → Type 0
-Tried polled blocked reply (ends (Ok told)) = polled reply None ≡ Some (Ready told)
-Tried polled blocked reply (ends (Err rest)) = reply ≡ blocked rest
-Tried polled blocked reply (left rest ticket) = (reply ≡ blocked rest) × (ticket ≡ None)
-
--- a poll ends the wait, or lists it
-abbrev pub polled_to : {R X : Type 0} → CorePoll R X → Ending R X
-polled_to (Ready reply) = ends (Ok reply)
+-- A poll answers, or lists.
+abbrev pub polled_to : {D L O : Type 0} → CorePoll (Result D (Ended L O)) L → Ending D L
+polled_to (Ready result) = ends (outcome_of_end result)
 polled_to (Pending rest at) = left rest (Some at)
 
--- a send gives back the message that it was given
-abbrev pub IsBack : {Q : Type 0} → Q → SendEnding Q → Type 0
-IsBack pair (ends (Ok sent)) = IfErr sent (λ fault. unsent fault ≡ pair)
-IsBack pair (ends (Err kept)) = kept ≡ pair
-IsBack pair (left kept ticket) = kept ≡ pair
+-- the same as a result, without a call
+abbrev pub listed_as : {X L : Type 0} → CorePoll X L → Result X (L × ℕ)
+listed_as (Ready answer) = Ok answer
+listed_as (Pending rest at) = Err (rest, at)
 
-module _ {T P W : Type 0} where
-  -- the calls of a receive: tries while it is not listed, and polls under its ticket
-  abbrev pub RecvCalls : Unit {0} → Option ℕ → Calls T P W → Answers T P
-      → Ending (RecvEnd (T × P)) (Unit {0}) → Type 0
-  RecvCalls nothing ticket call.TryRecv (answer.TryRecv reply) ending =
-      (ticket ≡ None) × Tried recv_answer (λ rest. Err Empty) reply ending
-  RecvCalls nothing ticket (call.PollRecv given waker) (answer.PollRecv polled) ending =
-      (given ≡ ticket) × (ending ≡ polled_to polled)
-  RecvCalls nothing ticket made reply ending = ⊥
+-- what the core answers to a poll of a receive and of a send that ends so
+abbrev pub recv_polled : {X : Type 0} → Ending X (Unit {0}) → RecvPoll X
+recv_polled (ends (Done pair)) = Ready (Ok pair)
+recv_polled (ends (Closed rest)) = Ready (Err (recv_fault.Closed (record {})))
+recv_polled (ends (Memory rest)) = Ready (Err recv_fault.Memory)
+recv_polled (ends (Blocked rest)) = Ready (Err recv_fault.Memory)
+recv_polled (left rest (Some at)) = Pending tt at
+recv_polled (left rest None) = Ready (Err recv_fault.Memory)
 
-  -- the calls of a send of this pair
-  abbrev pub SendMade : T × P → Option ℕ → Calls T P W → Answers T P → SendEnding (T × P) → Type 0
-  SendMade pair ticket (call.TrySend msg priority) (answer.TrySend reply) ending =
-      (ticket ≡ None) × ((msg, priority) ≡ pair)
-      × Tried send_answer (λ rest. Err (Full rest)) reply ending
-  SendMade pair ticket (call.PollSend msg priority given waker) (answer.PollSend polled) ending =
-      (given ≡ ticket) × ((msg, priority) ≡ pair) × (ending ≡ polled_to polled)
-  SendMade pair ticket made reply ending = ⊥
+abbrev pub send_polled : {K : Type 0} → Ending (Unit {0}) K → SendPoll K
+send_polled (ends (Done done)) = Ready (Ok done)
+send_polled (ends (Closed rest)) = Ready (Err (send_fault.Closed (record { 0 = rest })))
+send_polled (ends (Memory rest)) = Ready (Err (send_fault.Memory rest))
+send_polled (ends (Blocked rest)) = Ready (Err (send_fault.Memory rest))
+send_polled (left rest (Some at)) = Pending rest at
+send_polled (left rest None) = Ready (Err (send_fault.Memory rest))
 
-  abbrev pub SendCalls : T × P → Option ℕ → Calls T P W → Answers T P → SendEnding (T × P)
-      → Type 0
-  SendCalls pair ticket made reply ending =
-      IsBack pair ending × SendMade pair ticket made reply ending
+-- A try ends the wait with what it told. After a blocked one the time may be over, memory for
+-- waiting may be refused, or the wait goes on.
+abbrev pub Tried : {D L : Type 0} → Outcome D L → Ending D L → Type 0
+Tried {D} {L} told (ends end) =
+    (told ≡ end) ⊎ ((rest : L) × (told ≡ Blocked rest) × (end ≡ Memory rest))
+Tried told (left rest ticket) = (told ≡ Blocked rest) × (ticket ≡ None)
 
-  -- the calls of a bulk send of these pairs
-  abbrev pub SendvCalls : {Z : Type 0} → Items (T × P) Z → Option ℕ → Calls T P W → Answers T P
-      → SendEnding (Items (T × P) Z) → Type 0
-  SendvCalls {Z} msgs ticket (call.TrySendv pairs) (answer.TrySendv reply) ending =
-      (ticket ≡ None) × (pairs ≡ list_in msgs)
-      × ((known : SendReply (Items (T × P) Z)) × (reply ≡ listed known)
-      × Tried send_answer (λ rest. Err (Full rest)) known ending)
-  SendvCalls {Z} msgs ticket (call.PollSendv pairs given waker) (answer.PollSendv polled) ending =
-      (given ≡ ticket) × (pairs ≡ list_in msgs)
-      × ((known : SendPoll (Items (T × P) Z)) × (polled ≡ listed_poll known)
-      × (ending ≡ polled_to known))
-  SendvCalls msgs ticket made reply ending = ⊥
+module _ {T P W C S D L : Type 0} (told : C → S → Told T P W) (says : S → Outcome D L)
+    (polled : C → Option ℕ → W → Ending D L → Told T P W) where
+  -- a call that a wait makes: a try while it is not listed, or a poll under its ticket
+  pub data IsCall (own : C) (ticket : Option ℕ) (made : Told T P W) (ending : Ending D L)
+      : Type 0 where
+    tries : (reply : S) → made ≡ told own reply → ticket ≡ None → Tried (says reply) ending
+        → IsCall own ticket made ending
+    polls : (waker : W) → made ≡ polled own ticket waker ending → IsCall own ticket made ending
 
 module _ {T P W : Type 0} (cmp : P → P → Ordering) (is_clone : W → W → Type 0) (capacity : ℕ)
-    (is_reserved : Bool) where
-  -- the pass made one more call, with this result
-  pub record Makes {E : Type 0} (comes_to : Calls T P W → Answers T P → E → Type 0)
-      (old : Carried T P W) (ending : E) (new : Carried T P W) : Type 0 where
-    pub made : Calls T P W
-    pub reply : Answers T P
-    pub handed : Handed W
-    pub told : Tells cmp is_clone capacity is_reserved old made reply handed new
-    pub comes : comes_to made reply ending
+    (is_reserved : Bool) {C D L : Type 0} (call_of : L → C)
+    (is_call : C → Option ℕ → Told T P W → Ending D L → Type 0) where
+  -- The calls of a wait: each takes up what the one before it left, and the last one ends it so.
+  -- Only a wait that ends gives up its ticket.
+  pub data ComesTo : Carried T P W → C → Option ℕ → Ending D L → Carried T P W → Type 0 where
+    at_last : {old new : Carried T P W} {own : C} {ticket : Option ℕ} {ending : Ending D L}
+        {made : Told T P W} {handed : Handed W}
+        → Tells cmp is_clone capacity is_reserved old made handed new
+        → is_call own ticket made ending
+        → ComesTo old own ticket ending new
+    before : {old mid new : Carried T P W} {own : C} {rest : L} {ticket listed : Option ℕ}
+        {ending : Ending D L} {made : Told T P W} {handed : Handed W}
+        → Tells cmp is_clone capacity is_reserved old made handed mid
+        → is_call own ticket made (left rest listed)
+        → ComesTo mid (call_of rest) listed ending new
+        → ComesTo old own ticket ending new
+    gave_up : {old mid new : Carried T P W} {own : C} {ticket : ℕ} {end : Outcome D L}
+        {handed : Handed W}
+        → Tells cmp is_clone capacity is_reserved old
+        (Exactly (call.GiveUp ticket) answer.GiveUp) handed mid
+        → ComesTo mid own None (ends end) new
+        → ComesTo old own (Some ticket) (ends end) new
 
-  module _ {R X : Type 0}
-      (calls : X → Option ℕ → Calls T P W → Answers T P → Ending R X → Type 0) where
-    -- The calls of a wait: each takes up the work that the one before it left, and the last one has
-    -- this result. Only a wait that ends gives up its ticket.
-    pub data ComesTo : Carried T P W → X → Option ℕ → Ending R X → Carried T P W → Type 0 where
-      at_last : {old new : Carried T P W} {own : X} {ticket : Option ℕ} {ending : Ending R X}
-          → Makes (calls own ticket) old ending new
-          → ComesTo old own ticket ending new
-      before : {old mid new : Carried T P W} {own rest : X} {ticket listed : Option ℕ}
-          {ending : Ending R X} → Makes (calls own ticket) old (left rest listed) mid
-          → ComesTo mid rest listed ending new
-          → ComesTo old own ticket ending new
-      gave_up : {old mid new : Carried T P W} {own : X} {ticket : ℕ} {end : Result R X}
-          → Tells cmp is_clone capacity is_reserved old (call.GiveUp ticket) answer.GiveUp nobody
-          mid
-          → ComesTo mid own None (ends end) new
-          → ComesTo old own (Some ticket) (ends end) new
+  -- what a future returns: its answer, and its pass
+  abbrev pub Gives : Underway (Carried T P W) C
+      → Result D (Ended L Infallible) × Carried T P W → Type 0
+  Gives future given = IsSomeAnd future.holds
+      (λ held. ComesTo held.0 held.1 future.ticket (ends (outcome_of_end given.0)) given.1)
 
-    -- what a future returns: a reply, and its pass
-    abbrev pub Gives : Underway (Carried T P W) X → R × Carried T P W → Type 0
-    Gives future given = IsSomeAnd future.holds
-        (λ held. ComesTo held.0 held.1 future.ticket (ends (Ok given.0)) given.1)
-
-    -- it is listed, with its pass and the work that is left
-    abbrev pub WaitsOn : Underway (Carried T P W) X → Underway (Carried T P W) X → Type 0
-    WaitsOn old new = IfSome old.holds (λ before. IsSomeAnd new.holds (λ after.
-        IsSomeAnd new.ticket
-        (λ at. ComesTo before.0 before.1 old.ticket (left after.1 (Some at)) after.0)))
+  -- it is listed, with its pass and what is left of its call
+  abbrev pub WaitsOn : Underway (Carried T P W) C → Underway (Carried T P W) C → Type 0
+  WaitsOn old new = IfSome old.holds (λ before. IsSomeAnd new.holds (λ after. (rest : L)
+      × (after.1 ≡ call_of rest)
+      × IsSomeAnd new.ticket
+      (λ at. ComesTo before.0 before.1 old.ticket (left rest (Some at)) after.0)))

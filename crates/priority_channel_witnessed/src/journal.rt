@@ -1,20 +1,18 @@
 //! What is kept of the history under the lock.
 ghost use Rattle.std.specs.Prelude.{◌≡◌, ◌+◌, ◌<◌, [], ◌∷◌, ◌++◌, length, vec_len, All, IfOk, IfErr, IfSome};
 ghost use mathlib.Core.List.{IsPrefix};
-ghost use Rattle.priority_channel_core.specs.Prelude.{State, Step};
+ghost use Rattle.priority_channel_calls.specs.Told.{Makes};
+ghost use Rattle.priority_channel_core.specs.Prelude.{State};
 ghost use Rattle.priority_channel_witnessed.specs.History.{IsHistory};
 ghost use Rattle.priority_channel_witnessed.specs.Passes.{calls_of, calls_made, calls_of_others, AreApart, Accounts, AreGiven, Tells};
-ghost use Rattle.priority_channel_witnessed.specs.Tells.{made_of, handed_told};
 
-use crate::chronicle::{Calls, Log, Pass, Seen};
-use crate::entry::{Telling, Told};
+use crate::chronicle::{Calls, Log, Pass, Seen, Telling};
 use crate::numbers::{strike, strike_all};
-use priority_channel_core::awaitable_atomics::Wakes;
+use priority_channel_calls::call::CoreCall;
 use priority_channel_core::channel::PriorityQueueChannel;
 use priority_channel_recorded::chronicle::{Recording, wait_forever};
 use std::alloc::Allocator;
 use std::marker::Model;
-use std::snapshot::Snapshot;
 use std::sync::Wait;
 use std::sync::ledger::Share;
 
@@ -32,7 +30,7 @@ pub(crate) struct Journal<T, P: Ord, W: Clone, J: Recording, A: Allocator> {
 
 impl<T, P: Ord, W: Clone, J: Recording, A: Allocator> Model for Journal<T, P, W, J, A> {
     ghost use Rattle.std.specs.Prelude.{◌≡◌, ◌+◌, List, vec_len};
-    ghost use Rattle.priority_channel_witnessed.specs.declared.entry.Entry.{Entry};
+    ghost use Rattle.priority_channel_witnessed.specs.declared.chronicle.Entry.{Entry};
     ghost use Rattle.priority_channel_witnessed.specs.Passes.{AreGiven, IsShared};
 
     ghost Value = { List (Entry T P W) };
@@ -43,7 +41,7 @@ impl<T, P: Ord, W: Clone, J: Recording, A: Allocator> Model for Journal<T, P, W,
         × AreGiven j.out.items j.next × IsShared j.out.items j.next j.rest.amount j.made };
 }
 
-impl<T, P: Ord, W: Clone, J: Recording, A: Allocator> Journal<T, P, W, J, A> {
+impl<T, P: Ord, W: Clone, J: Recording, A: Allocator + Copy> Journal<T, P, W, J, A> {
     /// The journal of a channel without calls, with these passes.
     #[tactic(auto, using(crate::proofs::Leaving::shared_none))]
     pub(crate) fn new(
@@ -104,29 +102,28 @@ impl<T, P: Ord, W: Clone, J: Recording, A: Allocator> Journal<T, P, W, J, A> {
 
     /// Enters a call of the pass, which led from the state at the end of the history to the core's
     /// state.
-    #[tactic(auto, using(crate::proofs::Histories::legal_of, crate::proofs::Leaving::shared_more))]
-    pub(crate) fn enter<R: Wait>(
+    #[tactic(auto, using(crate::proofs::Histories::history_more, crate::proofs::Histories::legal_of, crate::proofs::Leaving::shared_more))]
+    pub(crate) fn enter<R: Wait, C: CoreCall<T, P, W, A>>(
         &mut self,
         rt: &R,
         log: &Log<T, P, W, J>,
         core: &PriorityQueueChannel<T, P, W, A>,
         pass: &mut Pass<T, P, W, J>,
-        told: Told<T, P, W, A>,
-        handed: Option<Snapshot<Wakes<W, A>>>,
+        telling: &Telling<T, P, W, A, C>,
     )
-        requires step { (before : State T P W)
+        requires who { telling.now.who ≡ pass.old.number }
+        requires made { (before : State T P W)
             × IsHistory P.cmp W.is_clone J.capacity J.is_reserved self.old before
-            × Step P.cmp W.is_clone before (made_of told).0 (made_of told).1
-            (handed_told handed) core.now.state }
+            × Makes P.cmp W.is_clone before (C.told telling.now.made.value telling.now.said.value)
+            telling.now.handed.value core.now.state }
         ensures leads { IsHistory P.cmp W.is_clone J.capacity J.is_reserved self.new
             core.now.state }
         ensures told { Tells P.cmp W.is_clone J.capacity J.is_reserved pass.old
-            (made_of told).0 (made_of told).1 (handed_told handed) pass.new }
+            (C.told telling.now.made.value telling.now.said.value) telling.now.handed.value
+            pass.new }
     {
-        let who = pass.number();
-        await_given(rt, who, self.next);
-        let telling = Telling { who, told, handed };
-        self.made.enter(rt, log, pass, &telling);
+        await_given(rt, telling.who, self.next);
+        self.made.enter(rt, log, pass, telling);
     }
 
     /// The whole history, once all passes have come back.

@@ -1,43 +1,25 @@
 //! A channel whose calls many threads make.
 ghost use Rattle.std.specs.Prelude.{◌≡◌, ◌+◌, ◌≤◌, [], length, vec_len, All, IfOk, IfErr, IfSome};
 ghost use mathlib.Core.List.{IsPrefix};
-ghost use Rattle.priority_channel_core.specs.Prelude.{opening, nobody};
+ghost use Rattle.priority_channel_core.specs.Prelude.{opening};
 ghost use Rattle.priority_channel_witnessed.specs.History.{IsHistory, IsLegal};
 ghost use Rattle.priority_channel_recorded.specs.chronicle.Log.{names};
 ghost use Rattle.priority_channel_witnessed.specs.Passes.{calls_of, calls_made, calls_of_others, AreNew, AreApart, Accounts, Tells};
 
-use crate::chronicle::{Fresh, Log, Pass, Seen};
-use crate::entry::Told;
+use crate::chronicle::{Fresh, Log, Pass, Seen, Telling};
 use crate::journal::Journal;
 use crate::kept::Kept;
 use crate::numbers::first_numbers;
 use futures::task::Source;
+use priority_channel_calls::call::CoreCall;
 use priority_channel_core::awaitable_atomics::Wakes;
-use priority_channel_core::calls::{Answer, Call};
 use priority_channel_core::channel::PriorityQueueChannel;
-use priority_channel_core::errors::{TryRecvError, TrySendError};
 use priority_channel_recorded::chronicle::Recording;
 use std::alloc::{AllocError, Allocator, Global};
+use std::marker::PhantomData;
 use std::snapshot::Snapshot;
 use std::sync::{Mutex, Wait};
 
-// Calls the core and enters the call, in one hold of the lock. The entry has the arguments, as
-// `$kept`, and the answer.
-macro_rules! call {
-    ($channel:ident, $rt:ident, $pass:ident; $call:ident($($given:expr),*)
-        => $told:ident($($kept:expr),*)) => {{
-        let kept = &mut *$channel.kept.lock($rt);
-        let (answer, wakes) = kept.core.$call($($given),*);
-        let told = Told::$told($($kept,)* Snapshot::of(&answer));
-        let handed = Some(Snapshot::of(&wakes));
-        kept.journal.enter($rt, &$channel.log, &kept.core, $pass, told, handed);
-        (answer, wakes)
-    }};
-}
-
-mod bulk;
-mod looks;
-mod polls;
 mod waits;
 
 /// A channel that many threads call, each with its pass.
@@ -70,7 +52,7 @@ mod waits;
 ///     let core = PriorityQueueChannel::bounded(alloc, 4);
 ///     let (channel, mut passes) = Witnessed::<u64, u8, (), J>::new(alloc, fresh, core, 2)?;
 ///     for pass in passes.iter_mut() {
-///         let (_sent, wakes) = channel.try_send(rt, pass, pass.number(), 0);
+///         let (_sent, wakes) = channel.call(rt, pass, TrySend { msg: pass.number(), priority: 0 });
 ///         let (_for_room, _for_message) = wakes.into_lists();
 ///     }
 ///     let (core, _seen) = channel.end(rt, passes);
@@ -137,61 +119,36 @@ impl<T: Drop, P: Ord + Drop, W: Clone + Drop, J: Recording, A: Allocator + Copy>
 }
 
 impl<T, P: Ord, W: Clone, J: Recording, A: Allocator + Copy> Witnessed<T, P, W, J, A> {
-    /// Sends a pair, if the channel is open and has room. A refused pair comes back. `Closed` is
-    /// checked before `Full`, and `Full` before `Memory`.
-    pub fn try_send<R: Wait>(
+    /// Makes a call of `priority_channel_calls`, in one hold of the channel's lock. It returns the
+    /// call's answer, and the waiters to wake once the lock is free.
+    ///
+    /// ```
+    /// let (sent, wakes) = channel.call(rt, pass, TrySend { msg: "Foo", priority: 0 });
+    /// ```
+    pub fn call<C: CoreCall<T, P, W, A>, R: Wait>(
         &self,
         rt: &R,
         pass: &mut Pass<T, P, W, J>,
-        msg: T,
-        priority: P,
-    ) -> (Result<(), TrySendError<(T, P)>>, Wakes<W, A>)
-        ensures { Tells P.cmp W.is_clone J.capacity J.is_reserved pass.old
-            (Call.TrySend msg priority) (Answer.TrySend result.0) result.1 pass.new }
+        call: C,
+    ) -> (C::Answer, Wakes<W, A>)
+        requires { C.can_make call }
+        ensures told { Tells P.cmp W.is_clone J.capacity J.is_reserved pass.old
+            (C.told call result.0) result.1 pass.new }
+        ensures gives { C.gives call result.0 }
     {
-        let (kept_msg, kept_priority) = (Snapshot::of(&msg), Snapshot::of(&priority));
-        call!(self, rt, pass; try_send(msg, priority) => TrySend(kept_msg, kept_priority))
-    }
-
-    /// Sends a pair. If the channel is full, the pair takes the place of the pending pair of least
-    /// priority (among equals the one accepted last), if its own priority is greater. The displaced
-    /// pair comes back. Otherwise the new pair comes back, as `Full`.
-    pub fn try_send_evicting<R: Wait>(
-        &self,
-        rt: &R,
-        pass: &mut Pass<T, P, W, J>,
-        msg: T,
-        priority: P,
-    ) -> (Result<Option<(T, P)>, TrySendError<(T, P)>>, Wakes<W, A>)
-        ensures { Tells P.cmp W.is_clone J.capacity J.is_reserved pass.old
-            (Call.TrySendEvicting msg priority)
-            (Answer.TrySendEvicting result.0) result.1 pass.new }
-    {
-        let (kept_msg, kept_priority) = (Snapshot::of(&msg), Snapshot::of(&priority));
-        call!(self, rt, pass; try_send_evicting(msg, priority)
-            => TrySendEvicting(kept_msg, kept_priority))
-    }
-
-    /// Receives the pending pair of greatest priority, and among equals the one accepted first,
-    /// also from a closed channel.
-    pub fn try_recv<R: Wait>(
-        &self,
-        rt: &R,
-        pass: &mut Pass<T, P, W, J>,
-    ) -> (Result<(T, P), TryRecvError>, Wakes<W, A>)
-        ensures { Tells P.cmp W.is_clone J.capacity J.is_reserved pass.old
-            Call.TryRecv (Answer.TryRecv result.0) result.1 pass.new }
-    {
-        call!(self, rt, pass; try_recv() => TryRecv())
-    }
-
-    /// Closes the channel for good, and returns whether it was open. Pending pairs can still be
-    /// received.
-    pub fn close<R: Wait>(&self, rt: &R, pass: &mut Pass<T, P, W, J>) -> (bool, Wakes<W, A>)
-        ensures { Tells P.cmp W.is_clone J.capacity J.is_reserved pass.old
-            Call.Close (Answer.Close result.0) result.1 pass.new }
-    {
-        call!(self, rt, pass; close() => Close())
+        let kept = &mut *self.kept.lock(rt);
+        let made = Snapshot::of(&call);
+        let (answer, wakes) = call.make_on(&mut kept.core);
+        let telling: Telling<T, P, W, A, C> = Telling {
+            who: pass.number(),
+            made,
+            said: Snapshot::of(&answer),
+            handed: Snapshot::of(&wakes),
+            of: PhantomData,
+        };
+        kept.journal
+            .enter(rt, &self.log, &kept.core, pass, &telling);
+        (answer, wakes)
     }
 
     /// Afterwards both passes have seen what either had seen, and the history as it is. It takes no

@@ -1,7 +1,6 @@
 //! The end of a channel, with its balance.
-ghost use Rattle.std.specs.Prelude.{◌≡◌, [], map, vec_len, IfOk, IfErr};
-ghost use Rattle.priority_channel_core.specs.laws.Accepted.{Conserves};
-ghost use Rattle.priority_channel_witnessed.specs.History.{operation_of};
+ghost use Rattle.std.specs.Prelude.{◌≡◌, vec_len, IfOk, IfErr};
+ghost use Rattle.priority_channel_witnessed.specs.Uses.{IsBalanced};
 
 use crate::{Pass, Recording, Seen, Witnessed};
 use priority_channel_core::channel::PriorityQueueChannel;
@@ -16,7 +15,7 @@ pub fn settle<T, P: Ord, W: Clone, J: Recording, A: Allocator + Copy, R: Wait>(
     passes: Vec<Pass<T, P, W, J>, A>,
 ) -> (PriorityQueueChannel<T, P, W, A>, Seen<T, P, W, J>)
     requires all { vec_len passes ≡ J.parts }
-    ensures balanced { Conserves [] (map operation_of result.1) result.0.state.pending }
+    ensures balanced { IsBalanced result.1 result.0.state.pending }
 {
     channel.end(rt, passes)
 }
@@ -31,8 +30,7 @@ pub fn try_settle<T, P: Ord, W: Clone, J: Recording, A: Allocator + Copy, R: Wai
     (PriorityQueueChannel<T, P, W, A>, Seen<T, P, W, J>),
     (Witnessed<T, P, W, J, A>, Vec<Pass<T, P, W, J>, A>),
 >
-    ensures balanced { IfOk result
-        (λ ended. Conserves [] (map operation_of ended.1) ended.0.state.pending) }
+    ensures balanced { IfOk result (λ ended. IsBalanced ended.1 ended.0.state.pending) }
     ensures back { IfErr result (λ back. back.1 ≡ passes) }
 {
     channel.try_end(rt, passes)

@@ -4,6 +4,7 @@ ghost use Rattle.priority_channel_core.specs.Prelude.{OnFull};
 ghost use Rattle.priority_channel_witnessed.specs.Uses.{WasFull};
 
 use crate::{Pass, Recording, Witnessed};
+use priority_channel_calls::sends::TrySend;
 use priority_channel_core::errors::TrySendError;
 use std::alloc::Allocator;
 use std::sync::Wait;
@@ -19,7 +20,14 @@ pub fn accept<T, P: Ord, W: Clone + Drop, J: Recording, A: Allocator + Copy, R: 
     ensures busy { OnFull result
         (WasFull P.cmp W.is_clone J.capacity J.is_reserved pass.old.seen) }
 {
-    let (answer, wakes) = requests.try_send(rt, pass, request, urgency);
+    let (answer, wakes) = requests.call(
+        rt,
+        pass,
+        TrySend {
+            msg: request,
+            priority: urgency,
+        },
+    );
     let (_for_room, _for_message) = wakes.into_lists();
     answer
 }

@@ -3,6 +3,7 @@ ghost use Rattle.std.specs.Prelude.{◌≡◌, IfOk};
 ghost use Rattle.priority_channel_witnessed.specs.Uses.{WasMostUrgent};
 
 use crate::{Pass, Recording, Witnessed};
+use priority_channel_calls::receives::TryRecv;
 use priority_channel_core::errors::TryRecvError;
 use std::alloc::Allocator;
 use std::sync::Wait;
@@ -16,7 +17,7 @@ pub fn take<T, P: Ord, W: Clone + Drop, J: Recording, A: Allocator + Copy, R: Wa
     ensures urgent { IfOk result
         (WasMostUrgent P.cmp W.is_clone J.capacity J.is_reserved pass.old.seen) }
 {
-    let (job, wakes) = jobs.try_recv(rt, pass);
+    let (job, wakes) = jobs.call(rt, pass, TryRecv);
     let (_for_room, _for_message) = wakes.into_lists();
     job
 }

@@ -1,10 +1,9 @@
-//! Calls that wait on their thread, without a limit or for a limited time.
+//! Calls that wait on their thread.
 //!
 //! The thread first tries. If the try is blocked, a poll lists the thread, which sleeps, and polls
 //! again under its ticket when it is woken, until a poll is ready. Each try and each poll is a call
 //! of the history. The waiters that it lets go on are woken once the lock is free. When its time is
-//! over, the thread gives up its ticket and tries a last time: `Timeout` is returned only if that
-//! try found nothing.
+//! over, the thread gives up its ticket and tries a last time.
 //!
 //! No wake is lost. While a message is pending, no receiver is listed, since the call that sent it
 //! woke all of them. So a receiver that gives up takes no wake from another. If it had been woken,
@@ -14,117 +13,150 @@
 //! The wakers that a call returns cannot be dropped, so a body that forgets to wake them does not
 //! compile. Contracts do not say that a wake arrives, nor how long a wait takes: tests show both. A
 //! thread that waits takes memory for its waiter and for its entry in the list.
-ghost use Rattle.std.specs.Prelude.{◌≡◌, Some, None, Ok, IfOk, IfErr};
+ghost use Rattle.std.specs.Prelude.{◌≡◌, Some, None, IfErr, IfSome};
+ghost use Rattle.priority_channel_waiting.specs.Ends.{OnOver};
+ghost use Rattle.priority_channel_waiting.specs.Waits.{given_back, left_over, outcome_of_end};
 ghost use Rattle.priority_channel_witnessed.specs.Passes.{Tells};
-ghost use Rattle.priority_channel_witnessed.specs.Waits.{ends, without_evidence, recv_result, send_result, ComesTo};
+ghost use Rattle.priority_channel_witnessed.specs.Waits.{ends, ComesTo, IsCall};
 
-use crate::attempt::Attempt;
+use crate::awaited::{Awaited, PollOf};
 use crate::chronicle::Pass;
 use crate::witnessed::Witnessed;
-use priority_channel_core::errors::{RecvFault, SendFault};
+use priority_channel_calls::call::CoreCall;
+use priority_channel_calls::waits::GiveUp;
+use priority_channel_core::calls::CorePoll;
 use priority_channel_recorded::chronicle::Recording;
-use priority_channel_waiting::timeouts::{RecvTimeoutError, SendTimeoutError};
+use priority_channel_waiting::retry::Outcome;
+use priority_channel_waiting::timeouts::Ended;
 use priority_channel_waiting::until::Until;
-use priority_channel_waiting::waiter::Waiter;
+use priority_channel_waiting::waiter::{Waiter, wake_all};
 use std::alloc::Allocator;
+use std::convert::Infallible;
 use std::sync::{Wait, WaitMethods};
 
-mod recv;
-mod send;
-mod sendv;
-
-// What a receive with a limit returns.
-fn received_in_time<X, C: Drop, O: Drop>(
-    waited: Result<Result<X, RecvFault>, (C, O)>,
-) -> Result<X, RecvTimeoutError>
-    ensures { result ≡ recv_result (without_evidence waited) }
+// The answer of a poll, as one of a wait with a limit.
+#[tactic(auto, using(priority_channel_waiting::proofs::Ends::not_over))]
+fn in_time<D, L, O>(answer: Result<D, Ended<L, Infallible>>) -> Result<D, Ended<L, O>>
+    ensures same { outcome_of_end result ≡ outcome_of_end answer }
+    ensures not_over { IfErr result (λ ended. OnOver ended (λ _. ⊥)) }
 {
-    match waited {
-        Ok(received) => Ok(received?),
-        Err(_) => Err(RecvTimeoutError::Timeout),
-    }
-}
-
-// What a send with a limit returns.
-fn sent_in_time<K, O: Drop>(
-    waited: Result<Result<(), SendFault<K>>, (K, O)>,
-) -> Result<(), SendTimeoutError<K>>
-    ensures { result ≡ send_result (without_evidence waited) }
-{
-    match waited {
-        Ok(sent) => Ok(sent?),
-        Err((rest, _over)) => Err(SendTimeoutError::Timeout(rest)),
+    match answer {
+        Ok(done) => Ok(done),
+        Err(Ended::Over(_left, never)) => match never {},
+        Err(Ended::Closed(left)) => Err(Ended::Closed(left)),
+        Err(Ended::Memory(left)) => Err(Ended::Memory(left)),
     }
 }
 
 impl<T, P: Ord, J: Recording, A: Allocator + Copy> Witnessed<T, P, Waiter<A>, J, A> {
-    // Tries at once, and waits if that is blocked and the time is not over.
-    fn wait<C: Attempt<T, P, Waiter<A>, J, A>, R: Wait, U: Until>(
+    /// Makes a call, as `call`, and wakes the waiters that it lets go on.
+    pub fn make<C: CoreCall<T, P, Waiter<A>, A>, R: Wait>(
+        &self,
+        rt: &R,
+        pass: &mut Pass<T, P, Waiter<A>, J>,
+        call: C,
+    ) -> C::Answer
+        requires { C.can_make call }
+        ensures told { (handed : _) × Tells P.cmp ⟦<Waiter<A> as Clone>⟧.is_clone J.capacity
+            J.is_reserved pass.old (C.told call result) handed pass.new }
+        ensures gives { C.gives call result }
+    {
+        let (answer, wakes) = self.call(rt, pass, call);
+        wake_all(rt, wakes);
+        answer
+    }
+
+    /// Makes a call again until it is done or refused, or the time is over. Meanwhile the thread
+    /// sleeps. What is left of a call that was not done comes back.
+    ///
+    /// `Over` is returned only if the clock was read at or past the deadline, or cannot be read,
+    /// and the last call was blocked. `Memory` is returned also if memory for waiting is refused.
+    ///
+    /// ```
+    /// let Ok((msg, priority)) = channel.wait(rt, pass, TryRecv, &Endless) else {
+    ///     return Err(Closed);
+    /// };
+    /// let limit = Deadline::after(rt, Duration::from_millis(5));
+    /// let sent = channel.wait(rt, pass, TrySend { msg, priority }, &limit);
+    /// ```
+    pub fn wait<C: Awaited<T, P, Waiter<A>, A>, R: Wait, U: Until>(
         &self,
         rt: &R,
         pass: &mut Pass<T, P, Waiter<A>, J>,
         call: C,
         until: &U,
-    ) -> Result<C::Reply, (C, U::Over)>
-        ensures { ComesTo P.cmp ⟦<Waiter<A> as Clone>⟧.is_clone J.capacity J.is_reserved C.calls
-            pass.old call None (ends (without_evidence result)) pass.new }
+    ) -> Result<C::Done, Ended<C::Left, U::Over>>
+        requires { C.can_make call }
+        ensures told { ComesTo P.cmp ⟦<Waiter<A> as Clone>⟧.is_clone J.capacity J.is_reserved
+            C.call_of (IsCall C.told C.says C.polled) pass.old call None
+            (ends (outcome_of_end result)) pass.new }
+        ensures left { IfErr result (λ ended. C.can_make (C.call_of (given_back ended))
+            × C.leaves call (given_back ended) × OnOver ended (U.has_come until.now)) }
     {
-        match call.now(self, rt, pass) {
-            Ok(reply) => Ok(reply),
-            Err(rest) => {
+        match self.attempt(rt, pass, call).answer() {
+            Ok(answer) => answer,
+            Err(left) => {
                 if let Err(over) = until.left() {
-                    return Err((rest, over));
+                    return Err(Ended::Over(left, over));
                 }
                 match Waiter::new(self.alloc) {
-                    Ok(waiter) => self.wait_parked(rt, pass, rest, until, &waiter),
-                    Err(_) => Ok(rest.refuse()),
+                    Ok(waiter) => self.wait_listed(rt, pass, C::again(left), until, &waiter),
+                    Err(_) => Err(Ended::Memory(left)),
                 }
             }
         }
     }
 
-    // Tries at once, and does not wait.
-    fn at_once<C: Attempt<T, P, Waiter<A>, J, A>, R: Wait>(
+    /// Tries the call.
+    pub(crate) fn attempt<C: Awaited<T, P, Waiter<A>, A>, R: Wait>(
         &self,
         rt: &R,
         pass: &mut Pass<T, P, Waiter<A>, J>,
         call: C,
-    ) -> Result<C::Reply, (C, ())>
-        ensures ended { ComesTo P.cmp ⟦<Waiter<A> as Clone>⟧.is_clone J.capacity J.is_reserved
-            C.calls pass.old call None (ends (without_evidence result)) pass.new }
-        ensures tried { (reply : _) × (handed : _) × Tells P.cmp ⟦<Waiter<A> as Clone>⟧.is_clone
-            J.capacity J.is_reserved pass.old (C.tries call) reply handed pass.new }
+    ) -> Outcome<C::Done, C::Left>
+        requires { C.can_make call }
+        ensures told { (reply : C.Answer) × (handed : _) × Tells P.cmp
+            ⟦<Waiter<A> as Clone>⟧.is_clone J.capacity J.is_reserved pass.old (C.told call reply)
+            handed pass.new × (C.says reply ≡ result) }
+        ensures left { IfSome (left_over result) (λ left. C.can_make (C.call_of left)
+            × C.leaves call left) }
     {
-        match call.now(self, rt, pass) {
-            Ok(reply) => Ok(reply),
-            Err(rest) => Err((rest, ())),
-        }
+        C::outcome(self.make(rt, pass, call))
     }
 
     // Lists the thread, which sleeps until the call is answered or the time is over.
-    fn wait_parked<C: Attempt<T, P, Waiter<A>, J, A>, R: Wait, U: Until>(
+    fn wait_listed<C: Awaited<T, P, Waiter<A>, A>, R: Wait, U: Until>(
         &self,
         rt: &R,
         pass: &mut Pass<T, P, Waiter<A>, J>,
         call: C,
         until: &U,
         waiter: &Waiter<A>,
-    ) -> Result<C::Reply, (C, U::Over)>
-        ensures { ComesTo P.cmp ⟦<Waiter<A> as Clone>⟧.is_clone J.capacity J.is_reserved C.calls
-            pass.old call None (ends (without_evidence result)) pass.new }
+    ) -> Result<C::Done, Ended<C::Left, U::Over>>
+        requires { C.can_make call }
+        ensures told { ComesTo P.cmp ⟦<Waiter<A> as Clone>⟧.is_clone J.capacity J.is_reserved
+            C.call_of (IsCall C.told C.says C.polled) pass.old call None
+            (ends (outcome_of_end result)) pass.new }
+        ensures left { IfErr result (λ ended. C.can_make (C.call_of (given_back ended))
+            × C.leaves call (given_back ended) × OnOver ended (U.has_come until.now)) }
     {
         let mut rest = call;
         let mut ticket = None;
         for _ in rt.forever() {
-            match rest.or_list(self, rt, pass, ticket, waiter) {
-                Ok(reply) => return Ok(reply),
-                Err((kept, given)) => match until.left() {
-                    Ok(left) => {
-                        waiter.park(rt, left);
+            let poll = PollOf {
+                call: rest,
+                ticket,
+                waker: waiter,
+            };
+            match self.make(rt, pass, poll) {
+                CorePoll::Ready(answer) => return in_time(answer),
+                CorePoll::Pending(left, given) => match until.left() {
+                    Ok(time) => {
+                        waiter.park(rt, time);
                         ticket = Some(given);
-                        rest = kept;
+                        rest = C::again(left);
                     }
-                    Err(over) => return self.end_wait(rt, pass, kept, given, over),
+                    Err(over) => return self.end_wait(rt, pass, C::again(left), given, over, until),
                 },
             }
         }
@@ -132,85 +164,27 @@ impl<T, P: Ord, J: Recording, A: Allocator + Copy> Witnessed<T, P, Waiter<A>, J,
     }
 
     // Gives up the ticket, and tries a last time.
-    fn end_wait<C: Attempt<T, P, Waiter<A>, J, A>, R: Wait, O: Drop>(
+    fn end_wait<C: Awaited<T, P, Waiter<A>, A>, R: Wait, U: Until>(
         &self,
         rt: &R,
         pass: &mut Pass<T, P, Waiter<A>, J>,
         call: C,
         ticket: u64,
-        over: O,
-    ) -> Result<C::Reply, (C, O)>
-        ensures { ComesTo P.cmp ⟦<Waiter<A> as Clone>⟧.is_clone J.capacity J.is_reserved C.calls
-            pass.old call (Some ticket) (ends (without_evidence result)) pass.new }
+        over: U::Over,
+        until: &U,
+    ) -> Result<C::Done, Ended<C::Left, U::Over>>
+        requires call { C.can_make call }
+        requires over { U.has_come until.now over }
+        ensures told { ComesTo P.cmp ⟦<Waiter<A> as Clone>⟧.is_clone J.capacity J.is_reserved
+            C.call_of (IsCall C.told C.says C.polled) pass.old call (Some ticket)
+            (ends (outcome_of_end result)) pass.new }
+        ensures left { IfErr result (λ ended. C.can_make (C.call_of (given_back ended))
+            × C.leaves call (given_back ended) × OnOver ended (U.has_come until.now)) }
     {
-        self.give_up(rt, pass, ticket);
-        match call.now(self, rt, pass) {
-            Ok(reply) => Ok(reply),
-            Err(rest) => Err((rest, over)),
+        self.make(rt, pass, GiveUp { ticket });
+        match self.attempt(rt, pass, call).answer() {
+            Ok(answer) => answer,
+            Err(left) => Err(Ended::Over(left, over)),
         }
-    }
-
-    // Tries at once, unless the call is listed.
-    pub(crate) fn try_first<C: Attempt<T, P, Waiter<A>, J, A>, R: Wait>(
-        &self,
-        rt: &R,
-        pass: &mut Pass<T, P, Waiter<A>, J>,
-        call: C,
-        ticket: Option<u64>,
-    ) -> Result<C::Reply, C>
-        ensures answered { IfOk result (λ reply. ComesTo P.cmp ⟦<Waiter<A> as Clone>⟧.is_clone
-            J.capacity J.is_reserved C.calls pass.old call ticket (ends (Ok reply)) pass.new) }
-        ensures goes_on { IfErr result (λ rest. (ending : _) (later : _)
-            → ComesTo P.cmp ⟦<Waiter<A> as Clone>⟧.is_clone J.capacity J.is_reserved C.calls
-            pass.new rest ticket ending later
-            → ComesTo P.cmp ⟦<Waiter<A> as Clone>⟧.is_clone J.capacity J.is_reserved C.calls
-            pass.old call ticket ending later) }
-    {
-        match ticket {
-            Some(_) => Err(call),
-            None => match call.now(self, rt, pass) {
-                Ok(reply) => Ok(reply),
-                Err(rest) => Err(rest),
-            },
-        }
-    }
-
-    // Ends a wait for which memory is refused, with the reply of a last try.
-    pub(crate) fn refuse_wait<C: Attempt<T, P, Waiter<A>, J, A>, R: Wait>(
-        &self,
-        rt: &R,
-        pass: &mut Pass<T, P, Waiter<A>, J>,
-        call: C,
-        ticket: Option<u64>,
-    ) -> C::Reply
-        ensures { ComesTo P.cmp ⟦<Waiter<A> as Clone>⟧.is_clone J.capacity J.is_reserved C.calls
-            pass.old call ticket (ends (Ok result)) pass.new }
-    {
-        self.unlist(rt, pass, &call, ticket);
-        match call.now(self, rt, pass) {
-            Ok(reply) => reply,
-            Err(rest) => rest.refuse(),
-        }
-    }
-
-    // Takes the ticket, if there is one, off the list.
-    fn unlist<C: Attempt<T, P, Waiter<A>, J, A>, R: Wait>(
-        &self,
-        rt: &R,
-        pass: &mut Pass<T, P, Waiter<A>, J>,
-        call: &C,
-        ticket: Option<u64>,
-    )
-        ensures { (end : _) (later : _)
-            → ComesTo P.cmp ⟦<Waiter<A> as Clone>⟧.is_clone J.capacity J.is_reserved C.calls
-            pass.new call.now None (ends end) later
-            → ComesTo P.cmp ⟦<Waiter<A> as Clone>⟧.is_clone J.capacity J.is_reserved C.calls
-            pass.old call.now ticket (ends end) later }
-    {
-        let _ = call;
-        let Some(ticket) = ticket else {
-            return;
-        };
-        self.give_up(rt, pass, ticket);
     }
 }

@@ -9,10 +9,10 @@ invariant_of-self g c =
 
 pub enter-requires-clause-legal : goal.enter-requires-clause-legal
 enter-requires-clause-legal g c =
-    let step = c.requires.step in
-    legal_of g.P.Ord.cmp g.W.Clone.is_clone _ _ _ _ (history_more g.P.Ord.cmp g.W.Clone.is_clone _ _ _ _ _ _ (rw (← c.self.view_is) at step.1) step.2)
+    let made = c.requires.made in
+    legal_of g.P.Ord.cmp g.W.Clone.is_clone _ _ _ _ (history_more g.P.Ord.cmp g.W.Clone.is_clone _ _ _ _ _ _ (rw (← c.self.view_is) at made.1) made.2)
 
 pub returns-clause-leads : goal.returns-clause-leads
 returns-clause-leads g c =
-    let step = c.requires.step in
-    rw c.enter.ensures.entered (history_more g.P.Ord.cmp g.W.Clone.is_clone _ _ _ _ _ _ (rw (← c.self.view_is) at step.1) step.2)
+    let made = c.requires.made in
+    rw c.enter.ensures.entered (history_more g.P.Ord.cmp g.W.Clone.is_clone _ _ _ _ _ _ (rw (← c.self.view_is) at made.1) made.2)
