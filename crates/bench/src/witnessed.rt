@@ -5,6 +5,8 @@ ghost use Rattle.priority_channel_recorded.specs.chronicle.Log.{names};
 use crate::load::Load;
 use crate::measure::{Measure, add_at};
 use anyhow::{bail, ensure};
+use priority_channel_calls::receives::TryRecv;
+use priority_channel_calls::sends::TrySend;
 use priority_channel_core::channel::PriorityQueueChannel;
 use priority_channel_witnessed::{Fresh, Pass, Recording, Witnessed};
 use std::alloc::AllocGlobal;
@@ -71,14 +73,18 @@ fn send<J: Recording, R: Wait>(
     pass: &mut Caller<J>,
     number: u64,
 ) -> bool {
-    let (sent, wakes) = channel.try_send(rt, pass, number, Load::Random.priority(number));
+    let call = TrySend {
+        msg: number,
+        priority: Load::Random.priority(number),
+    };
+    let (sent, wakes) = channel.call(rt, pass, call);
     let (_for_room, _for_message) = wakes.into_lists();
     sent.is_ok()
 }
 
 #[inline(never)]
 fn recv<J: Recording, R: Wait>(rt: &R, channel: &Channel<J>, pass: &mut Caller<J>) -> Option<u64> {
-    let (received, wakes) = channel.try_recv(rt, pass);
+    let (received, wakes) = channel.call(rt, pass, TryRecv);
     let (_for_room, _for_message) = wakes.into_lists();
     let (msg, _) = received.ok()?;
     Some(msg)

@@ -13,6 +13,7 @@ use priority_channel_core::errors::TrySendError;
 use std::alloc::Allocator;
 
 /// A send, if there is room.
+#[derive(Drop)]
 pub struct TrySend<T, P> {
     pub msg: T,
     pub priority: P,
@@ -37,6 +38,7 @@ impl<T, P: Ord, W: Clone, A: Allocator + Copy> CoreCall<T, P, W, A> for TrySend<
 }
 
 /// A send that makes room in a full channel, if a less urgent pair is pending.
+#[derive(Drop)]
 pub struct TrySendEvicting<T, P> {
     pub msg: T,
     pub priority: P,

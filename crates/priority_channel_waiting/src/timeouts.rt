@@ -15,6 +15,7 @@ use std::fmt;
 
 /// How a wait has ended without success, and the call that was not done. `O` is evidence that its
 /// time is over.
+#[derive(Drop)]
 pub enum Ended<C, O> {
     Over(C, O),
     Closed(C),

@@ -149,6 +149,7 @@ pub type Pairs<T, P, A> = Ahead<IntoIter<(T, P), A>, (T, P)>;
 
 /// A send of the pairs of a vector, in order, of as many as there is room for. What was accepted
 /// stays. The rest comes back. Contracts see which pairs were sent.
+#[derive(Drop)]
 pub struct SendAll<T, P, A: Allocator> {
     pub msgs: Pairs<T, P, A>,
 }

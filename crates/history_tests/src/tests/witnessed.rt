@@ -8,6 +8,7 @@ use super::replay::explain_four_threads;
 use super::watch::within;
 use late::{receive_at_the_end, receive_late};
 use passes::come_and_go;
+use priority_channel_calls::sends::TrySend;
 use priority_channel_core::awaitable_atomics::Wakes;
 use priority_channel_core::channel::PriorityQueueChannel;
 use priority_channel_witnessed::{Fresh, Pass, Recording, Waiter, Witnessed};
@@ -127,6 +128,10 @@ fn end<J: Recording, A: Allocator + Copy, R: Host>(
     }
     let ended = channel.try_end(rt, passes).ok();
     ended.expect(rt, "an end with all passes").0.len()
+}
+
+pub fn send(msg: u64, priority: u64) -> TrySend<u64, u64> {
+    TrySend { msg, priority }
 }
 
 /// How many waiters a call has woken.

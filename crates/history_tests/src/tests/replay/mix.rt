@@ -1,10 +1,16 @@
 //! A thread's calls, drawn and made.
 use super::notes::{Call, Pair, Refusal, Refused, Reply, Way};
 use crate::tests::Host;
-use crate::tests::witnessed::{Caller, Channel};
-use priority_channel_core::errors::{RecvFault, SendError, SendFault, TryRecvError, TrySendError};
-use priority_channel_waiting::timeouts::{RecvTimeoutError, SendTimeoutError};
-use priority_channel_witnessed::{Recording, wake_all};
+use crate::tests::witnessed::{Caller, Channel, send};
+use priority_channel_calls::ends::Close;
+use priority_channel_calls::looks::{IsClosed, IsEmpty, IsFull, Len};
+use priority_channel_calls::receives::TryRecv;
+use priority_channel_calls::sends::TrySendEvicting;
+use priority_channel_core::errors::TrySendError;
+use priority_channel_waiting::retry::Outcome;
+use priority_channel_waiting::timeouts::Ended;
+use priority_channel_waiting::until::{Deadline, Endless};
+use priority_channel_witnessed::{Awaited, Recording, SendAll, Waiter};
 use rand_core::{Rng, SeedableRng};
 use rand_xoshiro::Xoshiro256PlusPlus;
 use std::alloc::Allocator;
@@ -74,61 +80,59 @@ pub fn make<J: Recording, A: Allocator + Copy, R: Host>(
     call: Call,
 ) -> Reply {
     match call {
-        Call::Send(way, pair) => Reply::Sent(send(rt, channel, pass, way, pair)),
-        Call::SendEvicting(pair) => Reply::Displaced(send_evicting(rt, channel, pass, pair)),
-        Call::Sendv(pairs) => Reply::SentMany(send_many(rt, alloc, channel, pass, pairs)),
-        Call::Recv(way) => Reply::Received(receive(rt, channel, pass, way)),
-        Call::Len => Reply::Number(channel.len(rt, pass)),
-        Call::IsEmpty => Reply::Bool(channel.is_empty(rt, pass)),
-        Call::IsFull => Reply::Bool(channel.is_full(rt, pass)),
-        Call::IsClosed => Reply::Bool(channel.is_closed(rt, pass)),
-        Call::Close => {
-            let (was_open, wakes) = channel.close(rt, pass);
-            wake_all(rt, wakes);
-            Reply::Bool(was_open)
+        Call::Send(way, pair) => Reply::Sent(go(rt, channel, pass, way, send(pair.0, pair.1))),
+        Call::SendEvicting((msg, priority)) => {
+            let sent = channel.make(rt, pass, TrySendEvicting { msg, priority });
+            Reply::Displaced(sent.map_err(refused))
         }
+        Call::Sendv(pairs) => Reply::SentMany(send_many(rt, alloc, channel, pass, pairs)),
+        Call::Recv(way) => {
+            let received = go(rt, channel, pass, way, TryRecv);
+            Reply::Received(received.map_err(|(why, ())| why))
+        }
+        Call::Len => Reply::Number(channel.make(rt, pass, Len)),
+        Call::IsEmpty => Reply::Bool(channel.make(rt, pass, IsEmpty)),
+        Call::IsFull => Reply::Bool(channel.make(rt, pass, IsFull)),
+        Call::IsClosed => Reply::Bool(channel.make(rt, pass, IsClosed)),
+        Call::Close => Reply::Bool(channel.make(rt, pass, Close)),
     }
 }
 
-fn send<J: Recording, A: Allocator + Copy, R: Host>(
+// Makes a call so, and tells what is left of it if it was not done.
+fn go<C, J: Recording, A: Allocator + Copy, R: Host>(
     rt: &R,
     channel: &Channel<J, A>,
     pass: &mut Caller<J, A>,
     way: Way,
-    pair: Pair,
-) -> Result<(), Refused> {
-    let (msg, priority) = pair;
+    call: C,
+) -> Result<C::Done, (Refusal, C::Left)>
+where
+    C: Awaited<u64, u64, Waiter<A>, A>,
+    requires { C.can_make call }
+{
     match way {
-        Way::AtOnce => {
-            let (sent, wakes) = channel.try_send(rt, pass, msg, priority);
-            wake_all(rt, wakes);
-            sent.map_err(refused)
+        Way::AtOnce => match C::outcome(channel.make(rt, pass, call)) {
+            Outcome::Done(done) => Ok(done),
+            Outcome::Blocked(left) => Err((Refusal::Blocked, left)),
+            Outcome::Closed(left) => Err((Refusal::Closed, left)),
+            Outcome::Memory(left) => Err((Refusal::Memory, left)),
+        },
+        Way::InTime => {
+            let until = Deadline::after(rt, Duration::from_micros(LIMIT_MICROS));
+            end_of(channel.wait(rt, pass, call, &until))
         }
-        Way::InTime => channel
-            .send_timeout(rt, pass, msg, priority, Duration::from_micros(LIMIT_MICROS))
-            .map_err(|error| match error {
-                SendTimeoutError::Timeout(pair) => (Refusal::Blocked, pair),
-                SendTimeoutError::Closed(pair) => (Refusal::Closed, pair),
-                SendTimeoutError::Memory(pair) => (Refusal::Memory, pair),
-            }),
-        Way::Blocking => channel
-            .send_blocking(rt, pass, msg, priority)
-            .map_err(|fault| match fault {
-                SendFault::Closed(SendError(pair)) => (Refusal::Closed, pair),
-                SendFault::Memory(pair) => (Refusal::Memory, pair),
-            }),
+        Way::Blocking => end_of(channel.wait(rt, pass, call, &Endless)),
     }
 }
 
-fn send_evicting<J: Recording, A: Allocator + Copy, R: Host>(
-    rt: &R,
-    channel: &Channel<J, A>,
-    pass: &mut Caller<J, A>,
-    pair: Pair,
-) -> Result<Option<Pair>, Refused> {
-    let (sent, wakes) = channel.try_send_evicting(rt, pass, pair.0, pair.1);
-    wake_all(rt, wakes);
-    sent.map_err(refused)
+/// How a wait has ended.
+pub fn end_of<D, L, O: Drop>(ended: Result<D, Ended<L, O>>) -> Result<D, (Refusal, L)> {
+    match ended {
+        Ok(done) => Ok(done),
+        Err(Ended::Over(left, _)) => Err((Refusal::Blocked, left)),
+        Err(Ended::Closed(left)) => Err((Refusal::Closed, left)),
+        Err(Ended::Memory(left)) => Err((Refusal::Memory, left)),
+    }
 }
 
 pub fn refused(error: TrySendError<Pair>) -> Refused {
@@ -150,9 +154,8 @@ fn send_many<J: Recording, A: Allocator + Copy, R: Host>(
     let Ok(vector) = Vec::from_array(alloc, pairs) else {
         return pairs.map(|pair| Some((Refusal::Memory, pair)));
     };
-    let (sent, wakes) = channel.try_sendv(rt, pass, vector.into_iter().peekable());
-    wake_all(rt, wakes);
-    let Err(error) = sent else {
+    let msgs = vector.into_iter().peekable();
+    let Err(error) = channel.make(rt, pass, SendAll { msgs }) else {
         return [None; 3];
     };
     let why = if error.is_full() {
@@ -164,35 +167,4 @@ fn send_many<J: Recording, A: Allocator + Copy, R: Host>(
     };
     let mut rest = error.into_inner().map(|pair| (why, pair));
     [rest.next(), rest.next(), rest.next()]
-}
-
-fn receive<J: Recording, A: Allocator + Copy, R: Host>(
-    rt: &R,
-    channel: &Channel<J, A>,
-    pass: &mut Caller<J, A>,
-    way: Way,
-) -> Result<Pair, Refusal> {
-    match way {
-        Way::AtOnce => {
-            let (received, wakes) = channel.try_recv(rt, pass);
-            wake_all(rt, wakes);
-            received.map_err(|error| match error {
-                TryRecvError::Empty => Refusal::Blocked,
-                TryRecvError::Closed => Refusal::Closed,
-            })
-        }
-        Way::InTime => channel
-            .recv_timeout(rt, pass, Duration::from_micros(LIMIT_MICROS))
-            .map_err(|error| match error {
-                RecvTimeoutError::Timeout => Refusal::Blocked,
-                RecvTimeoutError::Closed => Refusal::Closed,
-                RecvTimeoutError::Memory => Refusal::Memory,
-            }),
-        Way::Blocking => channel
-            .recv_blocking(rt, pass)
-            .map_err(|fault| match fault {
-                RecvFault::Closed(_) => Refusal::Closed,
-                RecvFault::Memory => Refusal::Memory,
-            }),
-    }
 }

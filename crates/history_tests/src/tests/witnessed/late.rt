@@ -1,12 +1,13 @@
 //! Messages that come after the first try of a receive: of one that is refused memory to wait, and
 //! of one whose time is over.
-use super::{Caller, Channel, Passes, Scene, play};
+use super::{Caller, Channel, Passes, Scene, play, send};
 use crate::tests::{Host, expect_equal, wait_for};
-use priority_channel_witnessed::{Recording, wake_all};
+use priority_channel_calls::receives::TryRecv;
+use priority_channel_waiting::until::Deadline;
+use priority_channel_witnessed::Recording;
 use refusing::Refusing;
 use std::alloc::{Allocator, Global};
 use std::cell::{Cell, RefCell};
-use std::sync::Wait;
 use std::time::{Clock, Duration};
 use std::{io, thread};
 
@@ -23,7 +24,7 @@ pub(super) fn receive_late<J: Recording + Send + Sync, A: Allocator + Copy + Sen
     memory.hold_nth(1);
     let ((received, receiver), sent) = thread::join(
         rt,
-        || wait_for(rt, channel.recv(rt, receiver)),
+        || wait_for(rt, channel.start(rt, receiver, TryRecv)),
         || {
             for _ in 0..u64::MAX {
                 if memory.is_holding() {
@@ -31,13 +32,12 @@ pub(super) fn receive_late<J: Recording + Send + Sync, A: Allocator + Copy + Sen
                 }
                 thread::yield_now();
             }
-            let (sent, wakes) = channel.try_send(rt, &mut sender, 1, 5);
-            wake_all(rt, wakes);
+            let sent = channel.make(rt, &mut sender, send(1, 5));
             memory.let_go();
             sent
         },
     );
-    expect_equal(rt, (sent, received), (Ok(()), Ok((1, 5))));
+    expect_equal(rt, (sent, received.ok()), (Ok(()), Some((1, 5))));
     expect_equal(rt, memory.refuse_none(), false);
     passes.push(sender).expect(rt, "its own place");
     passes.push(receiver).expect(rt, "its own place");
@@ -62,8 +62,6 @@ struct Bringing<'x, J: Recording, A: Allocator + Copy, R> {
     sender: RefCell<Caller<J, A>>,
 }
 
-impl<J: Recording, A: Allocator + Copy, R: Wait> Wait for Bringing<'_, J, A, R> {}
-
 impl<J: Recording, A: Allocator + Copy, R: Host> Clock for Bringing<'_, J, A, R> {
     fn monotonic(&self) -> io::Result<Duration> {
         self.readings.set(self.readings.get().wrapping_add(1));
@@ -72,8 +70,7 @@ impl<J: Recording, A: Allocator + Copy, R: Host> Clock for Bringing<'_, J, A, R>
             return Ok(now);
         }
         if let Ok(mut sender) = self.sender.try_borrow_mut() {
-            let (_, wakes) = self.channel.try_send(self.rt, &mut sender, 1, 5);
-            wake_all(self.rt, wakes);
+            drop(self.channel.make(self.rt, &mut sender, send(1, 5)));
         }
         Ok(now.saturating_add(limit()))
     }
@@ -97,8 +94,9 @@ pub(super) fn receive_at_the_end<J: Recording, A: Allocator + Copy, R: Host>(
         channel,
         sender: RefCell::new(sender),
     };
-    let received = channel.recv_timeout(&bringing, &mut receiver, limit());
-    expect_equal(rt, received, Ok((1, 5)));
+    let until = Deadline::after(&bringing, limit());
+    let received = channel.wait(rt, &mut receiver, TryRecv, &until);
+    expect_equal(rt, received.ok(), Some((1, 5)));
     passes
         .push(bringing.sender.into_inner())
         .expect(rt, "its own place");

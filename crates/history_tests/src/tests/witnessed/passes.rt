@@ -1,5 +1,5 @@
 //! Passes that come and go.
-use super::{Channel, Passes, Scene, count, play};
+use super::{Channel, Passes, Scene, count, play, send};
 use crate::tests::{Host, expect_equal};
 use priority_channel_witnessed::Recording;
 use std::alloc::Allocator;
@@ -15,7 +15,7 @@ pub(super) fn come_and_go<J: Recording, A: Allocator + Copy, R: Host>(
     let mut one = channel.fork(rt, &own).expect(rt, "a pass to fork");
     let two = channel.admit(rt).expect(rt, "a pass to admit");
     expect_equal(rt, channel.admit(rt).is_none(), true);
-    let (sent, wakes) = channel.try_send(rt, &mut one, 1, 1);
+    let (sent, wakes) = channel.call(rt, &mut one, send(1, 1));
     expect_equal(rt, (sent, count(wakes)), (Ok(()), 0));
     let number = one.number();
     channel.leave(rt, one);

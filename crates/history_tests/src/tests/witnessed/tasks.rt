@@ -1,8 +1,10 @@
 //! Futures, which hold their pass until they answer.
-use super::{Caller, Channel, Passes, Scene, count, play};
+use super::{Caller, Channel, Passes, Scene, count, play, send};
 use crate::tests::{Host, expect_equal, wait_for};
 use futures::future::{Future, poll_immediate};
-use priority_channel_witnessed::Recording;
+use priority_channel_calls::looks::Len;
+use priority_channel_calls::receives::TryRecv;
+use priority_channel_witnessed::{Recording, SendAll};
 use refusing::Refusing;
 use std::alloc::{Allocator, Global};
 
@@ -42,11 +44,12 @@ fn drop_with_guest<J: Recording, A: Allocator + Copy, R: Host>(
 ) {
     let guest = channel.admit(rt).expect(rt, "a pass to admit");
     match gone {
-        Gone::Recv => drop_future(rt, channel.recv(rt, guest), waits),
-        Gone::Send => drop_future(rt, channel.send(rt, guest, 8, 2), waits),
+        Gone::Recv => drop_future(rt, channel.start(rt, guest, TryRecv), waits),
+        Gone::Send => drop_future(rt, channel.start(rt, guest, send(8, 2)), waits),
         Gone::Sendv => {
             let pairs = Vec::from_array(alloc, [(8u64, 2u64), (9, 3)]).expect(rt, "memory");
-            let sending = channel.sendv(rt, guest, pairs.into_iter().peekable());
+            let msgs = pairs.into_iter().peekable();
+            let sending = channel.start(rt, guest, SendAll { msgs });
             drop_future(rt, sending, waits);
         }
     }
@@ -58,7 +61,7 @@ fn send_one<J: Recording, A: Allocator + Copy, R: Host>(
     own: &mut Caller<J, A>,
     row: (Gone, bool),
 ) {
-    let (sent, wakes) = channel.try_send(rt, own, 7, 1);
+    let (sent, wakes) = channel.call(rt, own, send(7, 1));
     expect_equal(rt, (row, sent, count(wakes)), (row, Ok(()), 0));
 }
 
@@ -78,9 +81,9 @@ fn expect_gone<J: Recording, A: Allocator + Copy, R: Host>(
     if !waits_for_room {
         send_one(rt, channel, own, row);
     }
-    let (received, wakes) = channel.try_recv(rt, own);
+    let (received, wakes) = channel.call(rt, own, TryRecv);
     expect_equal(rt, (row, received, count(wakes)), (row, Ok((7, 1)), 0));
-    expect_equal(rt, (row, channel.len(rt, own)), (row, 0));
+    expect_equal(rt, (row, channel.make(rt, own, Len)), (row, 0));
 }
 
 // Receives with a guest, which is polled twice before the own pass sends.
@@ -90,15 +93,15 @@ fn poll_twice<J: Recording, A: Allocator + Copy, R: Host>(
     own: &mut Caller<J, A>,
     guest: Caller<J, A>,
 ) {
-    let mut receiving = channel.recv(rt, guest);
+    let mut receiving = channel.start(rt, guest, TryRecv);
     for _ in 0..2u64 {
         let polled = wait_for(rt, poll_immediate(&mut receiving));
         expect_equal(rt, polled.is_none(), true);
     }
-    let (_, wakes) = channel.try_send(rt, own, 7, 1);
+    let (_, wakes) = channel.call(rt, own, send(7, 1));
     expect_equal(rt, count(wakes), 1);
     let (received, guest) = wait_for(rt, receiving);
-    expect_equal(rt, received, Ok((7, 1)));
+    expect_equal(rt, received.ok(), Some((7, 1)));
     channel.leave(rt, guest);
 }
 
@@ -120,9 +123,9 @@ pub(super) fn poll_futures<J: Recording, A: Allocator + Copy, R: Host>(
     expect_equal(rt, guest.number(), 7);
     poll_twice(rt, channel, &mut own, guest);
     memory.refuse_nth(1);
-    let (sent, own) = wait_for(rt, channel.send(rt, own, 9, 3));
-    let (received, own) = wait_for(rt, channel.recv(rt, own));
-    expect_equal(rt, (sent, received), (Ok(()), Ok((9, 3))));
+    let (sent, own) = wait_for(rt, channel.start(rt, own, send(9, 3)));
+    let (received, own) = wait_for(rt, channel.start(rt, own, TryRecv));
+    expect_equal(rt, (sent.ok(), received.ok()), (Some(()), Some((9, 3))));
     expect_equal(rt, memory.refuse_none(), true);
     passes.push(own).expect(rt, "its own place");
 }

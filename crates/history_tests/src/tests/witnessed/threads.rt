@@ -1,7 +1,10 @@
 //! Threads and tasks that wait for each other, with passes that come and go.
-use super::{Caller, Channel, Passes, Scene, play};
+use super::{Caller, Channel, Passes, Scene, play, send};
 use crate::tests::{Host, expect_equal, wait_for};
-use priority_channel_witnessed::{Pairs, Recording, wake_all};
+use priority_channel_calls::ends::Close;
+use priority_channel_calls::receives::TryRecv;
+use priority_channel_waiting::until::Endless;
+use priority_channel_witnessed::{Recording, SendAll};
 use std::alloc::Allocator;
 use std::sync::WaitMethods;
 use std::sync::atomic::{AtomicU64, Ordering};
@@ -14,9 +17,10 @@ struct Done {
     left: AtomicU64,
 }
 
-fn three<A: Allocator + Copy, R: Host>(rt: &R, alloc: A, number: u64) -> Pairs<u64, u64, A> {
+fn three<A: Allocator + Copy, R: Host>(rt: &R, alloc: A, number: u64) -> SendAll<u64, u64, A> {
     let pairs = Vec::from_array(alloc, [(number, 1u64), (number, 2), (number, 3)]);
-    pairs.expect(rt, "memory").into_iter().peekable()
+    let msgs = pairs.expect(rt, "memory").into_iter().peekable();
+    SendAll { msgs }
 }
 
 // Sends a pair and then three, by a pass that comes for that and blocks its thread, and as many by
@@ -29,12 +33,12 @@ fn send_eight<J: Recording, A: Allocator + Copy, R: Host>(
     number: u64,
 ) -> Caller<J, A> {
     let mut guest = channel.fork(rt, &own).expect(rt, "a pass to fork");
-    let one = channel.send_blocking(rt, &mut guest, number, number % 7);
-    let many = channel.sendv_blocking(rt, &mut guest, three(rt, alloc, number));
+    let one = channel.wait(rt, &mut guest, send(number, number % 7), &Endless);
+    let many = channel.wait(rt, &mut guest, three(rt, alloc, number), &Endless);
     expect_equal(rt, (one.is_ok(), many.is_ok()), (true, true));
     channel.leave(rt, guest);
-    let (one, own) = wait_for(rt, channel.send(rt, own, number, number % 7));
-    let (many, own) = wait_for(rt, channel.sendv(rt, own, three(rt, alloc, number)));
+    let (one, own) = wait_for(rt, channel.start(rt, own, send(number, number % 7)));
+    let (many, own) = wait_for(rt, channel.start(rt, own, three(rt, alloc, number)));
     expect_equal(rt, (one.is_ok(), many.is_ok()), (true, true));
     own
 }
@@ -48,10 +52,10 @@ fn receive_all<'x, J: Recording, A: Allocator + Copy, R: Host>(
 ) -> Caller<J, A> {
     let mut pass = own;
     for _ in rt.forever() {
-        let (answer, back) = wait_for(rt, channel.recv(rt, pass));
+        let (answer, back) = wait_for(rt, channel.start(rt, pass, TryRecv));
         pass = back;
         received.fetch_add(answer.is_ok() as u64, Ordering::SeqCst);
-        if channel.recv_blocking(rt, &mut pass).is_err() {
+        if channel.wait(rt, &mut pass, TryRecv, &Endless).is_err() {
             return pass;
         }
         received.fetch_add(1, Ordering::SeqCst);
@@ -74,9 +78,7 @@ fn send_or_receive<J: Recording, A: Allocator + Copy, R: Host>(
         pass = send_eight(rt, alloc, channel, pass, number);
     }
     if done.left.fetch_sub(1, Ordering::SeqCst) == 1 {
-        let (was_open, wakes) = channel.close(rt, &mut pass);
-        wake_all(rt, wakes);
-        expect_equal(rt, was_open, true);
+        expect_equal(rt, channel.make(rt, &mut pass, Close), true);
     }
     pass
 }

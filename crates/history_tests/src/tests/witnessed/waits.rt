@@ -1,13 +1,17 @@
 //! Waits on a thread that end with their time, and what an ended wait leaves.
-use super::{Caller, Channel, Passes, Scene, count, play};
+use super::{Caller, Channel, Passes, Scene, count, play, send};
+use crate::tests::replay::mix::end_of;
+use crate::tests::replay::notes::Refusal;
 use crate::tests::{Host, expect_equal};
-use priority_channel_waiting::timeouts::{RecvTimeoutError, SendTimeoutError};
-use priority_channel_witnessed::Recording;
+use priority_channel_calls::looks::Len;
+use priority_channel_calls::receives::TryRecv;
+use priority_channel_waiting::until::Deadline;
+use priority_channel_witnessed::{Recording, SendAll};
 use refusing::Refusing;
 use std::alloc::{Allocator, Global};
 use std::cell::Cell;
 use std::io;
-use std::sync::{Wait, WaitMethods};
+use std::sync::WaitMethods;
 use std::time::{Clock, Duration, Instant};
 
 fn limit() -> Duration {
@@ -20,8 +24,6 @@ struct Counting<'a, R> {
     rt: &'a R,
     readings: Cell<u64>,
 }
-
-impl<R: Wait> Wait for Counting<'_, R> {}
 
 impl<R: Clock> Clock for Counting<'_, R> {
     fn monotonic(&self) -> io::Result<Duration> {
@@ -77,15 +79,16 @@ fn receive_in_time<J: Recording, A: Allocator + Copy, R: Host>(
         rt,
         readings: Cell::new(0),
     };
-    let late = channel.recv_timeout(&counting, pass, limit());
+    let until = Deadline::after(&counting, limit());
+    let late = channel.wait(rt, pass, TryRecv, &until);
     let took = begun.elapsed(rt).expect(rt, "a clock");
     let readings = counting.readings.get();
-    expect_equal(rt, late, Err(RecvTimeoutError::Timeout));
+    expect_equal(rt, end_of(late), Err((Refusal::Blocked, ())));
     let is_right = readings < 20 && took >= limit();
     expect_equal(rt, (readings, took, is_right), (readings, took, true));
     let end = deadline(rt);
-    let late = channel.recv_deadline(rt, pass, end);
-    expect_equal(rt, late, Err(RecvTimeoutError::Timeout));
+    let late = channel.wait(rt, pass, TryRecv, &Deadline::at(rt, end));
+    expect_equal(rt, end_of(late), Err((Refusal::Blocked, ())));
     expect_past(rt, end);
 }
 
@@ -95,38 +98,32 @@ fn send_in_time<J: Recording, A: Allocator + Copy, R: Host>(
     channel: &Channel<J, A>,
     pass: &mut Caller<J, A>,
 ) {
-    let (_, wakes) = channel.try_send(rt, pass, 1, 5);
+    let (_, wakes) = channel.call(rt, pass, send(1, 5));
     expect_equal(rt, count(wakes), 0);
     let end = deadline(rt);
-    let late = channel.send_timeout(rt, pass, 2, 6, limit());
-    expect_equal(rt, late, Err(SendTimeoutError::Timeout((2, 6))));
+    let late = channel.wait(rt, pass, send(2, 6), &Deadline::after(rt, limit()));
+    expect_equal(rt, end_of(late), Err((Refusal::Blocked, (2, 6))));
     expect_past(rt, end);
-    let end = deadline(rt);
-    let late = channel.send_deadline(rt, pass, 2, 6, end);
-    expect_equal(rt, late, Err(SendTimeoutError::Timeout((2, 6))));
-    expect_past(rt, end);
-    let (_, wakes) = channel.try_recv(rt, pass);
+    let (_, wakes) = channel.call(rt, pass, TryRecv);
     expect_equal(rt, count(wakes), 0);
 }
 
+// Of an ended time.
 fn call_without_time<J: Recording, A: Allocator + Copy, R: Host>(
     rt: &R,
     channel: &Channel<J, A>,
     pass: &mut Caller<J, A>,
     begun: Instant,
 ) {
-    let late = channel.recv_timeout(rt, pass, Duration::ZERO);
-    expect_equal(rt, late, Err(RecvTimeoutError::Timeout));
-    let late = channel.recv_deadline(rt, pass, begun);
-    expect_equal(rt, late, Err(RecvTimeoutError::Timeout));
-    let sent = channel.send_deadline(rt, pass, 3, 7, begun);
-    expect_equal(rt, sent, Ok(()));
-    let late = channel.send_timeout(rt, pass, 4, 8, Duration::ZERO);
-    expect_equal(rt, late, Err(SendTimeoutError::Timeout((4, 8))));
-    let late = channel.send_deadline(rt, pass, 4, 8, begun);
-    expect_equal(rt, late, Err(SendTimeoutError::Timeout((4, 8))));
-    let received = channel.recv_deadline(rt, pass, begun);
-    expect_equal(rt, received, Ok((3, 7)));
+    let over = &Deadline::at(rt, begun);
+    let late = channel.wait(rt, pass, TryRecv, over);
+    expect_equal(rt, end_of(late), Err((Refusal::Blocked, ())));
+    let sent = channel.wait(rt, pass, send(3, 7), over);
+    expect_equal(rt, end_of(sent), Ok(()));
+    let late = channel.wait(rt, pass, send(4, 8), over);
+    expect_equal(rt, end_of(late), Err((Refusal::Blocked, (4, 8))));
+    let received = channel.wait(rt, pass, TryRecv, over);
+    expect_equal(rt, end_of(received), Ok((3, 7)));
 }
 
 // Of three pairs by one call one is sent in the end.
@@ -137,17 +134,15 @@ fn send_three_in_time<J: Recording, A: Allocator + Copy, R: Host>(
     pass: &mut Caller<J, A>,
 ) {
     let pairs = Vec::from_array(alloc, [(7u64, 1u64), (8, 1), (9, 1)]).expect(rt, "memory");
+    let msgs = pairs.into_iter().peekable();
     let end = deadline(rt);
-    let sent = channel.sendv_timeout(rt, pass, pairs.into_iter().peekable(), limit());
+    let sent = channel.wait(rt, pass, SendAll { msgs }, &Deadline::at(rt, end));
     expect_past(rt, end);
-    let rest = sent.err().expect(rt, "room for one and not for three");
-    expect_equal(rt, (rest.is_timeout(), channel.len(rt, pass)), (true, 1));
-    let end = deadline(rt);
-    let sent = channel.sendv_deadline(rt, pass, rest.into_inner(), end);
-    expect_past(rt, end);
-    let error = sent.err().expect(rt, "room for none");
-    let told = (error.is_timeout(), error.into_inner().count());
-    expect_equal(rt, told, (true, 2));
+    let (why, rest) = end_of(sent)
+        .err()
+        .expect(rt, "room for one and not for three");
+    let told = (why, channel.make(rt, pass, Len), rest.count());
+    expect_equal(rt, told, (Refusal::Blocked, 1, 2));
 }
 
 #[test]
