@@ -1,14 +1,11 @@
 -- The state of a future after a poll.
-use Rattle.std.proofs.Common.{◌≡◌, ℕ, List, length, drop, refl, sym, arith, Option, None, Some, IfSome, IfErr, Ok, Err}
-use Rattle.std.proofs.Math.Seq.{drop-append_seam}
+use Rattle.std.proofs.Common.{◌≡◌, ℕ, List, drop, refl, arith, Option, None, Some, IfSome, Ok, Err}
 use Rattle.priority_channel_core.specs.declared.calls.CorePoll.TheVariants.{Ready, Pending}
-use Rattle.priority_channel_core.specs.declared.errors.TrySendError.{TrySendError}
 use Rattle.priority_channel_core.specs.declared.side.Side.TheVariants.{Room}
-use Rattle.priority_channel_core.specs.Prelude.{State, Handed, rest_of, Does, Sends, send_answer, Polls, Performs, SamePoll, SameReply, kept_by, Ordering, SendReply, SendPoll}
+use Rattle.priority_channel_core.specs.Prelude.{State, Handed, Does, Sends, send_answer, Polls, Performs, SamePoll, kept_by, Ordering, SendPoll}
 use Rattle.priority_channel_core.specs.declared.calls.Call.TheVariants as call
 use Rattle.priority_channel_core.specs.declared.calls.Answer.TheVariants as answer
 use Rattle.priority_channel_core.specs.declared.errors.SendFault.TheVariants as send_fault
-use Rattle.priority_channel_core.specs.declared.errors.TrySendError.TheVariants as send_error
 use Rattle.priority_channel_core.proofs.Polls.{kept_callable}
 use Rattle.priority_channel_calls.proofs.Tails.{tails}
 use Rattle.priority_channel_waiting.specs.Holding.{left_after, unsent_of, HoldsTail}

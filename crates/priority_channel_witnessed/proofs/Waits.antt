@@ -6,6 +6,7 @@ use Rattle.std.specs.declared.convert.Infallible.{Infallible}
 use Rattle.priority_channel_core.specs.declared.calls.CorePoll.{CorePoll}
 use Rattle.priority_channel_core.specs.declared.calls.CorePoll.TheVariants.{Ready, Pending}
 use Rattle.priority_channel_waiting.specs.declared.timeouts.Ended.{Ended}
+use Rattle.priority_channel_waiting.specs.declared.timeouts.Ended.TheVariants as ended
 use Rattle.priority_channel_waiting.specs.Holding.{left_after}
 use Rattle.priority_channel_waiting.specs.Ends.{OnOver}
 use Rattle.priority_channel_waiting.specs.Waits.{given_back, left_at_end, outcome_of_end}
@@ -14,7 +15,14 @@ use Rattle.priority_channel_waiting.specs.declared.retry.Outcome.TheVariants.{Bl
 use Rattle.priority_channel_witnessed.specs.declared.chronicle.Entry.{Entry}
 use Rattle.priority_channel_witnessed.specs.History.{entry}
 use Rattle.priority_channel_witnessed.specs.Passes.{Carried, IsTold, Tells}
-use Rattle.priority_channel_witnessed.specs.Waits.{listed_as, Ending, ends, left, IsCall, tries, polls, polled_to, Tried, Underway, ComesTo, Gives, at_last, before, gave_up}
+use Rattle.priority_channel_witnessed.specs.Waits.{listed_as, Ending, ends, left, IsCall, tries, polls, polled_to, MayPoll, Tried, Underway, ComesTo, Gives, at_last, before, gave_up}
+
+pub may_poll : {D L : Type 0} (reply : CorePoll (Result D (Ended L Infallible)) L) → MayPoll (polled_to reply)
+may_poll (Ready (Ok done)) = tt
+may_poll (Ready (Err (ended.Over rest never))) = elim never [ ]
+may_poll (Ready (Err (ended.Closed rest))) = tt
+may_poll (Ready (Err (ended.Memory rest))) = tt
+may_poll (Pending rest at) = tt
 
 module _ {T P W : Type 0} (cmp : P → P → Ordering) (is_clone : W → W → Type 0) (capacity : ℕ) (is_reserved : Bool) {C S D L : Type 0} (told : C → S → Told T P W) (says : S → Outcome D L)
     (polled : C → Option ℕ → W → Ending D L → Told T P W) where
@@ -44,21 +52,21 @@ module _ {T P W : Type 0} (cmp : P → P → Ordering) (is_clone : W → W → T
         → ComesTo cmp is_clone capacity is_reserved call_of (IsCall told says polled) old own None (ends (Memory rest)) new
     refused_last old new own outcome rest attempt blocked = tried_last old new own outcome (Memory rest) attempt (inr (rest, blocked, refl))
 
-    module _ {O : Type 0} (old new : Carried T P W) (own : C) (ticket : Option ℕ) (waker : W) (handed : Handed W) where
+    module _ (old new : Carried T P W) (own : C) (ticket : Option ℕ) (waker : W) (handed : Handed W) where
       -- a poll that answers ends the wait
-      pub polled_last : (reply : CorePoll (Result D (Ended L O)) L) → Tells cmp is_clone capacity is_reserved old (polled own ticket waker (polled_to reply)) handed new
+      pub polled_last : (reply : CorePoll (Result D (Ended L Infallible)) L) → Tells cmp is_clone capacity is_reserved old (polled own ticket waker (polled_to reply)) handed new
           → IfOk (listed_as reply)
           (λ answer. ComesTo cmp is_clone capacity is_reserved call_of (IsCall told says polled) old own ticket (ends (outcome_of_end answer)) new)
-      polled_last (Ready answer) tells = at_last tells (polls waker refl)
+      polled_last (Ready answer) tells = at_last tells (polls waker refl (may_poll (Ready answer)))
       polled_last (Pending rest at) tells = tt
 
       -- and one that lists is a call of it
-      pub polled_first : (can : C → Type 0) (leaves : L → Type 0) (reply : CorePoll (Result D (Ended L O)) L) → Tells cmp is_clone capacity is_reserved old (polled own ticket waker (polled_to reply)) handed new
+      pub polled_first : (can : C → Type 0) (leaves : L → Type 0) (reply : CorePoll (Result D (Ended L Infallible)) L) → Tells cmp is_clone capacity is_reserved old (polled own ticket waker (polled_to reply)) handed new
           → IfSome (left_after left_at_end reply) (λ rest. can (call_of rest) × leaves rest)
           → IfErr (listed_as reply) (λ rest. can (call_of rest.0) × ((made : Told T P W) × (h : Handed W) × Tells cmp is_clone capacity is_reserved old made h new
           × IsCall told says polled own ticket made (left rest.0 (Some rest.1))))
       polled_first can leaves (Ready answer) tells rest = tt
-      polled_first can leaves (Pending rest at) tells gives = (gives.0, (polled own ticket waker (left rest (Some at)), handed, tells, polls waker refl))
+      polled_first can leaves (Pending rest at) tells gives = (gives.0, (polled own ticket waker (left rest (Some at)), handed, tells, polls waker refl tt))
 
 -- what is left at the end of the rest of a wait is left at its end
 module _ {D L O : Type 0} (can then now : L → Type 0) (over : O → Type 0) where

@@ -1,5 +1,5 @@
 -- The calls that a wait makes, and how it ends.
-use Rattle.std.specs.Prelude.{◌≡◌, ◌⊎◌, ℕ, Bool, Option, Some, None, Result, Ok, Err, IfSome, IsSomeAnd}
+use Rattle.std.specs.Prelude.{◌≡◌, ◌⊎◌, ⊤, ℕ, Bool, Option, Some, None, Result, Ok, Err, IfSome, IsSomeAnd}
 use Rattle.std.specs.declared.convert.Infallible.{Infallible}
 use Rattle.priority_channel_core.specs.declared.calls.Call.TheVariants as call
 use Rattle.priority_channel_core.specs.declared.calls.Answer.TheVariants as answer
@@ -36,7 +36,7 @@ abbrev pub source_of : Side → ℕ → ℕ → ℕ
 source_of Room room message = room
 source_of Message room message = message
 
--- A poll answers, or lists.
+-- how a poll ends that answers so
 abbrev pub polled_to : {D L O : Type 0} → CorePoll (Result D (Ended L O)) L → Ending D L
 polled_to (Ready result) = ends (outcome_of_end result)
 polled_to (Pending rest at) = left rest (Some at)
@@ -70,6 +70,12 @@ Tried {D} {L} told (ends end) =
     (told ≡ end) ⊎ ((rest : L) × (told ≡ Blocked rest) × (end ≡ Memory rest))
 Tried told (left rest ticket) = (told ≡ Blocked rest) × (ticket ≡ None)
 
+-- A poll answers, or lists: it is not blocked.
+abbrev pub MayPoll : {D L : Type 0} → Ending D L → Type 0
+MayPoll (ends (Blocked rest)) = ⊥
+MayPoll (left rest None) = ⊥
+MayPoll ending = ⊤
+
 module _ {T P W C S D L : Type 0} (told : C → S → Told T P W) (says : S → Outcome D L)
     (polled : C → Option ℕ → W → Ending D L → Told T P W) where
   -- a call that a wait makes: a try while it is not listed, or a poll under its ticket
@@ -77,7 +83,8 @@ module _ {T P W C S D L : Type 0} (told : C → S → Told T P W) (says : S → 
       : Type 0 where
     tries : (reply : S) → made ≡ told own reply → ticket ≡ None → Tried (says reply) ending
         → IsCall own ticket made ending
-    polls : (waker : W) → made ≡ polled own ticket waker ending → IsCall own ticket made ending
+    polls : (waker : W) → made ≡ polled own ticket waker ending → MayPoll ending
+        → IsCall own ticket made ending
 
 module _ {T P W : Type 0} (cmp : P → P → Ordering) (is_clone : W → W → Type 0) (capacity : ℕ)
     (is_reserved : Bool) {C D L : Type 0} (call_of : L → C)

@@ -24,8 +24,8 @@ mod waits;
 
 /// A channel that many threads call, each with its pass.
 ///
-/// Each call is one step, in one hold of the channel's lock. The waiters that it lets go on are
-/// woken once the lock is free. After a call its pass has seen the history up to that call. What a
+/// Each call is made in one hold of the channel's lock. The waiters that it lets go on are woken once
+/// the lock is free. After a call its pass has seen the history up to that call. What a
 /// pass has seen is a prefix of what it sees later, of what it has seen after it meets another
 /// pass, and of the whole history, which `end` returns.
 ///
@@ -33,7 +33,7 @@ mod waits;
 /// waiter. After 2^64 - 1 calls the next one waits for ever.
 ///
 /// Messages and priorities need not be `Drop`, except for bulk sends and `new`. So the compiler
-/// refuses a body of another call that loses one.
+/// refuses a body of a call that loses one.
 ///
 /// ```
 /// ghost use Rattle.std.specs.Prelude.{◌≡◌, false};
@@ -139,15 +139,14 @@ impl<T, P: Ord, W: Clone, J: Recording, A: Allocator + Copy> Witnessed<T, P, W, 
         let kept = &mut *self.kept.lock(rt);
         let made = Snapshot::of(&call);
         let (answer, wakes) = call.make_on(&mut kept.core);
-        let telling: Telling<T, P, W, A, C> = Telling {
+        let told: Telling<T, P, W, A, C> = Telling {
             who: pass.number(),
             made,
             said: Snapshot::of(&answer),
             handed: Snapshot::of(&wakes),
             of: PhantomData,
         };
-        kept.journal
-            .enter(rt, &self.log, &kept.core, pass, &telling);
+        kept.journal.enter(rt, &self.log, &kept.core, pass, &told);
         (answer, wakes)
     }
 

@@ -1,12 +1,12 @@
 -- Each poll wakes some waiters, and then ends its future or leaves it waiting.
-use Rattle.std.proofs.Common.{◌≡◌, ◌≢◌, ℕ, ◌<◌, ◌⊎◌, List, [], ◌∷◌, refl, ap, ◌∙◌, inl, inr, Option, None, Some, All}
+use Rattle.std.proofs.Common.{◌≡◌, ◌≢◌, ℕ, ◌<◌, ◌⊎◌, List, refl, ap, ◌∙◌, inl, inr, Option, None, Some, All}
 use Rattle.std.proofs.lemmas.List.Elements.{All-nil}
 use Rattle.priority_channel_core.specs.declared.calls.Call.TheVariants as call
 use Rattle.priority_channel_core.specs.declared.calls.Answer.TheVariants as answer
 use Rattle.priority_channel_core.specs.declared.calls.CorePoll.TheVariants.{Ready, Pending}
 use Rattle.priority_channel_core.specs.declared.side.Side.{Side}
 use Rattle.priority_channel_core.specs.declared.side.Side.TheVariants.{Room, Message}
-use Rattle.priority_channel_core.specs.Prelude.{Listing, listing, without_given, Waiters, on_side, unlist, enlist, State, Handed, IsGood, as_list, Ends, Moves, Answers, waits_under, Ordering, SendPoll, RecvPoll}
+use Rattle.priority_channel_core.specs.Prelude.{Listing, listing, without_given, Waiters, on_side, unlist, enlist, State, Handed, IsGood, Ends, Moves, Answers, waits_under, Ordering, SendPoll, RecvPoll}
 use Rattle.priority_channel_waiting.specs.Future.{Tasks, Futures, poll_of, future_after}
 use Rattle.priority_channel_waiting.specs.Future.Standing.{Waiting, Done}
 use Rattle.priority_channel_waiting.specs.Future.Task.{Send, Sendv, Recv}
