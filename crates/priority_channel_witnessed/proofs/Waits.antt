@@ -9,7 +9,7 @@ use Rattle.priority_channel_waiting.specs.declared.timeouts.Ended.{Ended}
 use Rattle.priority_channel_waiting.specs.declared.timeouts.Ended.TheVariants as ended
 use Rattle.priority_channel_waiting.specs.Holding.{left_after}
 use Rattle.priority_channel_waiting.specs.Ends.{OnOver}
-use Rattle.priority_channel_waiting.specs.Waits.{given_back, left_at_end, outcome_of_end}
+use Rattle.priority_channel_waiting.specs.Waits.{given_back, left_over, left_at_end, outcome_of_end}
 use Rattle.priority_channel_waiting.specs.declared.retry.Outcome.{Outcome}
 use Rattle.priority_channel_waiting.specs.declared.retry.Outcome.TheVariants.{Blocked, Memory}
 use Rattle.priority_channel_witnessed.specs.declared.chronicle.Entry.{Entry}
@@ -68,13 +68,16 @@ module _ {T P W : Type 0} (cmp : P → P → Ordering) (is_clone : W → W → T
       polled_first can leaves (Ready answer) tells rest = tt
       polled_first can leaves (Pending rest at) tells gives = (gives.0, (polled own ticket waker (left rest (Some at)), handed, tells, polls waker refl tt))
 
--- what is left at the end of the rest of a wait is left at its end
+-- what is left of the last try of a wait whose time is over is left at its end
 module _ {D L O : Type 0} (can then now : L → Type 0) (over : O → Type 0) where
-  pub left_later : (result : Result D (Ended L O)) → ((rest : L) → then rest → now rest)
-      → IfErr result (λ ended. can (given_back ended) × then (given_back ended) × OnOver ended over)
+  pub left_at_last : (last : Outcome D L) (evidence : O) (result : Result D (Ended L O)) → last ≡ outcome_of_end result
+      → IfSome (left_over last) (λ rest. can rest × then rest) → ((rest : L) → then rest → now rest)
+      → IfErr result (λ ended. OnOver ended (λ e. e ≡ evidence)) → over evidence
       → IfErr result (λ ended. can (given_back ended) × now (given_back ended) × OnOver ended over)
-  left_later (Ok done) later rest = tt
-  left_later (Err ended) later rest = (rest.0, later (given_back ended) rest.1, rest.2)
+  left_at_last last evidence (Ok done) told rest later of come = tt
+  left_at_last last evidence (Err (ended.Over held e)) told rest later of come = let k = rw told at rest in (k.0, later held k.1, rw of come)
+  left_at_last last evidence (Err (ended.Closed held)) told rest later of come = let k = rw told at rest in (k.0, later held k.1, tt)
+  left_at_last last evidence (Err (ended.Memory held)) told rest later of come = let k = rw told at rest in (k.0, later held k.1, tt)
 
 -- what a future gives, where it holds this
 module _ {T P W : Type 0} (cmp : P → P → Ordering) (is_clone : W → W → Type 0) (capacity : ℕ) (is_reserved : Bool) {C D L : Type 0} (call_of : L → C)

@@ -25,6 +25,9 @@ use std::convert::Infallible;
 use std::iter::Ahead;
 use std::vec::IntoIter;
 
+/// What a poll answers: the end of the call, or what is left of it, with a ticket.
+pub type Polled<D, L> = CorePoll<Result<D, Ended<L, Infallible>>, L>;
+
 /// A call with which a waiter can be listed: a poll makes the call, or lists the waiter.
 pub trait Awaited<T, P: Ord, W: Clone, A: Allocator + Copy>: Retry<T, P, W, A> {
     // What a poll tells that was made with this ticket and this waker, and ended so.
@@ -36,10 +39,7 @@ pub trait Awaited<T, P: Ord, W: Clone, A: Allocator + Copy>: Retry<T, P, W, A> {
         core: &mut PriorityQueueChannel<T, P, W, A>,
         ticket: Option<u64>,
         waker: &W,
-    ) -> (
-        CorePoll<Result<Self::Done, Ended<Self::Left, Infallible>>, Self::Left>,
-        Wakes<W, A>,
-    )
+    ) -> (Polled<Self::Done, Self::Left>, Wakes<W, A>)
         requires { Self.can_make self }
         ensures made { Makes P.cmp W.is_clone core.old.state
             (polled self ticket waker.now (polled_to result.0)) result.1 core.new.state }
@@ -58,7 +58,7 @@ pub struct PollOf<'w, C, W> {
 
 impl<T, P: Ord, W: Clone, A: Allocator + Copy, C: Awaited<T, P, W, A>> CoreCall<T, P, W, A>
     for PollOf<'_, C, W> {
-    type Answer = CorePoll<Result<C::Done, Ended<C::Left, Infallible>>, C::Left>;
+    type Answer = Polled<C::Done, C::Left>;
 
     ghost can_make = { λ it. C.can_make it.call };
 
@@ -70,10 +70,7 @@ impl<T, P: Ord, W: Clone, A: Allocator + Copy, C: Awaited<T, P, W, A>> CoreCall<
     fn make_on(
         self,
         core: &mut PriorityQueueChannel<T, P, W, A>,
-    ) -> (
-        CorePoll<Result<C::Done, Ended<C::Left, Infallible>>, C::Left>,
-        Wakes<W, A>,
-    ) {
+    ) -> (Polled<C::Done, C::Left>, Wakes<W, A>) {
         let PollOf {
             call,
             ticket,
@@ -93,10 +90,7 @@ impl<T, P: Ord, W: Clone, A: Allocator + Copy> Awaited<T, P, W, A> for TryRecv {
         core: &mut PriorityQueueChannel<T, P, W, A>,
         ticket: Option<u64>,
         waker: &W,
-    ) -> (
-        CorePoll<Result<(T, P), Ended<(), Infallible>>, ()>,
-        Wakes<W, A>,
-    ) {
+    ) -> (Polled<(T, P), ()>, Wakes<W, A>) {
         let (polled, wakes) = core.poll_recv(ticket, waker);
         let polled = match polled {
             CorePoll::Ready(Ok(pair)) => CorePoll::Ready(Ok(pair)),
@@ -108,9 +102,7 @@ impl<T, P: Ord, W: Clone, A: Allocator + Copy> Awaited<T, P, W, A> for TryRecv {
     }
 }
 
-fn send_polled<K>(
-    polled: CorePoll<Result<(), SendFault<K>>, K>,
-) -> CorePoll<Result<(), Ended<K, Infallible>>, K>
+fn send_polled<K>(polled: CorePoll<Result<(), SendFault<K>>, K>) -> Polled<(), K>
     ensures { polled ≡ send_polled (polled_to result) }
 {
     match polled {
@@ -134,10 +126,7 @@ impl<T, P: Ord, W: Clone, A: Allocator + Copy> Awaited<T, P, W, A> for TrySend<T
         core: &mut PriorityQueueChannel<T, P, W, A>,
         ticket: Option<u64>,
         waker: &W,
-    ) -> (
-        CorePoll<Result<(), Ended<(T, P), Infallible>>, (T, P)>,
-        Wakes<W, A>,
-    ) {
+    ) -> (Polled<(), (T, P)>, Wakes<W, A>) {
         let TrySend { msg, priority } = self;
         let (polled, wakes) = core.poll_send(msg, priority, ticket, waker);
         (send_polled(polled), wakes)
@@ -211,10 +200,7 @@ impl<T: Drop, P: Ord + Drop, W: Clone, A: Allocator + Copy> Awaited<T, P, W, A>
         core: &mut PriorityQueueChannel<T, P, W, A>,
         ticket: Option<u64>,
         waker: &W,
-    ) -> (
-        CorePoll<Result<(), Ended<Pairs<T, P, A>, Infallible>>, Pairs<T, P, A>>,
-        Wakes<W, A>,
-    ) {
+    ) -> (Polled<(), Pairs<T, P, A>>, Wakes<W, A>) {
         let SendAll { msgs } = self;
         let (polled, wakes) = core.poll_sendv(msgs, ticket, waker);
         (send_polled(polled), wakes)

@@ -15,6 +15,7 @@ ghost use Rattle.priority_channel_witnessed.specs.Waits.{ends, left, listed_as, 
 use crate::awaited::{Awaited, PollOf};
 use crate::chronicle::Pass;
 use crate::witnessed::Witnessed;
+use crate::witnessed::waits::end_refused;
 use futures::Future;
 use futures::task::{Context, Poll, Source};
 use priority_channel_calls::waits::GiveUp;
@@ -135,45 +136,6 @@ impl<T, P: Ord, J: Recording, A: Allocator + Copy> Witnessed<T, P, Waiter<A>, J,
             },
         }
     }
-
-    // Ends a wait for which memory is refused, with a last try.
-    fn refuse_wait<C: Awaited<T, P, Waiter<A>, A>, R: Wait>(
-        &self,
-        rt: &R,
-        pass: &mut Pass<T, P, Waiter<A>, J>,
-        call: C,
-        ticket: Option<u64>,
-    ) -> Result<C::Done, Ended<C::Left, Infallible>>
-        requires { C.can_make call }
-        ensures { ComesTo P.cmp ⟦<Waiter<A> as Clone>⟧.is_clone J.capacity J.is_reserved
-            C.call_of (IsCall C.told C.says C.polled) pass.old call ticket
-            (ends (outcome_of_end result)) pass.new }
-    {
-        match ticket {
-            None => self.refuse_unlisted(rt, pass, call),
-            Some(ticket) => {
-                self.make(rt, pass, GiveUp { ticket });
-                self.refuse_unlisted(rt, pass, call)
-            }
-        }
-    }
-
-    fn refuse_unlisted<C: Awaited<T, P, Waiter<A>, A>, R: Wait>(
-        &self,
-        rt: &R,
-        pass: &mut Pass<T, P, Waiter<A>, J>,
-        call: C,
-    ) -> Result<C::Done, Ended<C::Left, Infallible>>
-        requires { C.can_make call }
-        ensures { ComesTo P.cmp ⟦<Waiter<A> as Clone>⟧.is_clone J.capacity J.is_reserved
-            C.call_of (IsCall C.told C.says C.polled) pass.old call None
-            (ends (outcome_of_end result)) pass.new }
-    {
-        match self.attempt(rt, pass, call).answer() {
-            Ok(answer) => answer,
-            Err(left) => Err(Ended::Memory(left)),
-        }
-    }
 }
 
 fn answer_or_listed<X, L>(polled: CorePoll<X, L>) -> Result<X, (L, u64)>
@@ -223,7 +185,7 @@ impl<
         let kept = &mut self.waiter;
         let source = channel.source(C::side());
         let Some(waiter) = Waiter::register(rt, channel.alloc, cx, source, kept) else {
-            return Ok(channel.refuse_wait(rt, pass, call, ticket));
+            return Ok(end_refused(channel.try_last(rt, pass, call, ticket)));
         };
         let poll = PollOf {
             call,

@@ -20,7 +20,7 @@ use std::marker::PhantomData;
 use std::snapshot::Snapshot;
 use std::sync::{Mutex, Wait};
 
-mod waits;
+pub(crate) mod waits;
 
 /// A channel that many threads call, each with its pass.
 ///

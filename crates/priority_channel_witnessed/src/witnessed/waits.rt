@@ -17,7 +17,7 @@ ghost use Rattle.std.specs.Prelude.{◌≡◌, Some, None, IfErr, IfSome};
 ghost use Rattle.priority_channel_waiting.specs.Ends.{OnOver};
 ghost use Rattle.priority_channel_waiting.specs.Waits.{given_back, left_over, outcome_of_end};
 ghost use Rattle.priority_channel_witnessed.specs.Passes.{Tells};
-ghost use Rattle.priority_channel_witnessed.specs.Waits.{ends, ComesTo, IsCall};
+ghost use Rattle.priority_channel_witnessed.specs.Waits.{ends, Tried, ComesTo, IsCall};
 
 use crate::awaited::{Awaited, PollOf};
 use crate::chronicle::Pass;
@@ -33,6 +33,30 @@ use priority_channel_waiting::waiter::{Waiter, wake_all};
 use std::alloc::Allocator;
 use std::convert::Infallible;
 use std::sync::{Wait, WaitMethods};
+
+// The end of a wait whose time is over, with its last try.
+fn end_late<D, L, O: Drop>(last: Outcome<D, L>, over: O) -> Result<D, Ended<L, O>>
+    ensures told { last ≡ outcome_of_end result }
+    ensures over { IfErr result (λ ended. OnOver ended (λ evidence. evidence ≡ over)) }
+{
+    match last {
+        Outcome::Done(done) => Ok(done),
+        Outcome::Blocked(left) => Err(Ended::Over(left, over)),
+        Outcome::Closed(left) => Err(Ended::Closed(left)),
+        Outcome::Memory(left) => Err(Ended::Memory(left)),
+    }
+}
+
+// The end of a wait for which memory was refused, with its last try.
+pub(crate) fn end_refused<D, L>(last: Outcome<D, L>) -> Result<D, Ended<L, Infallible>>
+    ensures { Tried last (ends (outcome_of_end result)) }
+{
+    match last {
+        Outcome::Done(done) => Ok(done),
+        Outcome::Closed(left) => Err(Ended::Closed(left)),
+        Outcome::Blocked(left) | Outcome::Memory(left) => Err(Ended::Memory(left)),
+    }
+}
 
 // The answer of a poll, as one of a wait with a limit.
 #[tactic(auto, using(priority_channel_waiting::proofs::Ends::not_over))]
@@ -93,17 +117,16 @@ impl<T, P: Ord, J: Recording, A: Allocator + Copy> Witnessed<T, P, Waiter<A>, J,
         ensures left { IfErr result (λ ended. C.can_make (C.call_of (given_back ended))
             × C.leaves call (given_back ended) × OnOver ended (U.has_come until.now)) }
     {
-        match self.attempt(rt, pass, call).answer() {
-            Ok(answer) => answer,
-            Err(left) => {
-                if let Err(over) = until.left() {
-                    return Err(Ended::Over(left, over));
-                }
-                match Waiter::new(self.alloc) {
-                    Ok(waiter) => self.wait_listed(rt, pass, C::again(left), until, &waiter),
-                    Err(_) => Err(Ended::Memory(left)),
-                }
-            }
+        let left = match self.attempt(rt, pass, call).answer() {
+            Ok(answer) => return answer,
+            Err(left) => left,
+        };
+        if let Err(over) = until.left() {
+            return Err(Ended::Over(left, over));
+        }
+        match Waiter::new(self.alloc) {
+            Ok(waiter) => self.wait_listed(rt, pass, C::again(left), until, &waiter),
+            Err(_) => Err(Ended::Memory(left)),
         }
     }
 
@@ -156,35 +179,37 @@ impl<T, P: Ord, J: Recording, A: Allocator + Copy> Witnessed<T, P, Waiter<A>, J,
                         ticket = Some(given);
                         rest = C::again(left);
                     }
-                    Err(over) => return self.end_wait(rt, pass, C::again(left), given, over, until),
+                    Err(over) => {
+                        let last = self.try_last(rt, pass, C::again(left), Some(given));
+                        return end_late(last, over);
+                    }
                 },
             }
         }
         unreachable!()
     }
 
-    // Gives up the ticket, and tries a last time.
-    fn end_wait<C: Awaited<T, P, Waiter<A>, A>, R: Wait, U: Until>(
+    /// Gives up the ticket, if there is one, and tries a last time.
+    pub(crate) fn try_last<C: Awaited<T, P, Waiter<A>, A>, R: Wait>(
         &self,
         rt: &R,
         pass: &mut Pass<T, P, Waiter<A>, J>,
         call: C,
-        ticket: u64,
-        over: U::Over,
-        until: &U,
-    ) -> Result<C::Done, Ended<C::Left, U::Over>>
-        requires call { C.can_make call }
-        requires over { U.has_come until.now over }
-        ensures told { ComesTo P.cmp ⟦<Waiter<A> as Clone>⟧.is_clone J.capacity J.is_reserved
-            C.call_of (IsCall C.told C.says C.polled) pass.old call (Some ticket)
-            (ends (outcome_of_end result)) pass.new }
-        ensures left { IfErr result (λ ended. C.can_make (C.call_of (given_back ended))
-            × C.leaves call (given_back ended) × OnOver ended (U.has_come until.now)) }
+        ticket: Option<u64>,
+    ) -> Outcome<C::Done, C::Left>
+        requires { C.can_make call }
+        ensures told { (end : _) → Tried result (ends end)
+            → ComesTo P.cmp ⟦<Waiter<A> as Clone>⟧.is_clone J.capacity J.is_reserved
+            C.call_of (IsCall C.told C.says C.polled) pass.old call ticket (ends end) pass.new }
+        ensures left { IfSome (left_over result) (λ left. C.can_make (C.call_of left)
+            × C.leaves call left) }
     {
-        self.make(rt, pass, GiveUp { ticket });
-        match self.attempt(rt, pass, call).answer() {
-            Ok(answer) => answer,
-            Err(left) => Err(Ended::Over(left, over)),
+        match ticket {
+            None => self.attempt(rt, pass, call),
+            Some(ticket) => {
+                self.make(rt, pass, GiveUp { ticket });
+                self.attempt(rt, pass, call)
+            }
         }
     }
 }

@@ -2,7 +2,7 @@ use Rattle.priority_channel_witnessed.proofs.Waits.{polled_first, polled_last}
 use Rattle.priority_channel_witnessed.proofs.waiting.Waiting+C+T+P+Waiter+A+R+J+A.list.Goals as goal
 
 pub returns-in_default-clause-answered : goal.returns-in_default-clause-answered
-returns-in_default-clause-answered g c = rw (← c.self.view_is) c.refuse_wait.ensures
+returns-in_default-clause-answered g c = rw (← c.self.view_is) (c.try_last.ensures.told _ c.end_refused.ensures)
 
 pub returns-clause-answered : goal.returns-clause-answered
 returns-clause-answered g c =
