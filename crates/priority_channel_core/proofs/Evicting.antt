@@ -26,7 +26,7 @@ module _ {T P W : Type 0} (cmp : P → P → Ordering) (old new : State T P W) (
       → new ≡ record old { pending = new.pending; accepted = old.accepted + 1 } → old.accepted + old.held + 1 < 2 ^ 64 → Evicts old (Does old nobody new) cmp pair (Ok (Some out)) × IsGood new
   evicts_displaced good opened full displaced is fits =
       let long : length old.pending ≡ length displaced.rest + 1 = grind (arith, length-append) in (
-        (displaced.rest, full, displaced.less, displaced.least, opened, (grind arith, grind arith)),
+        (displaced.rest, full, displaced.less, displaced.least, (opened, (grind arith, grind arith))),
         grind (arith, length-append),
       )
 

@@ -1,9 +1,9 @@
 -- A call that does not wait makes the same change in two states that are the same, if it accepts as
 -- many pairs, and answers Memory in both or in neither.
-use Rattle.std.proofs.Common.{◌≡◌, ℕ, Bool, true, false, List, [], ◌∷◌, ◌++◌, ◌+◌, length, refl, sym, ap, ◌∙◌, zero, suc, arith, length-append, length-take, Option, Some, None, Result, Ok, Err}
+use Rattle.std.proofs.Common.{◌≡◌, ℕ, Bool, true, false, List, [], ◌∷◌, ◌++◌, ◌+◌, length, refl, sym, ap, ◌∙◌, arith, length-append, length-take, Option, Some, None, Result, Ok, Err}
 use Rattle.std.specs.Cmp.{IsTotalOrder}
 use Rattle.priority_channel_core.specs.bag.Prelude.{TakesOne}
-use Rattle.priority_channel_core.specs.Prelude.{State, Side, room, Change, Sends, Says, Clones, Drops, Ordering, SendReply, RecvReply, LeaseReply}
+use Rattle.priority_channel_core.specs.Prelude.{State, Side, room, Change, Sends, Says, Clones, Ordering, SendReply, RecvReply, LeaseReply}
 use Rattle.priority_channel_core.specs.machine.Change as change
 use Rattle.priority_channel_core.specs.declared.errors.TrySendError.TheVariants as send_error
 use Rattle.priority_channel_core.specs.declared.errors.TryRecvError.TheVariants as recv_error
@@ -76,11 +76,6 @@ module _ {T P W : Type 0} (is_clone : W → W → Type 0) {s r : State T P W} (s
     clones_same side n m true true e a b = (refl, (change.Counts side (n + 1), a.1, rw e at b.1))
     clones_same side n m false false e a b = (refl, none_same a.1 b.1)
     clones_same side n m x y e a b = absurd (omega arith)
-
-    pub drops_same : (side : Side) (n m : ℕ) → m ≡ n → Drops cmp s left does side n → Drops cmp r left' does' side m → OneChange
-    drops_same side zero m e a b = absurd a
-    drops_same side (suc zero) m e a b = (change.Leaves side, a, rw e at b)
-    drops_same side (suc (suc n)) m e a b = (change.Counts side (suc n), a, rw e at b)
 
     -- what goes out at one place, and what is left
     taken_same : (place : ℕ) (p q : T × P) (t : TakesOne s.pending p left) (u : TakesOne r.pending q left') → length t.before ≡ place → length u.before ≡ place

@@ -1,8 +1,9 @@
 -- Two steps, and two runs, over the same calls that accept as many pairs, and answer Memory in both
 -- or in neither.
-use Rattle.std.proofs.Common.{◌≡◌, List, [], ◌∷◌, length, refl, ap, ◌==◌}
+use Rattle.std.proofs.Common.{◌≡◌, ◌-◌, List, [], ◌∷◌, length, refl, ap, ◌==◌}
 use Rattle.std.specs.Cmp.{IsTotalOrder}
 use Rattle.std.specs.List.{AllZip}
+use Rattle.priority_channel_core.specs.declared.side.Side.TheVariants.{Room, Message}
 use Rattle.priority_channel_core.specs.declared.calls.Call.TheVariants as call
 use Rattle.priority_channel_core.specs.declared.calls.Answer.TheVariants as answer
 use Rattle.priority_channel_core.specs.Prelude.{State, Handed, as_list, Change, Does, Says, Moves, Calls, Answers, Operation, Run, Ordering}
@@ -10,7 +11,7 @@ use Rattle.priority_channel_core.specs.machine.Change as change
 use Rattle.priority_channel_core.specs.laws.Accepted.{accepted_by}
 use Rattle.priority_channel_core.specs.laws.Alike.{is_memory, SameState, SameOutcome, IsAlike}
 use Rattle.priority_channel_core.proofs.alike.Lists.{same_pending, same_held, same_closed, same_capacity, same_senders, same_receivers}
-use Rattle.priority_channel_core.proofs.alike.Calls.{sends_same, takes_same, changes_same, receives_same, closes_same, looks_same, clones_same, drops_same, reserves_same, leases_same, leases_at_same, puts_same, frees_same}
+use Rattle.priority_channel_core.proofs.alike.Calls.{sends_same, takes_same, changes_same, receives_same, closes_same, looks_same, clones_same, reserves_same, leases_same, leases_at_same, puts_same, frees_same}
 use Rattle.priority_channel_core.proofs.alike.Changes.{Both, does_same}
 use Rattle.priority_channel_core.proofs.alike.Evicting.{as_list_one, evicts_same}
 use Rattle.priority_channel_core.proofs.alike.Polls.{polls_send_same, polls_sendv_same, polls_receive_same}
@@ -50,8 +51,8 @@ module _ {T P W : Type 0} (is_clone : W → W → Type 0) {cmp : P → P → Ord
         told answer.CloneSender (clones_same is_clone same o left left' does does' _ _ _ x y (same_senders is_clone same) a b)
     says_same call.CloneReceiver (answer.CloneReceiver x) (answer.CloneReceiver y) a b count memory =
         told answer.CloneReceiver (clones_same is_clone same o left left' does does' _ _ _ x y (same_receivers is_clone same) a b)
-    says_same call.DropSender answer.DropSender answer.DropSender a b count memory = (refl, drops_same is_clone same o left left' does does' _ _ _ (same_senders is_clone same) a b)
-    says_same call.DropReceiver answer.DropReceiver answer.DropReceiver a b count memory = (refl, drops_same is_clone same o left left' does does' _ _ _ (same_receivers is_clone same) a b)
+    says_same call.DropSender answer.DropSender answer.DropSender a b count memory = (refl, (change.Counts Room (s.sender_count - 1), a.1, rw (same_senders is_clone same) at b.1))
+    says_same call.DropReceiver answer.DropReceiver answer.DropReceiver a b count memory = (refl, (change.Counts Message (s.receiver_count - 1), a.1, rw (same_receivers is_clone same) at b.1))
     says_same (call.GiveUp ticket) answer.GiveUp answer.GiveUp a b count memory = (refl, (change.Unlists ticket, a, b))
     says_same call.CloseWhenDone answer.CloseWhenDone answer.CloseWhenDone a b count memory = (refl, (change.Marks, a, b))
     says_same call.TryReserve (answer.TryReserve x) (answer.TryReserve y) a b count memory = told answer.TryReserve (reserves_same is_clone same o left left' does does' x y a b memory)

@@ -1,14 +1,15 @@
 -- Which change a step makes, and what its call and answer say of it.
-use Rattle.std.proofs.Common.{◌≡◌, ℕ, ◌-◌, ◌+◌, ◌<◌, ◌⊎◌, Bool, true, false, List, [], ◌∷◌, ◌++◌, length, refl, arith, inl, inr, zero, suc, length-append, Option, Some, None, Result, Ok, Err}
+use Rattle.std.proofs.Common.{◌≡◌, ℕ, ◌-◌, ◌+◌, ◌<◌, ◌⊎◌, Bool, true, false, List, [], ◌∷◌, ◌++◌, length, refl, arith, inl, inr, length-append, Option, Some, None, Result, Ok, Err}
 use Rattle.std.proofs.Math.Seq.{take-append_seam}
 use Rattle.priority_channel_core.specs.declared.calls.Call.TheVariants as call
 use Rattle.priority_channel_core.specs.declared.calls.Answer.TheVariants as answer
+use Rattle.priority_channel_core.specs.declared.side.Side.TheVariants.{Room, Message}
 use Rattle.priority_channel_core.specs.declared.errors.TrySendError.{TrySendError}
 use Rattle.priority_channel_core.specs.declared.errors.TrySendError.TheVariants as send_error
 use Rattle.priority_channel_core.specs.declared.errors.TryRecvError.TheVariants as recv_error
 use Rattle.priority_channel_core.specs.declared.errors.TryRecvManyError.TheVariants as many_error
 use Rattle.priority_channel_core.specs.bag.Prelude.{TakesGreatest, TakesLeast, TakesOne, Changes}
-use Rattle.priority_channel_core.specs.Prelude.{Side, State, Handed, as_list, Change, Does, Says, Sends, Evicts, Clones, Drops, send_answer, recv_answer, Moves, Calls, Answers, Ordering, SendReply, RecvReply, SendPoll, RecvPoll}
+use Rattle.priority_channel_core.specs.Prelude.{Side, State, Handed, as_list, Change, Does, Says, Sends, Evicts, Clones, send_answer, recv_answer, Moves, Calls, Answers, Ordering, SendReply, RecvReply, SendPoll, RecvPoll}
 use Rattle.priority_channel_core.specs.machine.Change as change
 use Rattle.priority_channel_core.specs.laws.Accepted.{all_but, sent, poll_sent, accepted_by, put_by, received_by, displaced_by, taken_by, changed_by}
 use Rattle.priority_channel_core.specs.laws.Places.{got_by, given_by}
@@ -72,7 +73,7 @@ module _ {T P W : Type 0} (cmp : P → P → Ordering) (old : State T P W) where
   Fits closes marks unlists a change.Frees = (0 < old.held) × (a ≡ record nothing { given = 1 })
   Fits closes marks unlists a change.Shuts = closes × (a ≡ nothing)
   Fits closes marks unlists a change.Marks = marks × (a ≡ nothing)
-  Fits closes marks unlists a (change.Leaves side) = closes × (a ≡ nothing)
+  Fits closes marks unlists a (change.Counts side n) = (n ≡ 0 → closes) × (a ≡ nothing)
   Fits closes marks unlists a (change.Unlists ticket) = unlists × (a ≡ nothing)
   Fits closes marks unlists a _ = a ≡ nothing
 
@@ -99,20 +100,18 @@ module _ {T P W : Type 0} (cmp : P → P → Ordering) (old : State T P W) (left
     evicts : (msg : T) (priority : P) (reply : Result (Option (T × P)) (TrySendError (T × P))) → Evicts old does cmp (msg, priority) reply
         → Made closes marks unlists (account {W = W} (call.TrySendEvicting msg priority) (answer.TrySendEvicting reply))
     evicts msg priority (Ok None) h = (change.Adds ((msg, priority) ∷ []), (h.2.0, refl), h.2.1)
-    evicts msg priority (Ok (Some out)) h = (change.MakesWay h.0 (msg, priority), (h.4, out, h.3, refl), h.5)
+    evicts msg priority (Ok (Some out)) h = (change.MakesWay h.0 (msg, priority), (h.4.0, out, h.3, refl), h.4.1)
     evicts msg priority (Err (send_error.Closed held)) h = same h.2
     evicts msg priority (Err (send_error.Full held)) h = sends ((msg, priority) ∷ []) (Err (send_error.Full (held ∷ []))) h.1
     evicts msg priority (Err (send_error.Memory held)) (inl h) = sends ((msg, priority) ∷ []) (Err (send_error.Memory (held ∷ []))) h
     evicts msg priority (Err (send_error.Memory held)) (inr h) = same h.4
 
     clones : (side : Side) (count : ℕ) (done : Bool) → Clones cmp old left does side count done → Made closes marks unlists nothing
-    clones side count true h = (change.Counts side (count + 1), refl, h.1)
+    clones side count true h = (change.Counts side (count + 1), (λ none. absurd (omega (arith, none)), refl), h.1)
     clones side count false h = same h.1
 
-  drops : {marks unlists : Type 0} (side : Side) (count : ℕ) → Drops cmp old left does side count → Made (count ≡ 1) marks unlists nothing
-  drops side zero h = absurd h
-  drops side (suc zero) h = (change.Leaves side, (refl, refl), h)
-  drops side (suc (suc others)) h = (change.Counts side (suc others), refl, h)
+  last : (count : ℕ) → 0 < count → count - 1 ≡ 0 → count ≡ 1
+  last count some none = omega (arith, some, none)
 
   pub makes : (made : Calls T P W) (reply : Answers T P) → Says cmp old left does made reply
       → Made (Closes old made) (made ≡ call.CloseWhenDone) (IsDirect made → ⊥) (account made reply)
@@ -146,8 +145,8 @@ module _ {T P W : Type 0} (cmp : P → P → Ordering) (old : State T P W) (left
   makes call.CloseWhenDone answer.CloseWhenDone h = (change.Marks, (refl, refl), h)
   makes call.CloneSender (answer.CloneSender reply) h = clones _ _ reply h
   makes call.CloneReceiver (answer.CloneReceiver reply) h = clones _ _ reply h
-  makes call.DropSender answer.DropSender h = drops _ _ h
-  makes call.DropReceiver answer.DropReceiver h = drops _ _ h
+  makes call.DropSender answer.DropSender h = (change.Counts Room (old.sender_count - 1), (last _ h.0, refl), h.1)
+  makes call.DropReceiver answer.DropReceiver h = (change.Counts Message (old.receiver_count - 1), (last _ h.0, refl), h.1)
   makes (call.GiveUp ticket) answer.GiveUp h = (change.Unlists ticket, (λ d. d, refl), h)
   makes call.IsClosed (answer.IsClosed told) h = same h.1
   makes call.IsEmpty (answer.IsEmpty told) h = same h.1

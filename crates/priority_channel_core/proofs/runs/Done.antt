@@ -1,10 +1,10 @@
 -- When a channel closes that is to close once all is done.
-use Rattle.std.proofs.Common.{◌≡◌, ◌≢◌, ℕ, true≢false, ◌⊎◌, Bool, true, false, ◌&&◌, ◌||◌, if◌then◌else◌, List, [], ◌∷◌, length, refl, ap, sym, ◌∙◌, arith, inl, inr}
+use Rattle.std.proofs.Common.{◌≡◌, ◌≢◌, ℕ, true≢false, ◌⊎◌, Bool, true, false, ◌&&◌, ◌||◌, ◌==◌, ◌-◌, List, [], ◌∷◌, length, refl, ap, sym, ◌∙◌, arith, inl, inr}
 use Rattle.std.specs.List.{All, AllByRecursion}
 use Rattle.std.proofs.lemmas.Bool.Decides.{nat_tests}
 use Rattle.std.proofs.lemmas.List.Elements.{recursion_from_All}
 use Rattle.priority_channel_core.specs.declared.side.Side.TheVariants.{Room, Message}
-use Rattle.priority_channel_core.specs.Prelude.{State, Handed, IsGood, opening, Does, shut, marked, is_done, settled, Moves, Step, Calls, Answers, Operation, Run, Ordering}
+use Rattle.priority_channel_core.specs.Prelude.{State, Handed, IsGood, opening, Does, after, is_done, settled, Moves, Step, Calls, Answers, Operation, Run, Ordering}
 use Rattle.priority_channel_core.specs.machine.Change as change
 use Rattle.priority_channel_core.specs.declared.calls.Call.TheVariants as call
 use Rattle.priority_channel_core.specs.laws.Done.{Closes}
@@ -20,6 +20,10 @@ both : (c e d : Bool) → c ≡ false → (c || (e && d)) ≡ true → (e ≡ tr
 both true e d opened h = absurd (cc)
 both false false d opened h = absurd (cc)
 both false true d opened h = (refl, h)
+
+first : (b c : Bool) → c ≡ false → (b || c) ≡ true → b ≡ true
+first true c opened h = refl
+first false c opened h = absurd (cc)
 
 -- The mark stays, and comes by what `marks` says. An open channel is closed by what `closes` says,
 -- or if all is done.
@@ -54,35 +58,44 @@ module _ {T P W : Type 0} {closes marks : Type 0} (old new : State T P W) where
       let mark = ap (λ (r : State T P W). r.ends_when_done) is ∙ ends in
       record { stays = λ marked. mark ∙ marked; comes = λ marked. inl (sym mark ∙ marked); shuts = λ opened shut. inl by }
 
-  marks_by : (b : Bool) → is_done old ≡ b → new ≡ (if b then shut (marked old) else marked old) → marks → Shows closes marks old new
-  marks_by true all is by = record {
-    stays = λ marked. ap (λ (r : State T P W). r.ends_when_done) is;
-    comes = λ marked. inr by;
-    shuts = λ opened shut. inr (ap (λ (r : State T P W). r.ends_when_done) is, ap is_done is ∙ all);
-  }
-  marks_by false some is by = record {
-    stays = λ marked. ap (λ (r : State T P W). r.ends_when_done) is;
-    comes = λ marked. inr by;
-    shuts = λ opened shut. let still = ap (λ (r : State T P W). r.is_closed) is ∙ opened in absurd (cc);
-  }
+  counts_by : (s : State T P W) (n : ℕ) → new ≡ s → s.ends_when_done ≡ old.ends_when_done → s.is_closed ≡ ((n == 0) || old.is_closed) → (n ≡ 0 → closes)
+      → Shows closes marks old new
+  counts_by s n is ends closed by =
+      let mark = ap (λ (r : State T P W). r.ends_when_done) is ∙ ends in
+      record {
+        stays = λ marked. mark ∙ marked;
+        comes = λ marked. inl (sym mark ∙ marked);
+        shuts = λ opened shut.
+            let none = first (n == 0) old.is_closed opened (sym (ap (λ (r : State T P W). r.is_closed) is ∙ closed) ∙ shut) in
+            inl (by (grind (arith, nat_tests)));
+      }
+
+  marks_by : new ≡ after old change.Marks → marks → Shows closes marks old new
+  marks_by is by =
+      let mark = ap (λ (r : State T P W). r.ends_when_done) is in
+      record {
+        stays = λ marked. mark;
+        comes = λ marked. inr by;
+        shuts = λ opened shut.
+            let done = first (is_done old) old.is_closed opened (sym (ap (λ (r : State T P W). r.is_closed) is) ∙ shut) in
+            inr (mark, ap is_done is ∙ done);
+      }
 
   shows_by : (unlists : Type 0) (cmp : P → P → Ordering) (handed : Handed W) (by : change.Change T P) (a : Account T P) → Fits cmp old closes marks unlists a by → Does old handed new by
       → Shows closes marks old new
   shows_by u cmp handed change.Nothing a f d = same _ d.1 refl refl
   shows_by u cmp handed (change.Adds front) a f d = same _ d.1 refl refl
-  shows_by u cmp handed (change.GoesOut left) a f d = settles _ d.1 refl refl
+  shows_by u cmp handed (change.GoesOut left) a f d = settles (record old { pending = left; waiters = record old.waiters { room = [] } }) d.1 refl refl
   shows_by u cmp handed (change.Lends left) a f d = same _ d.1 refl refl
   shows_by u cmp handed (change.MakesWay left pair) a f d = same _ d.1 refl refl
   shows_by u cmp handed (change.Reprices left) a f d = same _ d.1 refl refl
   shows_by u cmp handed change.Holds a f d = same _ d.1 refl refl
   shows_by u cmp handed (change.Fills pair) a f d = same _ d.1 refl refl
-  shows_by u cmp handed change.Frees a f d = settles _ d.1 refl refl
+  shows_by u cmp handed change.Frees a f d = settles (record old { held = old.held - 1; waiters = (after old change.Frees).waiters }) d.1 refl refl
   shows_by u cmp handed change.Shuts a f d = shuts_by _ d.1 refl f.0
-  shows_by u cmp handed change.Marks a f d = marks_by (is_done old) refl d.1 f.0
-  shows_by u cmp handed (change.Counts Room n) a f d = same _ d.1 refl refl
-  shows_by u cmp handed (change.Counts Message n) a f d = same _ d.1 refl refl
-  shows_by u cmp handed (change.Leaves Room) a f d = shuts_by _ d.1 refl f.0
-  shows_by u cmp handed (change.Leaves Message) a f d = shuts_by _ d.1 refl f.0
+  shows_by u cmp handed change.Marks a f d = marks_by d.1 f.0
+  shows_by u cmp handed (change.Counts Room n) a f d = counts_by _ n d.1 refl refl f.0
+  shows_by u cmp handed (change.Counts Message n) a f d = counts_by _ n d.1 refl refl f.0
   shows_by u cmp handed (change.Unlists ticket) a f d = same _ d.1 refl refl
 
 -- a poll's listing neither marks nor shuts
