@@ -2,10 +2,8 @@
 use Rattle.std.proofs.Common.{◌≡◌, ℕ, ◌+◌, ◌-◌, Bool, false, ◌&&◌, ◌||◌, ◌∙◌, ◌==◌, if◌then◌else◌, List, [], ◌∷◌, length, length-append, map, refl, sym, ap, subst, arith, Some}
 use Rattle.std.proofs.lemmas.Bool.Decides.{nat_tests}
 use Rattle.priority_channel_core.specs.bag.Prelude.{Contents, TakesOne, TakesAll}
-use Rattle.priority_channel_core.specs.Prelude.{HasOwnTickets, State, Handed, nobody, IsGood, Step, Run, Placed, in_turn, takes, TakesInTurn, Ordering, Word, bit_at, settled, state_of, Does}
+use Rattle.priority_channel_core.specs.Prelude.{HasOwnTickets, State, Handed, nobody, IsGood, Step, Run, Placed, in_turn, takes, TakesInTurn, Ordering, Word, bit_at, settled, state_of, Does, Call, Answer}
 use Rattle.priority_channel_core.specs.machine.Change as change
-use Rattle.priority_channel_core.specs.declared.calls.Call.TheVariants as call
-use Rattle.priority_channel_core.specs.declared.calls.Answer.TheVariants as answer
 use Rattle.priority_channel_core.proofs.Closing.{settled_good, settled_twice}
 use Rattle.priority_channel_core.proofs.Evicting.{good_frees}
 
@@ -37,7 +35,7 @@ module _ {T P W : Type 0} where
 
 module _ {T P W : Type 0} (cmp : P → P → Ordering) (is_clone : W → W → Type 0) where
   taking : (old mid : State T P W) (pair : T × P) (handed : Handed W) (one : TakesOne old.pending pair mid.pending) → Does old handed mid (change.GoesOut mid.pending) → IsGood old
-      → HasOwnTickets mid.waiters → Step cmp is_clone old (call.TakeWhere (length one.before)) (answer.TakeWhere (Some pair)) handed mid
+      → HasOwnTickets mid.waiters → Step cmp is_clone old (Call.TakeWhere (length one.before)) (Answer.TakeWhere (Some pair)) handed mid
   taking old mid pair handed one frees good tickets = record { moves = (one, refl, frees); good = good_frees old mid handed frees pair one good tickets }
 
   takings : (old : State T P W) (pairs rest : List (T × P)) → TakesAll old.pending pairs rest → old.waiters.room ≡ [] → IsGood old

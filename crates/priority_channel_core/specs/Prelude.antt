@@ -13,7 +13,7 @@ pub use Rattle.priority_channel_core.specs.code.Many.{in_turn, Placed, receives,
 pub use Rattle.priority_channel_core.specs.code.Replies.{kept_by, OnFull, OnMemory, OnMemoryFault, waits_under}
 pub use Rattle.priority_channel_core.specs.code.Room.{HasMemory, HasNumber, HasRoom, IsFull, SomeBelow}
 pub use Rattle.priority_channel_core.specs.code.Tests.{AddsSome, AllMeetTests, MeetsTest}
-pub use Rattle.priority_channel_core.specs.Types.{Ordering, SendReply, SendEnd, SendPoll, RecvReply, RecvEnd, RecvPoll, LeaseReply, Answer, Call, CorePoll, Pending, Ready, RecvError, RecvFault, SendFault, TryRecvError, TrySendError, Closed, Full, Memory, Side, Message, Room}
+pub use Rattle.priority_channel_core.specs.Types.{Ordering, SendReply, SendEnd, SendPoll, RecvReply, RecvEnd, RecvPoll, LeaseReply, Answer, Call, CorePoll, Pending, Ready, RecvError, RecvFault, SendFault, TryRecvError, TryRecvManyError, TrySendError, Closed, Full, Memory, Side, Message, Room}
 pub use Rattle.priority_channel_core.specs.declared.channel.bulk.Stop.{Stop}
 pub use Rattle.priority_channel_core.specs.machine.Change.{after, Change, Does, moved, shuts, wakes_receivers, wakes_senders, woken}
 pub use Rattle.priority_channel_core.specs.machine.Good.{IsGood}

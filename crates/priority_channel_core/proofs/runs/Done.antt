@@ -4,9 +4,8 @@ use Rattle.std.specs.List.{All, AllByRecursion}
 use Rattle.std.proofs.lemmas.Bool.Decides.{nat_tests}
 use Rattle.std.proofs.lemmas.List.Elements.{recursion_from_All}
 use Rattle.priority_channel_core.specs.declared.side.Side.TheVariants.{Room, Message}
-use Rattle.priority_channel_core.specs.Prelude.{State, Handed, IsGood, opening, Does, after, is_done, settled, Moves, Step, Calls, Answers, Operation, Run, Ordering}
+use Rattle.priority_channel_core.specs.Prelude.{State, Handed, IsGood, opening, Does, after, is_done, settled, Moves, Step, Calls, Answers, Operation, Run, Ordering, Call}
 use Rattle.priority_channel_core.specs.machine.Change as change
-use Rattle.priority_channel_core.specs.declared.calls.Call.TheVariants as call
 use Rattle.priority_channel_core.specs.laws.Done.{Closes}
 use Rattle.priority_channel_core.specs.laws.Places.{got_in}
 use Rattle.priority_channel_core.proofs.runs.Changes.{Account, Fits, changed}
@@ -110,17 +109,17 @@ shows_rest {T} {P} {W} old mid new rests told =
 
 module _ {T P W : Type 0} (cmp : P → P → Ordering) (is_clone : W → W → Type 0) where
   shows : (old new : State T P W) (handed : Handed W) (made : Calls T P W) (reply : Answers T P) → Moves cmp is_clone old made reply handed new
-      → Shows (Closes old made) (made ≡ call.CloseWhenDone) old new
+      → Shows (Closes old made) (made ≡ Call.CloseWhenDone) old new
   shows old new handed made reply h =
       let shown = changed cmp is_clone old new handed made reply h in
       shows_rest old shown.mid new shown.rests (shows_by old shown.mid _ cmp handed shown.by _ shown.fits shown.does)
 
   pub marked_by : (old new : State T P W) (made : Operation T P W) → Step cmp is_clone old made.call made.answer made.handed new
-      → new.ends_when_done ≡ true → (old.ends_when_done ≡ true) ⊎ (made.call ≡ call.CloseWhenDone)
+      → new.ends_when_done ≡ true → (old.ends_when_done ≡ true) ⊎ (made.call ≡ Call.CloseWhenDone)
   marked_by old new made step = (shows old new made.handed made.call made.answer step.moves).comes
 
   never_marked : (old new : State T P W) (run : List (Operation T P W)) → old.ends_when_done ≡ false → Run cmp is_clone old run new
-      → AllByRecursion (λ made. made.call ≢ call.CloseWhenDone) run → new.ends_when_done ≡ false
+      → AllByRecursion (λ made. made.call ≢ Call.CloseWhenDone) run → new.ends_when_done ≡ false
   never_marked old new [] opened run never = ap (λ (s : State T P W). s.ends_when_done) run ∙ opened
   never_marked old new (made ∷ more) opened run never =
       let still = unless run.0.ends_when_done (λ marked. elim (marked_by old run.0 made run.1 marked) [
@@ -131,7 +130,7 @@ module _ {T P W : Type 0} (cmp : P → P → Ordering) (is_clone : W → W → T
 
   -- without held places and without the mark
   pub plain_run : (capacity : ℕ) (is_reserved : Bool) (new : State T P W) (run : List (Operation T P W)) → Run cmp is_clone (opening capacity is_reserved) run new
-      → All (λ made. made.call ≢ call.CloseWhenDone) run → got_in run ≡ 0 → (new.ends_when_done ≡ false) × (new.held ≡ 0)
+      → All (λ made. made.call ≢ Call.CloseWhenDone) run → got_in run ≡ 0 → (new.ends_when_done ≡ false) × (new.held ≡ 0)
   plain_run capacity is_reserved new run goes never none =
       let counts = run_counts cmp is_clone (opening capacity is_reserved) new run goes in
       (never_marked (opening capacity is_reserved) new run refl goes (recursion_from_All _ run never), omega (arith, counts, none))

@@ -2,8 +2,6 @@
 use Rattle.std.specs.Prelude.{◌≡◌, ℕ, ◌+◌, ◌-◌, ◌<◌, ◌≤◌, ◌^◌, ◌⊎◌, Bool, true, false, ◌==◌, if◌then◌else◌, List, [], ◌∷◌, length, Option, Some, None, Ok, Err}
 use Rattle.priority_channel_core.specs.Types.{Call, Answer, TryRecvManyError, Side, Room, Message, Ordering, Full, Closed, Memory}
 use Rattle.priority_channel_core.specs.declared.calls.Call.TheVariants.{TrySend, TrySendv, TrySendEvicting, TryRecv, TakeWhere, ChangePriority, Close, IsClosed, IsEmpty, IsFull, Len, Capacity, SenderCount, ReceiverCount, CloneSender, CloneReceiver, DropSender, DropReceiver, GiveUp, CloseWhenDone, TryReserve, TryLease, LeaseWhere, Put, Free, Held}
-use Rattle.priority_channel_core.specs.declared.calls.Answer.TheVariants as answer
-use Rattle.priority_channel_core.specs.declared.errors.TryRecvManyError.TheVariants as lease
 use Rattle.priority_channel_core.specs.Errors.{batch_error_for}
 use Rattle.priority_channel_core.specs.bag.Prelude.{TakesGreatest, TakesOne, Changes}
 use Rattle.priority_channel_core.specs.machine.State.{State, used, room, IsOver, IsGoingOn}
@@ -25,9 +23,9 @@ module _ {T P W : Type 0} (cmp : P → P → Ordering) (old : State T P W) (left
     (does : Change T P → Type 0) where
   -- why no pair goes out
   abbrev Refuses : TryRecvManyError → Type 0
-  Refuses lease.Closed = (old.pending ≡ []) × IsOver old × does Nothing
-  Refuses lease.Empty = (old.pending ≡ []) × IsGoingOn old × does Nothing
-  Refuses lease.Memory =
+  Refuses TryRecvManyError.Closed = (old.pending ≡ []) × IsOver old × does Nothing
+  Refuses TryRecvManyError.Empty = (old.pending ≡ []) × IsGoingOn old × does Nothing
+  Refuses TryRecvManyError.Memory =
       (0 < length old.pending) × (old.accepted + old.held ≡ 2 ^ 64 - 1) × does Nothing
 
   abbrev Looks : {A : Type 0} → A → A → Type 0
@@ -38,63 +36,63 @@ module _ {T P W : Type 0} (cmp : P → P → Ordering) (old : State T P W) (left
   Clones side count false = (2 ^ 63 ≤ count) × does Nothing
 
   abbrev pub Says : Calls T P W → Answers T P → Type 0
-  Says (TrySend msg priority) (answer.TrySend reply) =
+  Says (TrySend msg priority) (Answer.TrySend reply) =
       Sends old does ((msg, priority) ∷ []) (as_list reply)
-  Says (TrySendv pairs) (answer.TrySendv reply) = Sends old does pairs reply
-  Says (TrySendEvicting msg priority) (answer.TrySendEvicting reply) =
+  Says (TrySendv pairs) (Answer.TrySendv reply) = Sends old does pairs reply
+  Says (TrySendEvicting msg priority) (Answer.TrySendEvicting reply) =
       Evicts old does cmp (msg, priority) reply
-  Says TryRecv (answer.TryRecv (Ok pair)) =
+  Says TryRecv (Answer.TryRecv (Ok pair)) =
       TakesGreatest cmp old.pending pair left × does (GoesOut left)
-  Says TryRecv (answer.TryRecv (Err why)) = Refuses (batch_error_for why)
-  Says TryLease (answer.TryLease (Ok pair)) =
+  Says TryRecv (Answer.TryRecv (Err why)) = Refuses (batch_error_for why)
+  Says TryLease (Answer.TryLease (Ok pair)) =
       TakesGreatest cmp old.pending pair left × does (Lends left)
-  Says TryLease (answer.TryLease (Err why)) = Refuses why
+  Says TryLease (Answer.TryLease (Err why)) = Refuses why
   -- a place in the order of acceptance
-  Says (TakeWhere place) (answer.TakeWhere (Some pair)) =
+  Says (TakeWhere place) (Answer.TakeWhere (Some pair)) =
       (taken : TakesOne old.pending pair left) × (length taken.before ≡ place)
       × does (GoesOut left)
-  Says (TakeWhere place) (answer.TakeWhere None) = (length old.pending ≤ place) × does Nothing
-  Says (LeaseWhere place) (answer.LeaseWhere (Ok (Some pair))) =
+  Says (TakeWhere place) (Answer.TakeWhere None) = (length old.pending ≤ place) × does Nothing
+  Says (LeaseWhere place) (Answer.LeaseWhere (Ok (Some pair))) =
       (taken : TakesOne old.pending pair left) × (length taken.before ≡ place) × does (Lends left)
-  Says (LeaseWhere place) (answer.LeaseWhere (Ok None)) =
+  Says (LeaseWhere place) (Answer.LeaseWhere (Ok None)) =
       (0 < length old.pending) × (length old.pending ≤ place) × does Nothing
-  Says (LeaseWhere place) (answer.LeaseWhere (Err why)) = Refuses why
-  Says (ChangePriority place priority) (answer.ChangePriority (Ok was)) =
+  Says (LeaseWhere place) (Answer.LeaseWhere (Err why)) = Refuses why
+  Says (ChangePriority place priority) (Answer.ChangePriority (Ok was)) =
       (change : Changes old.pending was priority left) × (length change.before ≡ place)
       × does (Reprices left)
-  Says (ChangePriority place priority) (answer.ChangePriority (Err back)) =
+  Says (ChangePriority place priority) (Answer.ChangePriority (Err back)) =
       (length old.pending ≤ place) × (back ≡ priority) × does Nothing
-  Says TryReserve (answer.TryReserve (Ok done)) =
+  Says TryReserve (Answer.TryReserve (Ok done)) =
       (old.is_closed ≡ false) × (0 < room old) × does Holds
-  Says TryReserve (answer.TryReserve (Err (Closed none))) =
+  Says TryReserve (Answer.TryReserve (Err (Closed none))) =
       (old.is_closed ≡ true) × does Nothing
-  Says TryReserve (answer.TryReserve (Err (Full none))) =
+  Says TryReserve (Answer.TryReserve (Err (Full none))) =
       (old.is_closed ≡ false) × (room old ≡ 0) × does Nothing
-  Says TryReserve (answer.TryReserve (Err (Memory none))) =
+  Says TryReserve (Answer.TryReserve (Err (Memory none))) =
       (old.is_closed ≡ false) × (0 < room old) × does Nothing
       × ((old.is_reserved ≡ false) ⊎ (old.accepted + old.held ≡ 2 ^ 64 - 1))
   -- also in a closed channel
-  Says (Put msg priority) (answer.Put (Ok done)) = (0 < old.held) × does (Fills (msg, priority))
-  Says (Put msg priority) (answer.Put (Err back)) =
+  Says (Put msg priority) (Answer.Put (Ok done)) = (0 < old.held) × does (Fills (msg, priority))
+  Says (Put msg priority) (Answer.Put (Err back)) =
       (old.held ≡ 0) × (back ≡ (msg, priority)) × does Nothing
-  Says Free (answer.Free true) = (0 < old.held) × does Frees
-  Says Free (answer.Free false) = (old.held ≡ 0) × does Nothing
-  Says Close (answer.Close true) = (old.is_closed ≡ false) × does Shuts
-  Says Close (answer.Close false) = (old.is_closed ≡ true) × does Nothing
-  Says CloseWhenDone answer.CloseWhenDone = does Marks
-  Says CloneSender (answer.CloneSender done) = Clones Room old.sender_count done
-  Says CloneReceiver (answer.CloneReceiver done) = Clones Message old.receiver_count done
-  Says DropSender answer.DropSender =
+  Says Free (Answer.Free true) = (0 < old.held) × does Frees
+  Says Free (Answer.Free false) = (old.held ≡ 0) × does Nothing
+  Says Close (Answer.Close true) = (old.is_closed ≡ false) × does Shuts
+  Says Close (Answer.Close false) = (old.is_closed ≡ true) × does Nothing
+  Says CloseWhenDone Answer.CloseWhenDone = does Marks
+  Says CloneSender (Answer.CloneSender done) = Clones Room old.sender_count done
+  Says CloneReceiver (Answer.CloneReceiver done) = Clones Message old.receiver_count done
+  Says DropSender Answer.DropSender =
       (0 < old.sender_count) × does (Counts Room (old.sender_count - 1))
-  Says DropReceiver answer.DropReceiver =
+  Says DropReceiver Answer.DropReceiver =
       (0 < old.receiver_count) × does (Counts Message (old.receiver_count - 1))
-  Says (GiveUp ticket) answer.GiveUp = does (Unlists ticket)
-  Says IsClosed (answer.IsClosed told) = Looks old.is_closed told
-  Says IsEmpty (answer.IsEmpty told) = Looks (length old.pending == 0) told
-  Says IsFull (answer.IsFull told) = Looks (used old == old.capacity) told
-  Says Len (answer.Len told) = Looks (length old.pending) told
-  Says Held (answer.Held told) = Looks old.held told
-  Says Capacity (answer.Capacity told) = Looks (capacity_told old.capacity) told
-  Says SenderCount (answer.SenderCount told) = Looks old.sender_count told
-  Says ReceiverCount (answer.ReceiverCount told) = Looks old.receiver_count told
+  Says (GiveUp ticket) Answer.GiveUp = does (Unlists ticket)
+  Says IsClosed (Answer.IsClosed told) = Looks old.is_closed told
+  Says IsEmpty (Answer.IsEmpty told) = Looks (length old.pending == 0) told
+  Says IsFull (Answer.IsFull told) = Looks (used old == old.capacity) told
+  Says Len (Answer.Len told) = Looks (length old.pending) told
+  Says Held (Answer.Held told) = Looks old.held told
+  Says Capacity (Answer.Capacity told) = Looks (capacity_told old.capacity) told
+  Says SenderCount (Answer.SenderCount told) = Looks old.sender_count told
+  Says ReceiverCount (Answer.ReceiverCount told) = Looks old.receiver_count told
   Says _ _ = ⊥

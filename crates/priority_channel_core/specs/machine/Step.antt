@@ -1,7 +1,6 @@
 -- A call, its answer, whom it wakes, and the state after it.
-use Rattle.priority_channel_core.specs.Types.{Room, Message, Ordering}
+use Rattle.priority_channel_core.specs.Types.{Room, Message, Ordering, Answer}
 use Rattle.priority_channel_core.specs.declared.calls.Call.TheVariants.{TrySend, TrySendv, TryRecv, PollSend, PollSendv, PollRecv}
-use Rattle.priority_channel_core.specs.declared.calls.Answer.TheVariants as answer
 use Rattle.priority_channel_core.specs.machine.State.{State, Handed}
 use Rattle.priority_channel_core.specs.machine.Good.{IsGood}
 use Rattle.priority_channel_core.specs.machine.Change.{Does}
@@ -15,14 +14,14 @@ module _ {T P W : Type 0} (cmp : P → P → Ordering) (is_clone : W → W → T
   Tries made reply handed new = Says cmp old new.pending (Does old handed new) made reply
 
   abbrev pub Moves : Calls T P W → Answers T P → Handed W → State T P W → Type 0
-  Moves (PollSend msg priority given waker) (answer.PollSend polled) =
-      Polls is_clone (λ reply. Tries (TrySend msg priority) (answer.TrySend reply)) send_answer
+  Moves (PollSend msg priority given waker) (Answer.PollSend polled) =
+      Polls is_clone (λ reply. Tries (TrySend msg priority) (Answer.TrySend reply)) send_answer
       Room given waker polled
-  Moves (PollSendv pairs given waker) (answer.PollSendv polled) =
-      Polls is_clone (λ reply. Tries (TrySendv pairs) (answer.TrySendv reply)) send_answer Room
+  Moves (PollSendv pairs given waker) (Answer.PollSendv polled) =
+      Polls is_clone (λ reply. Tries (TrySendv pairs) (Answer.TrySendv reply)) send_answer Room
       given waker polled
-  Moves (PollRecv given waker) (answer.PollRecv polled) =
-      Polls is_clone (λ reply. Tries TryRecv (answer.TryRecv reply)) recv_answer Message given
+  Moves (PollRecv given waker) (Answer.PollRecv polled) =
+      Polls is_clone (λ reply. Tries TryRecv (Answer.TryRecv reply)) recv_answer Message given
       waker polled
   Moves made reply = Tries made reply
 
