@@ -1,8 +1,6 @@
 -- The same change of two states that are the same.
 use Rattle.std.proofs.Common.{◌≡◌, ℕ, Bool, true, false, List, [], refl, ap, Some, ◌||◌, if◌then◌else◌}
-use Rattle.priority_channel_core.specs.declared.side.Side.TheVariants.{Room, Message}
-use Rattle.priority_channel_core.specs.Prelude.{State, Handed, Change, Does, after, woken, moved, shuts, wakes_senders, wakes_receivers, is_done}
-use Rattle.priority_channel_core.specs.machine.Change as change
+use Rattle.priority_channel_core.specs.Prelude.{State, Handed, Change, Does, after, woken, moved, shuts, wakes_senders, wakes_receivers, is_done, Room, Message}
 use Rattle.priority_channel_core.specs.laws.Alike.{SameHanded, SameWaiters, SameState}
 use Rattle.priority_channel_core.proofs.alike.Lists.{SameList, same_unlist, same_pending, same_held, same_ends, same_closed}
 
@@ -24,28 +22,28 @@ module _ {T P W : Type 0} (is_clone : W → W → Type 0) where
     dones = rw (same_pending is_clone same, same_held is_clone same) refl
 
     shuts_same : (c : Change T P) → shuts r c ≡ shuts s c
-    shuts_same change.Marks = dones
+    shuts_same Change.Marks = dones
     shuts_same c = refl
 
     senders_same : (c : Change T P) → wakes_senders r c ≡ wakes_senders s c
-    senders_same change.Marks = dones
+    senders_same Change.Marks = dones
     senders_same c = refl
 
     receivers_same : (c : Change T P) → wakes_receivers r c ≡ wakes_receivers s c
-    receivers_same change.Marks = dones
-    receivers_same change.Frees = rw (same_closed is_clone same, same_ends is_clone same, same_pending is_clone same, same_held is_clone same) refl
+    receivers_same Change.Marks = dones
+    receivers_same Change.Frees = rw (same_closed is_clone same, same_ends is_clone same, same_pending is_clone same, same_held is_clone same) refl
     receivers_same c = refl
 
     lists_same : (c : Change T P) → SameWaiters is_clone (moved s c).waiters (moved r c).waiters
-    lists_same (change.Counts Room n) = same.waiters
-    lists_same (change.Counts Message n) = same.waiters
-    lists_same (change.Unlists ticket) = same_unlist is_clone (Some ticket) s.waiters r.waiters same.waiters
+    lists_same (Change.Counts Room n) = same.waiters
+    lists_same (Change.Counts Message n) = same.waiters
+    lists_same (Change.Unlists ticket) = same_unlist is_clone (Some ticket) s.waiters r.waiters same.waiters
     lists_same c = same.waiters
 
     -- beside the lists a change does not depend on them
     moved_same : (c : Change T P) → moved r c ≡ record (moved s c) { waiters = (moved r c).waiters }
-    moved_same (change.Counts Room n) = ap (λ (x : State T P W). record (moved x (change.Counts Room n)) { waiters = r.waiters }) same.others
-    moved_same (change.Counts Message n) = ap (λ (x : State T P W). record (moved x (change.Counts Message n)) { waiters = r.waiters }) same.others
+    moved_same (Change.Counts Room n) = ap (λ (x : State T P W). record (moved x (Change.Counts Room n)) { waiters = r.waiters }) same.others
+    moved_same (Change.Counts Message n) = ap (λ (x : State T P W). record (moved x (Change.Counts Message n)) { waiters = r.waiters }) same.others
     moved_same c = ap (λ (x : State T P W). record (moved x c) { waiters = (moved r c).waiters }) same.others
 
     woken_same : (c : Change T P) → SameHanded is_clone (woken s c) (woken r c)

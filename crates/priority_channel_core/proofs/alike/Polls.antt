@@ -2,9 +2,7 @@
 -- answered Memory.
 use Rattle.std.proofs.Common.{◌≡◌, ℕ, Bool, true, false, List, [], ◌∷◌, length, refl, sym, ap, ◌∙◌, is_some, arith, Option, Some, Err}
 use Rattle.std.specs.Cmp.{IsTotalOrder}
-use Rattle.priority_channel_core.specs.declared.calls.CorePoll.TheVariants.{Ready, Pending}
-use Rattle.priority_channel_core.specs.declared.side.Side.{Side}
-use Rattle.priority_channel_core.specs.Prelude.{State, Handed, Does, as_list, send_answer, recv_answer, Ends, Polls, Moves, Ordering, SendReply, RecvReply, SendPoll, RecvPoll, Call, Answer, SendFault}
+use Rattle.priority_channel_core.specs.Prelude.{State, Handed, Does, as_list, send_answer, recv_answer, Ends, Polls, Moves, Ordering, SendReply, RecvReply, SendPoll, RecvPoll, Call, Answer, SendFault, Ready, Pending, Side}
 use Rattle.priority_channel_core.specs.laws.Accepted.{poll_sent, accepted_by}
 use Rattle.priority_channel_core.specs.laws.Alike.{is_memory, SameState}
 use Rattle.priority_channel_core.proofs.runs.Changes.{poll_sent-is, accepted_one-is}

@@ -3,9 +3,7 @@
 use Rattle.std.proofs.Common.{◌≡◌, ◌-◌, List, [], ◌∷◌, length, refl, ap, ◌==◌}
 use Rattle.std.specs.Cmp.{IsTotalOrder}
 use Rattle.std.specs.List.{AllZip}
-use Rattle.priority_channel_core.specs.declared.side.Side.TheVariants.{Room, Message}
-use Rattle.priority_channel_core.specs.Prelude.{State, Handed, as_list, Change, Does, Says, Moves, Calls, Answers, Operation, Run, Ordering, Call, Answer}
-use Rattle.priority_channel_core.specs.machine.Change as change
+use Rattle.priority_channel_core.specs.Prelude.{State, Handed, as_list, Change, Does, Says, Moves, Calls, Answers, Operation, Run, Ordering, Call, Answer, Room, Message}
 use Rattle.priority_channel_core.specs.laws.Accepted.{accepted_by}
 use Rattle.priority_channel_core.specs.laws.Alike.{is_memory, SameState, SameOutcome, IsAlike}
 use Rattle.priority_channel_core.proofs.alike.Lists.{same_pending, same_held, same_closed, same_capacity, same_senders, same_receivers}
@@ -49,10 +47,10 @@ module _ {T P W : Type 0} (is_clone : W → W → Type 0) {cmp : P → P → Ord
         told Answer.CloneSender (clones_same is_clone same o left left' does does' _ _ _ x y (same_senders is_clone same) a b)
     says_same Call.CloneReceiver (Answer.CloneReceiver x) (Answer.CloneReceiver y) a b count memory =
         told Answer.CloneReceiver (clones_same is_clone same o left left' does does' _ _ _ x y (same_receivers is_clone same) a b)
-    says_same Call.DropSender Answer.DropSender Answer.DropSender a b count memory = (refl, (change.Counts Room (s.sender_count - 1), a.1, rw (same_senders is_clone same) at b.1))
-    says_same Call.DropReceiver Answer.DropReceiver Answer.DropReceiver a b count memory = (refl, (change.Counts Message (s.receiver_count - 1), a.1, rw (same_receivers is_clone same) at b.1))
-    says_same (Call.GiveUp ticket) Answer.GiveUp Answer.GiveUp a b count memory = (refl, (change.Unlists ticket, a, b))
-    says_same Call.CloseWhenDone Answer.CloseWhenDone Answer.CloseWhenDone a b count memory = (refl, (change.Marks, a, b))
+    says_same Call.DropSender Answer.DropSender Answer.DropSender a b count memory = (refl, (Change.Counts Room (s.sender_count - 1), a.1, rw (same_senders is_clone same) at b.1))
+    says_same Call.DropReceiver Answer.DropReceiver Answer.DropReceiver a b count memory = (refl, (Change.Counts Message (s.receiver_count - 1), a.1, rw (same_receivers is_clone same) at b.1))
+    says_same (Call.GiveUp ticket) Answer.GiveUp Answer.GiveUp a b count memory = (refl, (Change.Unlists ticket, a, b))
+    says_same Call.CloseWhenDone Answer.CloseWhenDone Answer.CloseWhenDone a b count memory = (refl, (Change.Marks, a, b))
     says_same Call.TryReserve (Answer.TryReserve x) (Answer.TryReserve y) a b count memory = told Answer.TryReserve (reserves_same is_clone same o left left' does does' x y a b memory)
     says_same Call.TryLease (Answer.TryLease x) (Answer.TryLease y) a b count memory = told Answer.TryLease (leases_same is_clone same o left left' does does' x y a b memory)
     says_same (Call.LeaseWhere place) (Answer.LeaseWhere x) (Answer.LeaseWhere y) a b count memory =

@@ -3,9 +3,7 @@ use Rattle.std.proofs.Common.{◌≡◌, ◌≢◌, ℕ, true≢false, ◌⊎◌
 use Rattle.std.specs.List.{All, AllByRecursion}
 use Rattle.std.proofs.lemmas.Bool.Decides.{nat_tests}
 use Rattle.std.proofs.lemmas.List.Elements.{recursion_from_All}
-use Rattle.priority_channel_core.specs.declared.side.Side.TheVariants.{Room, Message}
-use Rattle.priority_channel_core.specs.Prelude.{State, Handed, IsGood, opening, Does, after, is_done, settled, Moves, Step, Calls, Answers, Operation, Run, Ordering, Call}
-use Rattle.priority_channel_core.specs.machine.Change as change
+use Rattle.priority_channel_core.specs.Prelude.{State, Handed, IsGood, opening, Does, after, is_done, settled, Moves, Step, Calls, Answers, Operation, Run, Ordering, Call, Room, Message, Change}
 use Rattle.priority_channel_core.specs.laws.Done.{Closes}
 use Rattle.priority_channel_core.specs.laws.Places.{got_in}
 use Rattle.priority_channel_core.proofs.runs.Changes.{Account, Fits, changed}
@@ -69,7 +67,7 @@ module _ {T P W : Type 0} {closes marks : Type 0} (old new : State T P W) where
             inl (by (grind (arith, nat_tests)));
       }
 
-  marks_by : new ≡ after old change.Marks → marks → Shows closes marks old new
+  marks_by : new ≡ after old Change.Marks → marks → Shows closes marks old new
   marks_by is by =
       let mark = ap (λ (r : State T P W). r.ends_when_done) is in
       record {
@@ -80,22 +78,15 @@ module _ {T P W : Type 0} {closes marks : Type 0} (old new : State T P W) where
             inr (mark, ap is_done is ∙ done);
       }
 
-  shows_by : (unlists : Type 0) (cmp : P → P → Ordering) (handed : Handed W) (by : change.Change T P) (a : Account T P) → Fits cmp old closes marks unlists a by → Does old handed new by
+  shows_by : (unlists : Type 0) (cmp : P → P → Ordering) (handed : Handed W) (by : Change T P) (a : Account T P) → Fits cmp old closes marks unlists a by → Does old handed new by
       → Shows closes marks old new
-  shows_by u cmp handed change.Nothing a f d = same _ d.1 refl refl
-  shows_by u cmp handed (change.Adds front) a f d = same _ d.1 refl refl
-  shows_by u cmp handed (change.GoesOut left) a f d = settles (record old { pending = left; waiters = record old.waiters { room = [] } }) d.1 refl refl
-  shows_by u cmp handed (change.Lends left) a f d = same _ d.1 refl refl
-  shows_by u cmp handed (change.MakesWay left pair) a f d = same _ d.1 refl refl
-  shows_by u cmp handed (change.Reprices left) a f d = same _ d.1 refl refl
-  shows_by u cmp handed change.Holds a f d = same _ d.1 refl refl
-  shows_by u cmp handed (change.Fills pair) a f d = same _ d.1 refl refl
-  shows_by u cmp handed change.Frees a f d = settles (record old { held = old.held - 1; waiters = (after old change.Frees).waiters }) d.1 refl refl
-  shows_by u cmp handed change.Shuts a f d = shuts_by _ d.1 refl f.0
-  shows_by u cmp handed change.Marks a f d = marks_by d.1 f.0
-  shows_by u cmp handed (change.Counts Room n) a f d = counts_by _ n d.1 refl refl f.0
-  shows_by u cmp handed (change.Counts Message n) a f d = counts_by _ n d.1 refl refl f.0
-  shows_by u cmp handed (change.Unlists ticket) a f d = same _ d.1 refl refl
+  shows_by u cmp handed (Change.GoesOut left) a f d = settles (record old { pending = left; waiters = record old.waiters { room = [] } }) d.1 refl refl
+  shows_by u cmp handed Change.Frees a f d = settles (record old { held = old.held - 1; waiters = (after old Change.Frees).waiters }) d.1 refl refl
+  shows_by u cmp handed Change.Shuts a f d = shuts_by _ d.1 refl f.0
+  shows_by u cmp handed Change.Marks a f d = marks_by d.1 f.0
+  shows_by u cmp handed (Change.Counts Room n) a f d = counts_by _ n d.1 refl refl f.0
+  shows_by u cmp handed (Change.Counts Message n) a f d = counts_by _ n d.1 refl refl f.0
+  shows_by u cmp handed by a f d = same _ d.1 refl refl
 
 -- a poll's listing neither marks nor shuts
 shows_rest : {T P W : Type 0} {closes marks : Type 0} (old mid new : State T P W) → new ≡ record mid { waiters = new.waiters } → Shows closes marks old mid → Shows closes marks old new

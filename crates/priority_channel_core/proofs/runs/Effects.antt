@@ -3,9 +3,8 @@ use Rattle.std.proofs.Common.{◌≡◌, ◌⊎◌, ℕ, true, false, ◌==◌, 
 use Rattle.std.proofs.lemmas.List.Sorted.{IsPermutation-refl, IsPermutation-sym, IsPermutation-trans, IsPermutation-cons, IsPermutation-middle, IsPermutation-append_left, IsPermutation-append_comm}
 use Rattle.std.proofs.lemmas.List.Elements.{All-append, All-weaker}
 use Rattle.std.specs.declared.cmp.Ordering.TheVariants.{Less}
-use Rattle.priority_channel_core.specs.declared.side.Side.TheVariants.{Room, Message}
 use Rattle.priority_channel_core.specs.bag.Prelude.{TakesGreatest}
-use Rattle.priority_channel_core.specs.Prelude.{State, Handed, Does, is_done, Moves, Calls, Answers, Ordering}
+use Rattle.priority_channel_core.specs.Prelude.{State, Handed, Does, is_done, Moves, Calls, Answers, Ordering, Room, Message}
 use Rattle.priority_channel_core.specs.machine.Change as change
 use Rattle.priority_channel_core.specs.laws.Accepted.{Change, priorities, before, after}
 use Rattle.priority_channel_core.proofs.Closing.{or_left, or_right}

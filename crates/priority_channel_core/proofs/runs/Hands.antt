@@ -1,9 +1,6 @@
 -- Each waiting list stays as it was, or all of its waiters are woken.
 use Rattle.std.proofs.Common.{◌≡◌, ℕ, ◌⊎◌, Bool, true, false, if◌then◌else◌, List, [], refl, sym, subst, inl, inr}
-use Rattle.priority_channel_core.specs.declared.side.Side.{Side}
-use Rattle.priority_channel_core.specs.declared.side.Side.TheVariants.{Room, Message}
-use Rattle.priority_channel_core.specs.Prelude.{State, Handed, Change, Does, moved, wakes_senders, wakes_receivers, Moves, Calls, Answers, Ordering}
-use Rattle.priority_channel_core.specs.machine.Change as change
+use Rattle.priority_channel_core.specs.Prelude.{State, Handed, Change, Does, moved, wakes_senders, wakes_receivers, Moves, Calls, Answers, Ordering, Side, Room, Message}
 use Rattle.priority_channel_core.specs.laws.Direct.{IsDirect}
 use Rattle.priority_channel_core.proofs.runs.Changes.{changed}
 
@@ -25,13 +22,13 @@ module _ {T P W : Type 0} (old new : State T P W) (handed : Handed W) where
   either true list = inr (refl, refl)
   either false list = inl (refl, refl)
 
-  lists_stay : (by : Change T P) → ((ticket : ℕ) → by ≡ change.Unlists ticket → ⊥) → (moved old by).waiters ≡ old.waiters
-  lists_stay (change.Counts Room n) listed = refl
-  lists_stay (change.Counts Message n) listed = refl
-  lists_stay (change.Unlists ticket) listed = absurd (listed ticket refl)
+  lists_stay : (by : Change T P) → ((ticket : ℕ) → by ≡ Change.Unlists ticket → ⊥) → (moved old by).waiters ≡ old.waiters
+  lists_stay (Change.Counts Room n) listed = refl
+  lists_stay (Change.Counts Message n) listed = refl
+  lists_stay (Change.Unlists ticket) listed = absurd (listed ticket refl)
   lists_stay by listed = refl
 
-  hands_by : (by : Change T P) → Does old handed new by → ((ticket : ℕ) → by ≡ change.Unlists ticket → ⊥) → Hands
+  hands_by : (by : Change T P) → Does old handed new by → ((ticket : ℕ) → by ≡ Change.Unlists ticket → ⊥) → Hands
   hands_by by (woken, is) listed = rw (woken, is, lists_stay by listed)
       (record { room = either (wakes_senders old by) old.waiters.room; message = either (wakes_receivers old by) old.waiters.message; next = refl })
 

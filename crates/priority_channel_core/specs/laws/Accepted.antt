@@ -2,8 +2,7 @@
 use Rattle.std.specs.Prelude.{◌≡◌, ◌-◌, false, List, [], ◌∷◌, ◌++◌, length, map, take, Some, Ok, Err, AllPairs, flat_map, IsPermutation}
 use Rattle.std.specs.Ordering.{is_gt}
 use Rattle.priority_channel_core.specs.declared.calls.Call.TheVariants.{TrySend, TrySendv, TrySendEvicting, ChangePriority, PollSend, PollSendv, Put}
-use Rattle.priority_channel_core.specs.declared.calls.CorePoll.TheVariants.{Ready, Pending}
-use Rattle.priority_channel_core.specs.Prelude.{as_list, Calls, Answers, Operation, Ordering, SendReply, SendPoll, Answer, TrySendError, SendFault}
+use Rattle.priority_channel_core.specs.Prelude.{as_list, Calls, Answers, Operation, Ordering, SendReply, SendPoll, Answer, TrySendError, SendFault, Ready, Pending}
 
 module _ {A : Type 0} where
   abbrev pub all_but : List A → List A → List A

@@ -2,8 +2,7 @@
 use Rattle.std.specs.Prelude.{◌≡◌, ℕ, ◌⊎◌, Bool, true, false, length, Err}
 use Rattle.std.specs.List.{AllZip}
 use Rattle.priority_channel_core.specs.declared.calls.Answer.TheVariants.{TrySend, TrySendv, TrySendEvicting, PollSend, PollSendv, PollRecv, TryReserve, TryLease, LeaseWhere}
-use Rattle.priority_channel_core.specs.declared.calls.CorePoll.TheVariants.{Ready}
-use Rattle.priority_channel_core.specs.Prelude.{Waiters, State, Handed, Answers, Operation, TrySendError, SendFault, RecvFault, TryRecvManyError}
+use Rattle.priority_channel_core.specs.Prelude.{Waiters, State, Handed, Answers, Operation, TrySendError, SendFault, RecvFault, TryRecvManyError, Ready}
 use Rattle.priority_channel_core.specs.laws.Accepted.{accepted_by}
 
 abbrev pub is_memory : {T P : Type 0} → Answers T P → Bool
