@@ -321,6 +321,7 @@ impl<W, A: Allocator + Copy> AwaitableAtomicCounterAndBit<W, A> {
           count = self.old.word.count - 1;
           waiters = record self.old.word.waiters { room = [] };
         } }
+        ensures tickets { HasOwnTickets self.new.word.waiters }
         ensures comparisons { self.new.comparisons ≡ self.old.comparisons }
     {
         self.decr_many(1)

@@ -14,7 +14,7 @@ returns-in-Some-clause-step g c =
       length taken.before,
       record {
         moves = rw (← c.self.view_is) (taken, refl, frees);
-        good = good_frees old new c.decr-wakes.result.1 frees c.in-Some.pair taken c.self.invariant.good (search rules);
+        good = good_frees old new c.decr-wakes.result.1 frees c.in-Some.pair taken c.self.invariant.good c.decr-wakes.ensures.tickets;
       },
     )
 
@@ -31,4 +31,4 @@ pub invariant_of-self : goal.invariant_of-self
 invariant_of-self g c =
     let own = c.self.inside in
     sound_freed own.bag c.take_where.new.self own.word.word c.decr-wakes.new.self.word c.decr-wakes.result.1 own.capacity own.is_reserved own.sender_count own.receiver_count
-    c.self.invariant c.in-Some.pair c.in-Some.ensures.taken (search rules) (search rules) c.decr-wakes.ensures.handed c.decr-wakes.ensures.word (search rules)
+    c.self.invariant c.in-Some.pair c.in-Some.ensures.taken (search rules) (search rules) c.decr-wakes.ensures.handed c.decr-wakes.ensures.word c.decr-wakes.ensures.tickets

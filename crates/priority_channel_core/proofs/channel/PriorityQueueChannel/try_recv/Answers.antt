@@ -15,14 +15,14 @@ returns-in-Some-clause-step g c =
     c.self.invariant c.in-Some.pair one (search rules) c.decr-wakes.ensures.handed c.decr-wakes.ensures.word in
     record {
       moves = rw (← c.self.view_is) (taken, frees);
-      good = good_frees old new c.decr-wakes.result.1 frees c.in-Some.pair one c.self.invariant.good (search rules);
+      good = good_frees old new c.decr-wakes.result.1 frees c.in-Some.pair one c.self.invariant.good c.decr-wakes.ensures.tickets;
     }
 
 pub invariant_of-self : goal.invariant_of-self
 invariant_of-self g c =
     let own = c.self.inside in
     sound_freed own.bag c.pop.new.self own.word.word c.decr-wakes.new.self.word c.decr-wakes.result.1 own.capacity own.is_reserved own.sender_count own.receiver_count
-    c.self.invariant c.in-Some.pair (search rules) (search rules) (search rules) c.decr-wakes.ensures.handed c.decr-wakes.ensures.word (search rules)
+    c.self.invariant c.in-Some.pair (search rules) (search rules) (search rules) c.decr-wakes.ensures.handed c.decr-wakes.ensures.word c.decr-wakes.ensures.tickets
 
 pub returns-after-is_closed-clause-step : goal.returns-after-is_closed-clause-step
 returns-after-is_closed-clause-step g c = search rules

@@ -15,7 +15,7 @@ returns-in-Some-clause-received g c =
       one,
       record {
         moves = (one, refl, frees);
-        good = good_frees old new c.decr-wakes.result.1 frees c.in-Some.pair one c.self.invariant.good (search rules);
+        good = good_frees old new c.decr-wakes.result.1 frees c.in-Some.pair one c.self.invariant.good c.decr-wakes.ensures.tickets;
       },
       greatest,
     )
@@ -24,7 +24,7 @@ pub invariant_of-self : goal.invariant_of-self
 invariant_of-self g c =
     let own = c.self.inside in
     sound_freed own.bag c.take_greatest_where.new.self own.word.word c.decr-wakes.new.self.word c.decr-wakes.result.1 own.capacity own.is_reserved own.sender_count own.receiver_count
-    c.self.invariant c.in-Some.pair c.in-Some.ensures.taken.0 (search rules) (search rules) c.decr-wakes.ensures.handed c.decr-wakes.ensures.word (search rules)
+    c.self.invariant c.in-Some.pair c.in-Some.ensures.taken.0 (search rules) (search rules) c.decr-wakes.ensures.handed c.decr-wakes.ensures.word c.decr-wakes.ensures.tickets
 
 pub returns-in-None-clause-kept : goal.returns-in-None-clause-kept
 returns-in-None-clause-kept g c = (search rules, search rules, search rules, rw (← c.self.view_is) c.in-None.ensures.none)
