@@ -1,9 +1,7 @@
 -- A bulk send of the code as a step, for every list that its iterator has.
 use Rattle.std.proofs.Common.{◌≡◌, ℕ, ◌+◌, ◌-◌, ◌<◌, ◌≤◌, ◌^◌, ◌⊎◌, true, false, List, refl, arith, inr, ◌∙◌, append-nil, Ok, Err, Option}
 use Rattle.std.specs.declared.iter.Ahead.{Ahead}
-use Rattle.priority_channel_core.specs.declared.calls.Call.TheVariants as call
-use Rattle.priority_channel_core.specs.declared.calls.Answer.TheVariants as answer
-use Rattle.priority_channel_core.specs.Prelude.{Full, Closed, Memory, State, Handed, nobody, room, IsGood, Sends, HasList, HasMore, HasEnded, SendsFront, SameReply, Performs, Ordering, SendReply, Does}
+use Rattle.priority_channel_core.specs.Prelude.{Full, Closed, Memory, State, Handed, nobody, room, IsGood, Sends, HasList, HasMore, HasEnded, SendsFront, SameReply, Performs, Ordering, SendReply, Does, Call, Answer}
 use Rattle.priority_channel_core.proofs.Sends.{refuses_full}
 
 -- a reply is right for every list that m holds
@@ -15,11 +13,11 @@ pub record Replies {T P W M : Type 0} (holds : M → List (T × P) → Type 0) (
 module _ {T P W M : Type 0} (holds : M → List (T × P) → Type 0) where
   pub performs_sendv : (cmp : P → P → Ordering) (is_clone : W → W → Type 0) (old new : State T P W) (m : M)
       (reply : SendReply M) (handed : Handed W) → IsGood new → Replies holds old m reply handed new
-      → Performs holds cmp is_clone old (call.TrySendv m) (answer.TrySendv reply) handed new
+      → Performs holds cmp is_clone old (Call.TrySendv m) (Answer.TrySendv reply) handed new
   performs_sendv cmp is_clone old new m reply handed good replies = record {
     at = λ meant same.
         let k = replies.at same.0 same.2 in
-        (answer.TrySendv k.0, (k.0, refl, k.1), rw same.1 (record { moves = k.2; good = good }));
+        (Answer.TrySendv k.0, (k.0, refl, k.1), rw same.1 (record { moves = k.2; good = good }));
   }
 
   pub replies_closed : (s : State T P W) (m : M) → s.is_closed ≡ true → Replies holds s m (Err (Closed m)) nobody s

@@ -1,9 +1,7 @@
 -- What a change of priority is in the channel.
 use Rattle.std.proofs.Common.{◌≡◌, ℕ, Bool, length, length-append, refl, arith, Result, Ok, Err, IfOk, IfErr, OnErr}
 use Rattle.priority_channel_core.specs.bag.Prelude.{Contents, Changes, PassesFirst}
-use Rattle.priority_channel_core.specs.Prelude.{Word, State, nobody, Step, state_of, IsSound, Ordering}
-use Rattle.priority_channel_core.specs.declared.calls.Call.TheVariants as call
-use Rattle.priority_channel_core.specs.declared.calls.Answer.TheVariants as answer
+use Rattle.priority_channel_core.specs.Prelude.{Word, State, nobody, Step, state_of, IsSound, Ordering, Call, Answer}
 
 module _ {T P W : Type 0} (cmp : P → P → Ordering) (is_clone : W → W → Type 0) (bag after : Contents T P) (word : Word W) (capacity : ℕ) (is_reserved : Bool)
     (senders receivers : ℕ) (sound : IsSound bag word (state_of bag word capacity is_reserved senders receivers)) where
@@ -16,7 +14,7 @@ module _ {T P W : Type 0} (cmp : P → P → Ordering) (is_clone : W → W → T
   pub change_is_step : (passes fails : T × P → Type 0) (priority : P) (changed : Result P P)
       → IfOk changed (λ was. (change : Changes bag.pending was priority after.pending) × PassesFirst passes fails change)
       → IfErr changed (λ back. back ≡ priority) → OnErr changed (after ≡ bag) → after.accepted ≡ bag.accepted
-      → (place : ℕ) × Step cmp is_clone Old (call.ChangePriority place priority) (answer.ChangePriority changed) nobody New
+      → (place : ℕ) × Step cmp is_clone Old (Call.ChangePriority place priority) (Answer.ChangePriority changed) nobody New
   change_is_step passes fails priority (Ok was) (change, first) back unchanged accepted =
       let long : length after.pending ≡ length bag.pending = grind (arith, length-append) in
       let good = sound.good in

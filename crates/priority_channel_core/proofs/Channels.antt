@@ -1,8 +1,9 @@
 -- The parts of a channel, after the loop of a bulk send has added a prefix to the bag and the word
 -- has risen.
 use Rattle.std.proofs.lemmas.Bool.Decides.{nat_tests}
-use Rattle.std.proofs.Common.{◌≡◌, ℕ, ◌+◌, ◌-◌, ◌<◌, ◌≤◌, ◌^◌, ◌⊎◌, Bool, false, List, [], ◌++◌, length, refl, arith, length-append, ◌==◌, if◌then◌else◌}
-use Rattle.priority_channel_core.specs.Prelude.{State, Handed, nobody, AddsFront, Word, HasOwnTickets, state_of, IsSound}
+use Rattle.std.proofs.Common.{◌≡◌, ℕ, ◌+◌, ◌-◌, ◌<◌, ◌≤◌, ◌^◌, ◌⊎◌, Bool, true, false, not, List, [], ◌++◌, length, refl, ap, arith, length-append, ◌==◌, if◌then◌else◌}
+use Rattle.priority_channel_core.specs.Prelude.{State, Handed, nobody, after, AddsFront, Word, HasOwnTickets, state_of, IsSound}
+use Rattle.priority_channel_core.specs.machine.Change.{Adds}
 use Rattle.priority_channel_core.specs.bag.Prelude.{Contents}
 
 module _ {T P W : Type 0} (bag bag' : Contents T P) (word word' : Word W) (handed : Handed W) (capacity : ℕ) (is_reserved : Bool)
@@ -16,8 +17,20 @@ module _ {T P W : Type 0} (bag bag' : Contents T P) (word word' : Word W) (hande
   abbrev New : State T P W
   New = state_of bag' word' capacity is_reserved senders receivers
 
+  woken_by : (none : Bool) → (if none then nobody else record { room = []; message = word.waiters.message })
+      ≡ record { room = []; message = if not none then word.waiters.message else [] }
+  woken_by true = refl
+  woken_by false = refl
+
+  left_by : (none : Bool) → (if none then word.waiters.message else []) ≡ (if not none then [] else word.waiters.message)
+  left_by true = refl
+  left_by false = refl
+
   pub adds : AddsFront Old front handed New
-  adds = rw (pending, accepted, risen, handed_is, ← long) (refl, refl)
+  adds = rw (pending, accepted, risen, handed_is, ← long) (
+    woken_by (length front == 0),
+    ap (λ (l : List (ℕ × W)). record (after Old (Adds front)) { waiters = record word.waiters { message = l } }) (left_by (length front == 0)),
+  )
 
   pub sound_adds : IsSound bag word Old → word.is_closed ≡ false → n ≤ capacity - (length bag.pending + word.held) → bag.slots ≤ bag'.slots
       → length bag'.pending + word.held ≤ bag'.slots

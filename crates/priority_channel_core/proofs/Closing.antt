@@ -28,6 +28,10 @@ module _ {T P W : Type 0} where
 pub or_left : (b c : Bool) → b ≡ true → (b || c) ≡ true
 or_left b c e = rw e refl
 
+pub or_right : (b c : Bool) → c ≡ true → (b || c) ≡ true
+or_right true c e = refl
+or_right false c e = e
+
 -- once it is closed it need not be closed again
 once : (c e h : Bool) (m n : ℕ) → n ≤ m → ((c || (e && ((m == 0) && h))) || (e && ((n == 0) && h))) ≡ (c || (e && ((n == 0) && h)))
 once true e h m n le = refl

@@ -3,8 +3,7 @@ use Rattle.std.proofs.Common.{◌≡◌, ℕ, ◌+◌, ◌-◌, ◌<◌, ◌^◌
 use Rattle.std.proofs.lemmas.List.Elements.{recursion_from_All}
 use Rattle.priority_channel_core.proofs.items.Kept.{every_part}
 use Rattle.priority_channel_core.specs.bag.Prelude.{Contents, TakesOne, NoneBelow, Displaces}
-use Rattle.priority_channel_core.specs.Prelude.{State, Handed, nobody, room, IsGood, Evicts, HasOwnTickets, SomeBelow, Ordering, Word, bit_at, state_of, IsSound, Does}
-use Rattle.priority_channel_core.specs.machine.Change as change
+use Rattle.priority_channel_core.specs.Prelude.{State, Handed, nobody, room, IsGood, Evicts, HasOwnTickets, SomeBelow, Ordering, Word, bit_at, state_of, IsSound, Does, Change}
 use Rattle.priority_channel_core.proofs.Closing.{good_settled}
 
 pub none_or_some : {T P : Type 0} (cmp : P → P → Ordering) (pending : List (T × P)) (priority : P) → SomeBelow cmp pending priority → NoneBelow cmp pending priority → ⊥
@@ -26,11 +25,11 @@ module _ {T P W : Type 0} (cmp : P → P → Ordering) (old new : State T P W) (
       → new ≡ record old { pending = new.pending; accepted = old.accepted + 1 } → old.accepted + old.held + 1 < 2 ^ 64 → Evicts old (Does old nobody new) cmp pair (Ok (Some out)) × IsGood new
   evicts_displaced good opened full displaced is fits =
       let long : length old.pending ≡ length displaced.rest + 1 = grind (arith, length-append) in (
-        (displaced.rest, full, displaced.less, displaced.least, opened, (grind arith, grind arith)),
+        (displaced.rest, full, displaced.less, displaced.least, (opened, (grind arith, grind arith))),
         grind (arith, length-append),
       )
 
-pub good_frees : {T P W : Type 0} (old new : State T P W) (handed : Handed W) → Does old handed new (change.GoesOut new.pending) → (pair : T × P) → TakesOne old.pending pair new.pending → IsGood old → HasOwnTickets new.waiters → IsGood new
+pub good_frees : {T P W : Type 0} (old new : State T P W) (handed : Handed W) → Does old handed new (Change.GoesOut new.pending) → (pair : T × P) → TakesOne old.pending pair new.pending → IsGood old → HasOwnTickets new.waiters → IsGood new
 good_frees {T} {P} {W} old new handed frees pair taken good tickets =
     let long : length old.pending ≡ length new.pending + 1 = grind (arith, length-append) in
     subst (λ (s : State T P W). IsGood s) (sym frees.1)
@@ -52,7 +51,7 @@ module _ {T P W : Type 0} (bag bag' : Contents T P) (word word' : Word W) (hande
   pub frees_one : IsSound bag word Old → (pair : T × P) → TakesOne bag.pending pair bag'.pending → bag'.accepted ≡ bag.accepted
       → handed ≡ record { room = word.waiters.room; message = [] }
       → word' ≡ record word { is_closed = bit_at word (word.count - 1) word.held; count = word.count - 1; waiters = record word.waiters { room = [] } }
-      → Does Old handed New (change.GoesOut New.pending)
+      → Does Old handed New (Change.GoesOut New.pending)
   frees_one sound pair taken accepted handed_is fallen =
       let same : word.count - 1 ≡ length bag'.pending = let counted = sound.counted in grind (arith, length-append) in
       (handed_is, rw (fallen, accepted, same) refl)

@@ -1,9 +1,7 @@
 -- Many receives, one after another.
 use Rattle.std.proofs.Common.{◌≡◌, ℕ, ◌+◌, ◌*◌, ◌≤◌, List, [], ◌∷◌, ◌++◌, length, length-append, refl, sym, ap, subst, ◌∙◌, append_assoc, arith, Ok, Err, min}
 use Rattle.std.proofs.lemmas.Nat.{mul-le}
-use Rattle.priority_channel_core.specs.declared.calls.Call.TheVariants as call
-use Rattle.priority_channel_core.specs.declared.calls.Answer.TheVariants as answer
-use Rattle.priority_channel_core.specs.Prelude.{TryRecvError, State, Handed, nobody, Step, Operation, Run, in_turn, receives, ReceivesInTurn, Ordering}
+use Rattle.priority_channel_core.specs.Prelude.{TryRecvError, State, Handed, nobody, Step, Operation, Run, in_turn, receives, ReceivesInTurn, Ordering, Call, Answer}
 use Rattle.priority_channel_core.specs.bag.Prelude.{digits}
 use Rattle.priority_channel_core.proofs.items.Digits.{digits-mono}
 use Rattle.priority_channel_core.proofs.Running.{Run-more}
@@ -12,7 +10,7 @@ module _ {T P W : Type 0} where
   receives-push : (pairs : List (T × P)) (pair : T × P) → in_turn {W = W} receives (pairs ++ pair ∷ []) nobody ≡ in_turn receives pairs nobody ++ in_turn receives (pair ∷ []) nobody
   receives-push [] pair = refl
   receives-push (p ∷ pairs) pair =
-      ap (λ (l : List (Operation T P W)). record { call = call.TryRecv; answer = answer.TryRecv (Ok p); handed = nobody } ∷ l) (receives-push pairs pair)
+      ap (λ (l : List (Operation T P W)). record { call = Call.TryRecv; answer = Answer.TryRecv (Ok p); handed = nobody } ∷ l) (receives-push pairs pair)
 
 module _ {T P W : Type 0} (cmp : P → P → Ordering) (is_clone : W → W → Type 0) where
   -- `count` receives succeeded, and what they gave stands behind what was there before
@@ -25,11 +23,11 @@ module _ {T P W : Type 0} (cmp : P → P → Ordering) (is_clone : W → W → T
     pub nobody_waits : new.waiters.room ≡ []
 
   pub first_length : (old mid : State T P W) (pair : T × P) (handed : Handed W)
-      → Step cmp is_clone old call.TryRecv (answer.TryRecv (Ok pair)) handed mid → length old.pending ≡ length mid.pending + 1
+      → Step cmp is_clone old Call.TryRecv (Answer.TryRecv (Ok pair)) handed mid → length old.pending ≡ length mid.pending + 1
   first_length old mid pair handed s = let taken = s.moves.0 in grind (arith, length-append)
 
   pub received_more : (old mid new : State T P W) (before now after : List (T × P)) (count : ℕ) (pair : T × P) (handed : Handed W)
-      → Received old before count mid now → Step cmp is_clone mid call.TryRecv (answer.TryRecv (Ok pair)) handed new → after ≡ now ++ pair ∷ []
+      → Received old before count mid now → Step cmp is_clone mid Call.TryRecv (Answer.TryRecv (Ok pair)) handed new → after ≡ now ++ pair ∷ []
       → Received old before (count + 1) new after
   received_more old mid new before now after count pair handed r s is =
       let handed_is : handed ≡ nobody = s.moves.1.0 ∙ ap (λ (l : List (ℕ × W)). record { room = l; message = [] }) r.nobody_waits in
@@ -40,13 +38,13 @@ module _ {T P W : Type 0} (cmp : P → P → Ordering) (is_clone : W → W → T
         long = omega (arith, length-append r.pairs (pair ∷ []), r.long);
         counted = omega (arith, taken, r.counted);
         run = subst (λ (run : List (Operation T P W)). Run cmp is_clone old run new) (sym (receives-push r.pairs pair))
-            (Run-more cmp is_clone old mid new (in_turn receives r.pairs nobody) (record { call = call.TryRecv; answer = answer.TryRecv (Ok pair); handed = nobody }) r.run
-            (subst (λ (h : Handed W). Step cmp is_clone mid call.TryRecv (answer.TryRecv (Ok pair)) h new) handed_is s));
+            (Run-more cmp is_clone old mid new (in_turn receives r.pairs nobody) (record { call = Call.TryRecv; answer = Answer.TryRecv (Ok pair); handed = nobody }) r.run
+            (subst (λ (h : Handed W). Step cmp is_clone mid Call.TryRecv (Answer.TryRecv (Ok pair)) h new) handed_is s));
         nobody_waits = ap (λ (s : State T P W). s.waiters.room) s.moves.1.1;
       }
 
   pub received_first : (old mid new : State T P W) (before first now pairs : List (T × P)) (pair : T × P) (handed : Handed W)
-      → Step cmp is_clone old call.TryRecv (answer.TryRecv (Ok pair)) handed mid → first ≡ before ++ pair ∷ []
+      → Step cmp is_clone old Call.TryRecv (Answer.TryRecv (Ok pair)) handed mid → first ≡ before ++ pair ∷ []
       → now ≡ first ++ pairs → ReceivesInTurn cmp is_clone mid pairs nobody new
       → (now ≡ before ++ (pair ∷ pairs)) × ReceivesInTurn cmp is_clone old (pair ∷ pairs) handed new
   received_first old mid new before first now pairs pair handed s is items more = (
@@ -55,7 +53,7 @@ module _ {T P W : Type 0} (cmp : P → P → Ordering) (is_clone : W → W → T
   )
 
   pub refusal_costs : (old new : State T P W) (error : TryRecvError) (handed : Handed W)
-      → Step cmp is_clone old call.TryRecv (answer.TryRecv (Err error)) handed new → digits (length old.pending) ≡ 0
+      → Step cmp is_clone old Call.TryRecv (Answer.TryRecv (Err error)) handed new → digits (length old.pending) ≡ 0
   unfolding digits
   refusal_costs old new error handed s = grind arith
 

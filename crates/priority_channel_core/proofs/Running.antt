@@ -4,10 +4,8 @@ use Rattle.std.proofs.Common.{◌≡◌, ℕ, ◌+◌, List, [], ◌∷◌, ◌+
 use Rattle.std.specs.List.{AllZip}
 use Rattle.std.proofs.lemmas.List.{map-append}
 use Rattle.priority_channel_core.specs.bag.Prelude.{Changes, PassesFirst}
-use Rattle.priority_channel_core.specs.Prelude.{Call, Answer, State, Handed, Step, Calls, Answers, Operation, Run, Response, AtSomePlace, SameButPlace, SameCall, SameOperation, Makes, Performs, RunsFront, AddsSome, MeetsTest, AllMeetTests, SameAnswer, Ordering}
+use Rattle.priority_channel_core.specs.Prelude.{Call, Answer, State, Handed, Step, Calls, Answers, Operation, Run, Response, AtSomePlace, SameButPlace, SameCall, SameOperation, Makes, Performs, RunsFront, AddsSome, MeetsTest, AllMeetTests, SameAnswer, Ordering, TryRecvManyError}
 use Rattle.priority_channel_core.specs.declared.calls.Call.TheVariants.{TakeWhere, ChangePriority, LeaseWhere}
-use Rattle.priority_channel_core.specs.declared.errors.TryRecvManyError.{TryRecvManyError}
-use Rattle.priority_channel_core.specs.declared.calls.Answer.TheVariants as answer
 
 pub zip_push : {A B : Type 0} (R : A → B → Type 0) (xs : List A) (ys : List B) (x : A) (y : B) → AllZip R xs ys → R x y → AllZip R (xs ++ x ∷ []) (ys ++ y ∷ [])
 zip_push R xs ys x y a r = all_zipped_more R xs ys x y a r
@@ -125,16 +123,16 @@ module _ {T P W M F : Type 0} (holds : M → List (T × P) → Type 0) (cmp : P 
           )
 
 module _ {T P W M F : Type 0} (passes fails : F → T × P → Type 0) (old new : List (T × P)) (made : Call T P W M F) (reply : Answer T P M) (test : F) where
-  pub taking_meets : (taken : Option (T × P)) → made ≡ TakeWhere test → reply ≡ answer.TakeWhere taken → IfSome taken (passes test) → IfNone taken (All (fails test) old)
+  pub taking_meets : (taken : Option (T × P)) → made ≡ TakeWhere test → reply ≡ Answer.TakeWhere taken → IfSome taken (passes test) → IfNone taken (All (fails test) old)
       → MeetsTest passes fails old made reply new
   taking_meets taken is told met none = grind arith
 
-  pub leasing_meets : (leased : Result (Option (T × P)) TryRecvManyError) → made ≡ LeaseWhere test → reply ≡ answer.LeaseWhere leased
+  pub leasing_meets : (leased : Result (Option (T × P)) TryRecvManyError) → made ≡ LeaseWhere test → reply ≡ Answer.LeaseWhere leased
       → IfOk leased (λ taken. IfSome taken (passes test)) → IfOk leased (λ taken. IfNone taken (All (fails test) old))
       → MeetsTest passes fails old made reply new
   leasing_meets leased is told met none = grind arith
 
-  pub change_meets : (priority : P) (changed : Result P P) → made ≡ ChangePriority test priority → reply ≡ answer.ChangePriority changed
+  pub change_meets : (priority : P) (changed : Result P P) → made ≡ ChangePriority test priority → reply ≡ Answer.ChangePriority changed
       → IfOk changed (λ was. (change : Changes old was priority new) × PassesFirst (passes test) (fails test) change) → OnErr changed (All (fails test) old)
       → MeetsTest passes fails old made reply new
   change_meets priority (Ok before) is told met none = record {

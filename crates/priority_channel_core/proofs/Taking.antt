@@ -2,10 +2,7 @@
 use Rattle.std.proofs.Common.{◌≡◌, ℕ, ◌+◌, ◌-◌, Bool, false, ◌&&◌, ◌||◌, ◌∙◌, ◌==◌, if◌then◌else◌, List, [], ◌∷◌, length, length-append, map, refl, sym, ap, subst, arith, Some}
 use Rattle.std.proofs.lemmas.Bool.Decides.{nat_tests}
 use Rattle.priority_channel_core.specs.bag.Prelude.{Contents, TakesOne, TakesAll}
-use Rattle.priority_channel_core.specs.Prelude.{HasOwnTickets, State, Handed, nobody, IsGood, Step, Run, Placed, in_turn, takes, TakesInTurn, Ordering, Word, bit_at, settled, state_of, Does}
-use Rattle.priority_channel_core.specs.machine.Change as change
-use Rattle.priority_channel_core.specs.declared.calls.Call.TheVariants as call
-use Rattle.priority_channel_core.specs.declared.calls.Answer.TheVariants as answer
+use Rattle.priority_channel_core.specs.Prelude.{HasOwnTickets, State, Handed, nobody, IsGood, Step, Run, Placed, in_turn, takes, TakesInTurn, Ordering, Word, bit_at, settled, state_of, Does, Call, Answer, Change}
 use Rattle.priority_channel_core.proofs.Closing.{settled_good, settled_twice}
 use Rattle.priority_channel_core.proofs.Evicting.{good_frees}
 
@@ -36,8 +33,8 @@ module _ {T P W : Type 0} where
   retained bag bag' word word' capacity is_reserved senders receivers n falls accepted same = rw (falls, accepted, same) refl
 
 module _ {T P W : Type 0} (cmp : P → P → Ordering) (is_clone : W → W → Type 0) where
-  taking : (old mid : State T P W) (pair : T × P) (handed : Handed W) (one : TakesOne old.pending pair mid.pending) → Does old handed mid (change.GoesOut mid.pending) → IsGood old
-      → HasOwnTickets mid.waiters → Step cmp is_clone old (call.TakeWhere (length one.before)) (answer.TakeWhere (Some pair)) handed mid
+  taking : (old mid : State T P W) (pair : T × P) (handed : Handed W) (one : TakesOne old.pending pair mid.pending) → Does old handed mid (Change.GoesOut mid.pending) → IsGood old
+      → HasOwnTickets mid.waiters → Step cmp is_clone old (Call.TakeWhere (length one.before)) (Answer.TakeWhere (Some pair)) handed mid
   taking old mid pair handed one frees good tickets = record { moves = (one, refl, frees); good = good_frees old mid handed frees pair one good tickets }
 
   takings : (old : State T P W) (pairs rest : List (T × P)) → TakesAll old.pending pairs rest → old.waiters.room ≡ [] → IsGood old
@@ -48,7 +45,7 @@ module _ {T P W : Type 0} (cmp : P → P → Ordering) (is_clone : W → W → T
       ([], refl, same, rw same good)
   takings old (pair ∷ more) rest h nobody_waits good =
       let mid : State T P W = settled (record old { pending = h.0 }) in
-      let frees : Does old nobody mid (change.GoesOut mid.pending) = (
+      let frees : Does old nobody mid (Change.GoesOut mid.pending) = (
         ap (λ (room : List (ℕ × W)). record { room = room; message = [] }) (sym nobody_waits),
         ap (λ (room : List (ℕ × W)). settled (record old { pending = h.0; waiters = record old.waiters { room = room } })) nobody_waits,
       ) in
@@ -75,7 +72,7 @@ module _ {T P W : Type 0} (cmp : P → P → Ordering) (is_clone : W → W → T
       let long = all_length h.0 more new.pending h.2 in
       let is : new ≡ settled (record freed { pending = new.pending }) = new_is ∙ ap (λ (b : Bool). fallen_if old new.pending b) some in
       let end : new ≡ settled (record mid { pending = new.pending }) = is ∙ sym (settled_twice freed h.0 new.pending (omega (arith, long))) in
-      let frees : Does old handed mid (change.GoesOut mid.pending) = (handed_is ∙ ap (λ (b : Bool). if b then nobody else record { room = old.waiters.room; message = [] }) some, refl) in
+      let frees : Does old handed mid (Change.GoesOut mid.pending) = (handed_is ∙ ap (λ (b : Bool). if b then nobody else record { room = old.waiters.room; message = [] }) some, refl) in
       let step = taking old mid pair handed h.1 frees good (subst (λ (s : State T P W). HasOwnTickets s.waiters) is tickets) in
       let rest_of = takings mid more new.pending h.2 refl step.good in
       let run = subst (λ (s : State T P W). Run cmp is_clone mid (in_turn takes rest_of.0 nobody) s) (sym end) rest_of.2 in (

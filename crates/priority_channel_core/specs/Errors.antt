@@ -1,10 +1,6 @@
 -- What the errors of sends and receives hold and print.
 use Rattle.std.specs.Prelude.{ℕ, List, codes}
 use Rattle.priority_channel_core.specs.Types.{TrySendError, Full, Closed, Memory, TryRecvError, TryRecvManyError, SendFault, RecvFault}
-use Rattle.priority_channel_core.specs.declared.errors.TryRecvError.TheVariants as recv_error
-use Rattle.priority_channel_core.specs.declared.errors.TryRecvManyError.TheVariants as many_error
-use Rattle.priority_channel_core.specs.declared.errors.SendFault.TheVariants as send_fault
-use Rattle.priority_channel_core.specs.declared.errors.RecvFault.TheVariants as recv_fault
 
 module _ {A : Type 0} where
   abbrev pub rest_of : TrySendError A → A
@@ -13,13 +9,13 @@ module _ {A : Type 0} where
   rest_of (Memory held) = held
 
   abbrev pub unsent : SendFault A → A
-  unsent (send_fault.Closed error) = error.0
-  unsent (send_fault.Memory held) = held
+  unsent (SendFault.Closed error) = error.0
+  unsent (SendFault.Memory held) = held
 
   -- the error of a send that does not wait, for the same reason
   abbrev pub refusal_for : SendFault A → TrySendError A
-  refusal_for (send_fault.Closed error) = Closed error.0
-  refusal_for (send_fault.Memory held) = Memory held
+  refusal_for (SendFault.Closed error) = Closed error.0
+  refusal_for (SendFault.Memory held) = Memory held
 
   -- `{}` output, and `{:?}` output: the variant, and nothing of what it gives back
   abbrev pub try_send_error_text : TrySendError A → List ℕ
@@ -39,17 +35,17 @@ module _ {A : Type 0} where
   send_fault_debug fault = try_send_error_debug (refusal_for fault)
 
 abbrev pub batch_error_for : TryRecvError → TryRecvManyError
-batch_error_for recv_error.Empty = many_error.Empty
-batch_error_for recv_error.Closed = many_error.Closed
+batch_error_for TryRecvError.Empty = TryRecvManyError.Empty
+batch_error_for TryRecvError.Closed = TryRecvManyError.Closed
 
 abbrev pub try_recv_many_error_text : TryRecvManyError → List ℕ
-try_recv_many_error_text many_error.Empty = codes "receiving from an empty channel"
-try_recv_many_error_text many_error.Closed = codes "receiving from an empty and closed channel"
-try_recv_many_error_text many_error.Memory = codes "no memory for receiving"
+try_recv_many_error_text TryRecvManyError.Empty = codes "receiving from an empty channel"
+try_recv_many_error_text TryRecvManyError.Closed = codes "receiving from an empty and closed channel"
+try_recv_many_error_text TryRecvManyError.Memory = codes "no memory for receiving"
 
 abbrev pub try_recv_error_text : TryRecvError → List ℕ
 try_recv_error_text error = try_recv_many_error_text (batch_error_for error)
 
 abbrev pub recv_fault_text : RecvFault → List ℕ
-recv_fault_text (recv_fault.Closed error) = codes "receiving from an empty and closed channel"
-recv_fault_text recv_fault.Memory = codes "no memory for waiting"
+recv_fault_text (RecvFault.Closed error) = codes "receiving from an empty and closed channel"
+recv_fault_text RecvFault.Memory = codes "no memory for waiting"

@@ -13,13 +13,13 @@ pub use Rattle.priority_channel_core.specs.code.Many.{in_turn, Placed, receives,
 pub use Rattle.priority_channel_core.specs.code.Replies.{kept_by, OnFull, OnMemory, OnMemoryFault, waits_under}
 pub use Rattle.priority_channel_core.specs.code.Room.{HasMemory, HasNumber, HasRoom, IsFull, SomeBelow}
 pub use Rattle.priority_channel_core.specs.code.Tests.{AddsSome, AllMeetTests, MeetsTest}
-pub use Rattle.priority_channel_core.specs.Types.{Ordering, SendReply, SendEnd, SendPoll, RecvReply, RecvEnd, RecvPoll, LeaseReply, Answer, Call, CorePoll, Pending, Ready, RecvError, RecvFault, SendFault, TryRecvError, TrySendError, Closed, Full, Memory, Side, Message, Room}
+pub use Rattle.priority_channel_core.specs.Types.{Ordering, SendReply, SendEnd, SendPoll, RecvReply, RecvEnd, RecvPoll, LeaseReply, Answer, Call, CorePoll, Pending, Ready, RecvError, RecvFault, SendFault, TryRecvError, TryRecvManyError, TrySendError, Closed, Full, Memory, Side, Message, Room}
 pub use Rattle.priority_channel_core.specs.declared.channel.bulk.Stop.{Stop}
-pub use Rattle.priority_channel_core.specs.machine.Change.{added, after, all_receivers, all_senders, Change, counted, Does, everybody, is_last, marked, shut, woken}
+pub use Rattle.priority_channel_core.specs.machine.Change.{after, Change, Does, moved, shuts, wakes_receivers, wakes_senders, woken}
 pub use Rattle.priority_channel_core.specs.machine.Good.{IsGood}
 pub use Rattle.priority_channel_core.specs.machine.Polls.{Ends, Polls, recv_answer, send_answer}
 pub use Rattle.priority_channel_core.specs.machine.Run.{Operation, Run}
-pub use Rattle.priority_channel_core.specs.machine.Says.{Answers, Calls, capacity_told, Clones, Drops, Says}
-pub use Rattle.priority_channel_core.specs.machine.Sends.{Accepts, as_list, Evicts, Sends}
-pub use Rattle.priority_channel_core.specs.machine.State.{Handed, is_done, IsGoingOn, IsOver, nobody, opening, room, settled, State}
-pub use Rattle.priority_channel_core.specs.machine.Step.{Moves, Step, Tries}
+pub use Rattle.priority_channel_core.specs.machine.Says.{Answers, Calls, capacity_told, Clones, Says}
+pub use Rattle.priority_channel_core.specs.machine.Sends.{as_list, Evicts, Sends}
+pub use Rattle.priority_channel_core.specs.machine.State.{Handed, is_done, IsGoingOn, IsOver, nobody, opening, room, settled, State, used}
+pub use Rattle.priority_channel_core.specs.machine.Step.{Moves, Step}

@@ -128,7 +128,6 @@ impl<W, A: Allocator + Copy> AwaitableAtomicCounterAndBit<W, A> {
           ends = false;
           waiters = no_waiters;
         } }
-        ensures tickets { HasOwnTickets result.word.waiters }
     {
         AwaitableAtomicCounterAndBit {
             alloc,
@@ -162,7 +161,6 @@ impl<W, A: Allocator + Copy> AwaitableAtomicCounterAndBit<W, A> {
     /// From now on the bit is set once the count and the held places have fallen to nothing.
     pub fn end_at_nothing(&mut self)
         ensures word { self.new.word ≡ record self.old.word { ends = true } }
-        ensures tickets { HasOwnTickets self.new.word.waiters }
         ensures comparisons { self.new.comparisons ≡ self.old.comparisons }
     {
         self.ends = true;
@@ -174,7 +172,6 @@ impl<W, A: Allocator + Copy> AwaitableAtomicCounterAndBit<W, A> {
         ensures word { self.new.word ≡ record self.old.word {
           is_closed = bit_at self.old.word self.old.word.count self.old.word.held;
         } }
-        ensures tickets { HasOwnTickets self.new.word.waiters }
         ensures comparisons { self.new.comparisons ≡ self.old.comparisons }
     {
         if self.ends && self.held == 0 && self.load().1 == 0 {
@@ -187,7 +184,6 @@ impl<W, A: Allocator + Copy> AwaitableAtomicCounterAndBit<W, A> {
         requires { self.old.word.held + 1 < 2 ^ 63 }
         ensures word { self.new.word
             ≡ record self.old.word { held = self.old.word.held + 1 } }
-        ensures tickets { HasOwnTickets self.new.word.waiters }
         ensures comparisons { self.new.comparisons ≡ self.old.comparisons }
     {
         self.held += 1;
@@ -201,7 +197,6 @@ impl<W, A: Allocator + Copy> AwaitableAtomicCounterAndBit<W, A> {
           count = self.old.word.count - 1;
           held = self.old.word.held + 1;
         } }
-        ensures tickets { HasOwnTickets self.new.word.waiters }
         ensures comparisons { self.new.comparisons ≡ self.old.comparisons }
     {
         self.packed -= 1;
@@ -219,7 +214,6 @@ impl<W, A: Allocator + Copy> AwaitableAtomicCounterAndBit<W, A> {
           held = self.old.word.held - 1;
           waiters = record self.old.word.waiters { message = [] };
         } }
-        ensures tickets { HasOwnTickets self.new.word.waiters }
         ensures comparisons { self.new.comparisons ≡ self.old.comparisons }
     {
         self.held -= 1;
@@ -276,7 +270,6 @@ impl<W, A: Allocator + Copy> AwaitableAtomicCounterAndBit<W, A> {
           is_closed = true;
           waiters = record self.old.word.waiters { room = []; message = [] };
         } }
-        ensures tickets { HasOwnTickets self.new.word.waiters }
         ensures comparisons { self.new.comparisons ≡ self.old.comparisons }
     {
         let (was_closed, _) = unpack(self.packed);
@@ -391,7 +384,6 @@ impl<W: Clone, A: Allocator + Copy> AwaitableAtomicCounterAndBit<W, A> {
         ensures word { self.new.word ≡ record self.old.word { waiters = self.new.word.waiters } }
         ensures renewed { is_given_listed ticket self.old.word.waiters.message ≡ true
             → W.is_infallible waker.now → IsSome result }
-        ensures tickets { HasOwnTickets self.new.word.waiters }
         ensures fits { self.new.word.waiters.next_ticket < 2 ^ 64 }
         ensures cost { self.new.comparisons
             ≤ self.old.comparisons + search_bound self.old.word.waiters }
@@ -406,7 +398,6 @@ impl<W: Clone, A: Allocator + Copy> AwaitableAtomicCounterAndBit<W, A> {
         ensures word { self.new.word ≡ record self.old.word { waiters = self.new.word.waiters } }
         ensures renewed { is_given_listed ticket self.old.word.waiters.room ≡ true
             → W.is_infallible waker.now → IsSome result }
-        ensures tickets { HasOwnTickets self.new.word.waiters }
         ensures fits { self.new.word.waiters.next_ticket < 2 ^ 64 }
         ensures cost { self.new.comparisons
             ≤ self.old.comparisons + search_bound self.old.word.waiters }

@@ -15,6 +15,18 @@ pub struct Item<T, P> {
     pub number: u64,
 }
 
+impl<T, P> Item<T, P> {
+    ghost use Rattle.std.specs.Prelude.{◌≡◌};
+    ghost use Rattle.priority_channel_core.specs.bag.Prelude.{pair_of};
+
+    #[inline(always)]
+    pub(crate) fn into_pair(self) -> (T, P)
+        ensures { result ≡ pair_of self }
+    {
+        (self.msg, self.priority)
+    }
+}
+
 impl<T, P: Ord> PartialEq for Item<T, P> {
     ghost eq = { eq_of_both (on (λ i. i.priority) P.eq) (on (λ i. i.number) (λ m n. m == n)) };
 

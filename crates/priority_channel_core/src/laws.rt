@@ -6,10 +6,7 @@ ghost use Rattle.std.specs.List.{AllZip};
 ghost use Rattle.std.specs.Iterator.{AlwaysYields};
 ghost use Rattle.std.specs.Iterator.Adapters.{peekable_peeked, peekable_source};
 ghost use Rattle.std.specs.declared.iter.Ahead.{Ahead};
-ghost use Rattle.priority_channel_core.specs.declared.calls.Call.TheVariants as call;
-ghost use Rattle.priority_channel_core.specs.declared.calls.Answer.TheVariants as answer;
-ghost use Rattle.priority_channel_core.specs.declared.errors.TryRecvError.TheVariants as recv_error;
-ghost use Rattle.priority_channel_core.specs.Prelude.{State, IsGood, opening, Step, Run, Operation, is_done, HasList};
+ghost use Rattle.priority_channel_core.specs.Prelude.{Answer, Call, TryRecvError, State, IsGood, opening, Step, Run, Operation, is_done, HasList};
 ghost use Rattle.priority_channel_core.specs.bag.Prelude.{digits, TakesGreatest, TakesLeast};
 ghost use Rattle.priority_channel_core.specs.laws.Accepted.{accepted_in, put_in, received_in, changed_in, Conserves, NeverRise};
 ghost use Rattle.priority_channel_core.specs.laws.Alike.{IsAlike, SameOutcome, SameState};
@@ -41,10 +38,10 @@ pub fn drain_law<T, P: Ord, W: Clone>()
     // A closed channel of which no place is held gives each pending pair, and then nothing more.
     ensures drained { (old new : State T P W) (run : List (Operation T P W))
         → Run P.cmp W.is_clone old run new → old.is_closed ≡ true → old.held ≡ 0
-        → map (λ made. made.call) run ≡ replicate (length old.pending + 1) call.TryRecv
+        → map (λ made. made.call) run ≡ replicate (length old.pending + 1) Call.TryRecv
         → (pairs : List (T × P)) × IsPermutation old.pending pairs × NeverRise P.cmp pairs
-        × (map (λ made. made.answer) run ≡ map (λ pair. answer.TryRecv (Ok pair)) pairs
-        ++ answer.TryRecv (Err recv_error.Closed) ∷ []) }
+        × (map (λ made. made.answer) run ≡ map (λ pair. Answer.TryRecv (Ok pair)) pairs
+        ++ Answer.TryRecv (Err TryRecvError.Closed) ∷ []) }
 {}
 
 /// A channel that is to close when all is done does so in the very step after which nothing is
@@ -64,11 +61,11 @@ pub fn done_law<T, P: Ord, W: Clone>()
     ensures asked { (old new : State T P W) (made : Operation T P W)
         → Step P.cmp W.is_clone old made.call made.answer made.handed new
         → new.ends_when_done ≡ true
-        → (old.ends_when_done ≡ true) ⊎ (made.call ≡ call.CloseWhenDone) }
+        → (old.ends_when_done ≡ true) ⊎ (made.call ≡ Call.CloseWhenDone) }
     // A channel that never holds a place, and is never to close so, is a plain one for ever.
     ensures plain { (capacity : ℕ) (is_reserved : Bool) (new : State T P W)
         (run : List (Operation T P W)) → Run P.cmp W.is_clone (opening capacity is_reserved) run new
-        → All (λ made. made.call ≢ call.CloseWhenDone) run → got_in run ≡ 0
+        → All (λ made. made.call ≢ Call.CloseWhenDone) run → got_in run ≡ 0
         → (new.ends_when_done ≡ false) × (new.held ≡ 0) }
 {}
 

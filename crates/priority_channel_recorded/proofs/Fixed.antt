@@ -53,7 +53,7 @@ module _ {T P : Type 0} {cmp : P → P → Ordering} (o : IsTotalOrder cmp) wher
   same_state old new other handed others (TrySendEvicting msg priority) (answer.TrySendEvicting (Ok None)) m n =
       all_sent old new other handed others (msg, priority) m n
   same_state old new other handed others (TrySendEvicting msg priority) (answer.TrySendEvicting (Ok (Some out))) m n =
-      m.5.1 ∙ ap (λ (left : List (T × P)). after (MakesWay left (msg, priority)) old) (one_least o old.pending out out m.0 n.0 m.3 n.3).1 ∙ sym n.5.1
+      m.4.1.1 ∙ ap (λ (left : List (T × P)). after old (MakesWay left (msg, priority))) (one_least o old.pending out out m.0 n.0 m.3 n.3).1 ∙ sym n.4.1.1
   same_state old new other handed others (TrySendEvicting msg priority) (answer.TrySendEvicting (Err (send_error.Closed pair))) m n = m.2.1 ∙ sym n.2.1
   same_state old new other handed others (TrySendEvicting msg priority) (answer.TrySendEvicting (Err (send_error.Full pair))) m n =
       adds_none old new other handed others m.1.0 n.1.0 (no_front _ pair m.1.0 m.1.1) (no_front _ pair n.1.0 n.1.1) m.1.4.1 n.1.4.1
@@ -65,7 +65,7 @@ module _ {T P : Type 0} {cmp : P → P → Ordering} (o : IsTotalOrder cmp) wher
       absurd (omega (arith, n.2, m.1))
   same_state old new other handed others (TrySendEvicting msg priority) (answer.TrySendEvicting (Err (send_error.Memory pair))) (inr m) (inr n) = m.4.1 ∙ sym n.4.1
   same_state old new other handed others TryRecv (answer.TryRecv (Ok pair)) m n =
-      m.1.1 ∙ ap (λ (left : List (T × P)). after (GoesOut left) old) (one_greatest o old.pending pair pair new.pending other.pending m.0 n.0).1 ∙ sym n.1.1
+      m.1.1 ∙ ap (λ (left : List (T × P)). after old (GoesOut left)) (one_greatest o old.pending pair pair new.pending other.pending m.0 n.0).1 ∙ sym n.1.1
   same_state old new other handed others TryRecv (answer.TryRecv (Err recv_error.Closed)) m n = m.2.1 ∙ sym n.2.1
   same_state old new other handed others TryRecv (answer.TryRecv (Err recv_error.Empty)) m n = m.2.1 ∙ sym n.2.1
   same_state old new other handed others Close (answer.Close true) m n = m.1.1 ∙ sym n.1.1

@@ -17,7 +17,7 @@ module _ {T P : Type 0} (cmp : P → P → Ordering) where
   same_capacity old new handed (TrySend msg priority) (answer.TrySend (Ok sent)) m = cc
   same_capacity old new handed (TrySend msg priority) (answer.TrySend (Err (send_error.Closed pair))) m = cc
   same_capacity old new handed (TrySendEvicting msg priority) (answer.TrySendEvicting (Ok None)) m = cc
-  same_capacity old new handed (TrySendEvicting msg priority) (answer.TrySendEvicting (Ok (Some out))) m = let n = m.5.1 in cc
+  same_capacity old new handed (TrySendEvicting msg priority) (answer.TrySendEvicting (Ok (Some out))) m = let n = m.4.1.1 in cc
   same_capacity old new handed (TrySendEvicting msg priority) (answer.TrySendEvicting (Err (send_error.Closed pair))) m = cc
   same_capacity old new handed (TrySendEvicting msg priority) (answer.TrySendEvicting (Err (send_error.Full pair))) m = let n = m.1.4.1.1 in cc
   same_capacity old new handed (TrySendEvicting msg priority) (answer.TrySendEvicting (Err (send_error.Memory pair))) (inl m) = cc

@@ -2,12 +2,7 @@
 use Rattle.std.proofs.Common.{◌≡◌, List, [], ◌∷◌, length, refl, sym, ap, ◌∙◌, arith, inl, inr, Option, Some, None, Result, Ok, Err}
 use Rattle.std.specs.Cmp.{IsTotalOrder}
 use Rattle.priority_channel_core.proofs.items.Extremes.{one_least}
-use Rattle.priority_channel_core.specs.declared.errors.TrySendError.{TrySendError}
-use Rattle.priority_channel_core.specs.declared.errors.TrySendError.TheVariants.{Closed, Full, Memory}
-use Rattle.priority_channel_core.specs.Prelude.{State, as_list, Change, Sends, Evicts, Ordering}
-use Rattle.priority_channel_core.specs.machine.Change as change
-use Rattle.priority_channel_core.specs.declared.calls.Call.TheVariants as call
-use Rattle.priority_channel_core.specs.declared.calls.Answer.TheVariants as answer
+use Rattle.priority_channel_core.specs.Prelude.{State, as_list, Change, Sends, Evicts, Ordering, Call, Answer, TrySendError, Closed, Full, Memory}
 use Rattle.priority_channel_core.specs.laws.Accepted.{sent, accepted_by}
 use Rattle.priority_channel_core.specs.laws.Alike.{is_memory, SameState}
 use Rattle.priority_channel_core.proofs.alike.Lists.{same_pending}
@@ -38,14 +33,14 @@ module _ {T P W : Type 0} (is_clone : W → W → Type 0) {cmp : P → P → Ord
       (ap again (as_list_one (Err e) (Err f) t.0), t.1)
 
   pub evicts_same : (x y : Result (Option (T × P)) (TrySendError (T × P))) → Evicts s does cmp (msg, priority) x → Evicts r does' cmp (msg, priority) y
-      → length (accepted_by {W = W} (call.TrySendEvicting msg priority) (answer.TrySendEvicting y)) ≡ length (accepted_by {W = W} (call.TrySendEvicting msg priority) (answer.TrySendEvicting x))
-      → is_memory (answer.TrySendEvicting y) ≡ is_memory (answer.TrySendEvicting x) → (y ≡ x) × ((c : Change T P) × does c × does' c)
+      → length (accepted_by {W = W} (Call.TrySendEvicting msg priority) (Answer.TrySendEvicting y)) ≡ length (accepted_by {W = W} (Call.TrySendEvicting msg priority) (Answer.TrySendEvicting x))
+      → is_memory (Answer.TrySendEvicting y) ≡ is_memory (Answer.TrySendEvicting x) → (y ≡ x) × ((c : Change T P) × does c × does' c)
   evicts_same (Ok None) (Ok None) a b count memory = (refl, (sends_same is_clone same o left left' does does' Pairs (Ok tt) (Ok tt) a b refl).1)
   evicts_same (Ok None) (Ok (Some gone)) a b count memory = absurd (omega (arith, a.0, b.1, rooms is_clone same))
   evicts_same (Ok (Some out)) (Ok None) a b count memory = absurd (omega (arith, b.0, a.1, rooms is_clone same))
   evicts_same (Ok (Some out)) (Ok (Some gone)) a b count memory =
       let one = one_least o s.pending gone out b.0 a.0 (rw (same_pending is_clone same) at b.3) a.3 in
-      (ap (λ (z : T × P). Ok (Some z)) one.0, (change.MakesWay a.0 (msg, priority), a.5, rw one.1 at b.5))
+      (ap (λ (z : T × P). Ok (Some z)) one.0, (Change.MakesWay a.0 (msg, priority), a.4.1, rw one.1 at b.4.1))
   evicts_same (Ok displaced) (Err f) a b count memory = absurd (omega (arith, count))
   evicts_same (Err e) (Ok displaced) a b count memory = absurd (omega (arith, count))
   evicts_same (Err (Closed u)) (Err (Closed v)) a b count memory = refused_same (Closed u) (Closed v) a b

@@ -3,9 +3,7 @@ use Rattle.std.proofs.Common.{◌≡◌, ℕ, Bool, true, false, List, [], ◌�
 use Rattle.std.specs.List.{AllZip}
 use Rattle.std.proofs.lemmas.Bool.Decides.{eqb_tells}
 use Rattle.std.proofs.lemmas.List.Elements.{AllZip-push}
-use Rattle.priority_channel_core.specs.declared.side.Side.{Side}
-use Rattle.priority_channel_core.specs.declared.side.Side.TheVariants.{Room, Message}
-use Rattle.priority_channel_core.specs.Prelude.{State, Handed, nobody, is_listed, without, without_given, with_waker, listing, Listing, fresh, Waiters, on_side, unlist, enlist, Enlists}
+use Rattle.priority_channel_core.specs.Prelude.{State, Handed, nobody, is_listed, without, without_given, with_waker, listing, Listing, fresh, Waiters, on_side, unlist, enlist, Enlists, Side, Room, Message}
 use Rattle.priority_channel_core.specs.laws.Alike.{SameWaiter, SameWaiters, SameHanded, SameState}
 
 module _ {W : Type 0} (is_clone : W → W → Type 0) where

@@ -1,16 +1,13 @@
 -- Two steps, and two runs, over the same calls that accept as many pairs, and answer Memory in both
 -- or in neither.
-use Rattle.std.proofs.Common.{◌≡◌, List, [], ◌∷◌, length, refl, ap, ◌==◌}
+use Rattle.std.proofs.Common.{◌≡◌, ◌-◌, List, [], ◌∷◌, length, refl, ap, ◌==◌}
 use Rattle.std.specs.Cmp.{IsTotalOrder}
 use Rattle.std.specs.List.{AllZip}
-use Rattle.priority_channel_core.specs.declared.calls.Call.TheVariants as call
-use Rattle.priority_channel_core.specs.declared.calls.Answer.TheVariants as answer
-use Rattle.priority_channel_core.specs.Prelude.{State, Handed, as_list, Change, Does, Says, Moves, Calls, Answers, Operation, Run, Ordering}
-use Rattle.priority_channel_core.specs.machine.Change as change
+use Rattle.priority_channel_core.specs.Prelude.{State, Handed, as_list, Change, Does, Says, Moves, Calls, Answers, Operation, Run, Ordering, Call, Answer, Room, Message}
 use Rattle.priority_channel_core.specs.laws.Accepted.{accepted_by}
 use Rattle.priority_channel_core.specs.laws.Alike.{is_memory, SameState, SameOutcome, IsAlike}
 use Rattle.priority_channel_core.proofs.alike.Lists.{same_pending, same_held, same_closed, same_capacity, same_senders, same_receivers}
-use Rattle.priority_channel_core.proofs.alike.Calls.{sends_same, takes_same, changes_same, receives_same, closes_same, looks_same, clones_same, drops_same, reserves_same, leases_same, leases_at_same, puts_same, frees_same}
+use Rattle.priority_channel_core.proofs.alike.Calls.{sends_same, takes_same, changes_same, receives_same, closes_same, looks_same, clones_same, reserves_same, leases_same, leases_at_same, puts_same, frees_same}
 use Rattle.priority_channel_core.proofs.alike.Changes.{Both, does_same}
 use Rattle.priority_channel_core.proofs.alike.Evicting.{as_list_one, evicts_same}
 use Rattle.priority_channel_core.proofs.alike.Polls.{polls_send_same, polls_sendv_same, polls_receive_same}
@@ -22,44 +19,44 @@ module _ {T P W : Type 0} (is_clone : W → W → Type 0) {cmp : P → P → Ord
   module _ {s r : State T P W} (same : SameState is_clone s r) (left left' : List (T × P)) (does does' : Change T P → Type 0) where
     says_same : (made : Calls T P W) (x y : Answers T P) → Says cmp s left does made x → Says cmp r left' does' made y
         → length (accepted_by made y) ≡ length (accepted_by made x) → is_memory y ≡ is_memory x → (y ≡ x) × ((c : Change T P) × does c × does' c)
-    says_same (call.TrySend m p) (answer.TrySend x) (answer.TrySend y) a b count memory =
-        let t = sends_same is_clone same o left left' does does' ((m, p) ∷ []) (as_list x) (as_list y) a b count in (ap (λ z. answer.TrySend z) (as_list_one x y t.0), t.1)
-    says_same (call.TrySendv pairs) (answer.TrySendv x) (answer.TrySendv y) a b count memory = told answer.TrySendv (sends_same is_clone same o left left' does does' pairs x y a b count)
-    says_same (call.TrySendEvicting m p) (answer.TrySendEvicting x) (answer.TrySendEvicting y) a b count memory =
-        told answer.TrySendEvicting (evicts_same is_clone o same left left' does does' m p x y a b count memory)
-    says_same (call.TakeWhere place) (answer.TakeWhere x) (answer.TakeWhere y) a b count memory = told answer.TakeWhere (takes_same is_clone same o left left' does does' place x y a b)
-    says_same (call.ChangePriority place priority) (answer.ChangePriority x) (answer.ChangePriority y) a b count memory =
-        told answer.ChangePriority (changes_same is_clone same o left left' does does' place priority x y a b)
-    says_same call.TryRecv (answer.TryRecv x) (answer.TryRecv y) a b count memory = told answer.TryRecv (receives_same is_clone same o left left' does does' x y a b)
-    says_same call.Close (answer.Close x) (answer.Close y) a b count memory = told answer.Close (closes_same is_clone same o left left' does does' x y a b)
-    says_same call.IsClosed (answer.IsClosed x) (answer.IsClosed y) a b count memory =
-        told answer.IsClosed (looks_same is_clone same o left left' does does' (same_closed is_clone same) a b)
-    says_same call.IsEmpty (answer.IsEmpty x) (answer.IsEmpty y) a b count memory =
-        told answer.IsEmpty (looks_same is_clone same o left left' does does' (ap (λ (l : List (T × P)). length l == 0) (same_pending is_clone same)) a b)
-    says_same call.IsFull (answer.IsFull x) (answer.IsFull y) a b count memory =
-        told answer.IsFull (looks_same is_clone same o left left' does does' (rw ((same_pending is_clone same), (same_held is_clone same), (same_capacity is_clone same)) refl) a b)
-    says_same call.Len (answer.Len x) (answer.Len y) a b count memory = told answer.Len (looks_same is_clone same o left left' does does' (ap length (same_pending is_clone same)) a b)
-    says_same call.Capacity (answer.Capacity x) (answer.Capacity y) a b count memory =
-        told answer.Capacity (looks_same is_clone same o left left' does does' (rw (same_capacity is_clone same) refl) a b)
-    says_same call.SenderCount (answer.SenderCount x) (answer.SenderCount y) a b count memory =
-        told answer.SenderCount (looks_same is_clone same o left left' does does' (same_senders is_clone same) a b)
-    says_same call.ReceiverCount (answer.ReceiverCount x) (answer.ReceiverCount y) a b count memory =
-        told answer.ReceiverCount (looks_same is_clone same o left left' does does' (same_receivers is_clone same) a b)
-    says_same call.Held (answer.Held x) (answer.Held y) a b count memory = told answer.Held (looks_same is_clone same o left left' does does' (same_held is_clone same) a b)
-    says_same call.CloneSender (answer.CloneSender x) (answer.CloneSender y) a b count memory =
-        told answer.CloneSender (clones_same is_clone same o left left' does does' _ _ _ x y (same_senders is_clone same) a b)
-    says_same call.CloneReceiver (answer.CloneReceiver x) (answer.CloneReceiver y) a b count memory =
-        told answer.CloneReceiver (clones_same is_clone same o left left' does does' _ _ _ x y (same_receivers is_clone same) a b)
-    says_same call.DropSender answer.DropSender answer.DropSender a b count memory = (refl, drops_same is_clone same o left left' does does' _ _ _ (same_senders is_clone same) a b)
-    says_same call.DropReceiver answer.DropReceiver answer.DropReceiver a b count memory = (refl, drops_same is_clone same o left left' does does' _ _ _ (same_receivers is_clone same) a b)
-    says_same (call.GiveUp ticket) answer.GiveUp answer.GiveUp a b count memory = (refl, (change.Unlists ticket, a, b))
-    says_same call.CloseWhenDone answer.CloseWhenDone answer.CloseWhenDone a b count memory = (refl, (change.Marks, a, b))
-    says_same call.TryReserve (answer.TryReserve x) (answer.TryReserve y) a b count memory = told answer.TryReserve (reserves_same is_clone same o left left' does does' x y a b memory)
-    says_same call.TryLease (answer.TryLease x) (answer.TryLease y) a b count memory = told answer.TryLease (leases_same is_clone same o left left' does does' x y a b memory)
-    says_same (call.LeaseWhere place) (answer.LeaseWhere x) (answer.LeaseWhere y) a b count memory =
-        told answer.LeaseWhere (leases_at_same is_clone same o left left' does does' place x y a b memory)
-    says_same (call.Put m p) (answer.Put x) (answer.Put y) a b count memory = told answer.Put (puts_same is_clone same o left left' does does' (m, p) x y a b)
-    says_same call.Free (answer.Free x) (answer.Free y) a b count memory = told answer.Free (frees_same is_clone same o left left' does does' x y a b)
+    says_same (Call.TrySend m p) (Answer.TrySend x) (Answer.TrySend y) a b count memory =
+        let t = sends_same is_clone same o left left' does does' ((m, p) ∷ []) (as_list x) (as_list y) a b count in (ap (λ z. Answer.TrySend z) (as_list_one x y t.0), t.1)
+    says_same (Call.TrySendv pairs) (Answer.TrySendv x) (Answer.TrySendv y) a b count memory = told Answer.TrySendv (sends_same is_clone same o left left' does does' pairs x y a b count)
+    says_same (Call.TrySendEvicting m p) (Answer.TrySendEvicting x) (Answer.TrySendEvicting y) a b count memory =
+        told Answer.TrySendEvicting (evicts_same is_clone o same left left' does does' m p x y a b count memory)
+    says_same (Call.TakeWhere place) (Answer.TakeWhere x) (Answer.TakeWhere y) a b count memory = told Answer.TakeWhere (takes_same is_clone same o left left' does does' place x y a b)
+    says_same (Call.ChangePriority place priority) (Answer.ChangePriority x) (Answer.ChangePriority y) a b count memory =
+        told Answer.ChangePriority (changes_same is_clone same o left left' does does' place priority x y a b)
+    says_same Call.TryRecv (Answer.TryRecv x) (Answer.TryRecv y) a b count memory = told Answer.TryRecv (receives_same is_clone same o left left' does does' x y a b)
+    says_same Call.Close (Answer.Close x) (Answer.Close y) a b count memory = told Answer.Close (closes_same is_clone same o left left' does does' x y a b)
+    says_same Call.IsClosed (Answer.IsClosed x) (Answer.IsClosed y) a b count memory =
+        told Answer.IsClosed (looks_same is_clone same o left left' does does' (same_closed is_clone same) a b)
+    says_same Call.IsEmpty (Answer.IsEmpty x) (Answer.IsEmpty y) a b count memory =
+        told Answer.IsEmpty (looks_same is_clone same o left left' does does' (ap (λ (l : List (T × P)). length l == 0) (same_pending is_clone same)) a b)
+    says_same Call.IsFull (Answer.IsFull x) (Answer.IsFull y) a b count memory =
+        told Answer.IsFull (looks_same is_clone same o left left' does does' (rw ((same_pending is_clone same), (same_held is_clone same), (same_capacity is_clone same)) refl) a b)
+    says_same Call.Len (Answer.Len x) (Answer.Len y) a b count memory = told Answer.Len (looks_same is_clone same o left left' does does' (ap length (same_pending is_clone same)) a b)
+    says_same Call.Capacity (Answer.Capacity x) (Answer.Capacity y) a b count memory =
+        told Answer.Capacity (looks_same is_clone same o left left' does does' (rw (same_capacity is_clone same) refl) a b)
+    says_same Call.SenderCount (Answer.SenderCount x) (Answer.SenderCount y) a b count memory =
+        told Answer.SenderCount (looks_same is_clone same o left left' does does' (same_senders is_clone same) a b)
+    says_same Call.ReceiverCount (Answer.ReceiverCount x) (Answer.ReceiverCount y) a b count memory =
+        told Answer.ReceiverCount (looks_same is_clone same o left left' does does' (same_receivers is_clone same) a b)
+    says_same Call.Held (Answer.Held x) (Answer.Held y) a b count memory = told Answer.Held (looks_same is_clone same o left left' does does' (same_held is_clone same) a b)
+    says_same Call.CloneSender (Answer.CloneSender x) (Answer.CloneSender y) a b count memory =
+        told Answer.CloneSender (clones_same is_clone same o left left' does does' _ _ _ x y (same_senders is_clone same) a b)
+    says_same Call.CloneReceiver (Answer.CloneReceiver x) (Answer.CloneReceiver y) a b count memory =
+        told Answer.CloneReceiver (clones_same is_clone same o left left' does does' _ _ _ x y (same_receivers is_clone same) a b)
+    says_same Call.DropSender Answer.DropSender Answer.DropSender a b count memory = (refl, (Change.Counts Room (s.sender_count - 1), a.1, rw (same_senders is_clone same) at b.1))
+    says_same Call.DropReceiver Answer.DropReceiver Answer.DropReceiver a b count memory = (refl, (Change.Counts Message (s.receiver_count - 1), a.1, rw (same_receivers is_clone same) at b.1))
+    says_same (Call.GiveUp ticket) Answer.GiveUp Answer.GiveUp a b count memory = (refl, (Change.Unlists ticket, a, b))
+    says_same Call.CloseWhenDone Answer.CloseWhenDone Answer.CloseWhenDone a b count memory = (refl, (Change.Marks, a, b))
+    says_same Call.TryReserve (Answer.TryReserve x) (Answer.TryReserve y) a b count memory = told Answer.TryReserve (reserves_same is_clone same o left left' does does' x y a b memory)
+    says_same Call.TryLease (Answer.TryLease x) (Answer.TryLease y) a b count memory = told Answer.TryLease (leases_same is_clone same o left left' does does' x y a b memory)
+    says_same (Call.LeaseWhere place) (Answer.LeaseWhere x) (Answer.LeaseWhere y) a b count memory =
+        told Answer.LeaseWhere (leases_at_same is_clone same o left left' does does' place x y a b memory)
+    says_same (Call.Put m p) (Answer.Put x) (Answer.Put y) a b count memory = told Answer.Put (puts_same is_clone same o left left' does does' (m, p) x y a b)
+    says_same Call.Free (Answer.Free x) (Answer.Free y) a b count memory = told Answer.Free (frees_same is_clone same o left left' does does' x y a b)
     says_same made x y a b count memory = absurd (assumption)
 
   module _ (s r k k' : State T P W) (h h' : Handed W) (same : SameState is_clone s r) where
@@ -71,15 +68,15 @@ module _ {T P W : Type 0} (is_clone : W → W → Type 0) {cmp : P → P → Ord
 
     pub step_same : (made : Calls T P W) (x y : Answers T P) → Moves cmp is_clone s made x h k → Moves cmp is_clone r made y h' k'
         → length (accepted_by made y) ≡ length (accepted_by made x) → is_memory y ≡ is_memory x → (y ≡ x) × Both is_clone h h' k k'
-    step_same (call.PollSend m p given waker) (answer.PollSend x) (answer.PollSend y) a b count memory =
-        told answer.PollSend (polls_send_same is_clone o s r k k' h h' same m p given waker x y a b count memory)
-    step_same (call.PollSendv pairs given waker) (answer.PollSendv x) (answer.PollSendv y) a b count memory =
-        told answer.PollSendv (polls_sendv_same is_clone o s r k k' h h' same pairs given waker x y a b count memory)
-    step_same (call.PollRecv given waker) (answer.PollRecv x) (answer.PollRecv y) a b count memory =
-        told answer.PollRecv (polls_receive_same is_clone o s r k k' h h' same given waker x y a b memory)
-    step_same (call.PollSend m p given waker) x y a b count memory = absurd (assumption)
-    step_same (call.PollSendv pairs given waker) x y a b count memory = absurd (assumption)
-    step_same (call.PollRecv given waker) x y a b count memory = absurd (assumption)
+    step_same (Call.PollSend m p given waker) (Answer.PollSend x) (Answer.PollSend y) a b count memory =
+        told Answer.PollSend (polls_send_same is_clone o s r k k' h h' same m p given waker x y a b count memory)
+    step_same (Call.PollSendv pairs given waker) (Answer.PollSendv x) (Answer.PollSendv y) a b count memory =
+        told Answer.PollSendv (polls_sendv_same is_clone o s r k k' h h' same pairs given waker x y a b count memory)
+    step_same (Call.PollRecv given waker) (Answer.PollRecv x) (Answer.PollRecv y) a b count memory =
+        told Answer.PollRecv (polls_receive_same is_clone o s r k k' h h' same given waker x y a b memory)
+    step_same (Call.PollSend m p given waker) x y a b count memory = absurd (assumption)
+    step_same (Call.PollSendv pairs given waker) x y a b count memory = absurd (assumption)
+    step_same (Call.PollRecv given waker) x y a b count memory = absurd (assumption)
     step_same made x y a b count memory = at_once made x y a b count memory
 
   pub runs_same : (s r new other : State T P W) (run another : List (Operation T P W)) → SameState is_clone s r → Run cmp is_clone s run new → Run cmp is_clone r another other

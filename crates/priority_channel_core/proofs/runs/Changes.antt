@@ -1,15 +1,8 @@
 -- Which change a step makes, and what its call and answer say of it.
-use Rattle.std.proofs.Common.{◌≡◌, ℕ, ◌-◌, ◌+◌, ◌<◌, ◌⊎◌, Bool, true, false, List, [], ◌∷◌, ◌++◌, length, refl, arith, inl, inr, zero, suc, length-append, Option, Some, None, Result, Ok, Err}
+use Rattle.std.proofs.Common.{◌≡◌, ℕ, ◌-◌, ◌+◌, ◌<◌, ◌⊎◌, Bool, true, false, List, [], ◌∷◌, ◌++◌, length, refl, arith, inl, inr, length-append, Option, Some, None, Result, Ok, Err}
 use Rattle.std.proofs.Math.Seq.{take-append_seam}
-use Rattle.priority_channel_core.specs.declared.calls.Call.TheVariants as call
-use Rattle.priority_channel_core.specs.declared.calls.Answer.TheVariants as answer
-use Rattle.priority_channel_core.specs.declared.errors.TrySendError.{TrySendError}
-use Rattle.priority_channel_core.specs.declared.errors.TrySendError.TheVariants as send_error
-use Rattle.priority_channel_core.specs.declared.errors.TryRecvError.TheVariants as recv_error
-use Rattle.priority_channel_core.specs.declared.errors.TryRecvManyError.TheVariants as many_error
 use Rattle.priority_channel_core.specs.bag.Prelude.{TakesGreatest, TakesLeast, TakesOne, Changes}
-use Rattle.priority_channel_core.specs.Prelude.{Side, State, Handed, as_list, Change, Does, Says, Sends, Evicts, Clones, Drops, send_answer, recv_answer, Moves, Calls, Answers, Ordering, SendReply, RecvReply, SendPoll, RecvPoll}
-use Rattle.priority_channel_core.specs.machine.Change as change
+use Rattle.priority_channel_core.specs.Prelude.{Side, State, Handed, as_list, Change, Does, Says, Sends, Evicts, Clones, send_answer, recv_answer, Moves, Calls, Answers, Ordering, SendReply, RecvReply, SendPoll, RecvPoll, Call, Answer, TryRecvError, TryRecvManyError, Room, Message, TrySendError}
 use Rattle.priority_channel_core.specs.laws.Accepted.{all_but, sent, poll_sent, accepted_by, put_by, received_by, displaced_by, taken_by, changed_by}
 use Rattle.priority_channel_core.specs.laws.Places.{got_by, given_by}
 use Rattle.priority_channel_core.specs.laws.Direct.{IsDirect}
@@ -59,21 +52,21 @@ module _ {T P W : Type 0} (cmp : P → P → Ordering) (old : State T P W) where
 
   -- what each change shows of the account, and of its call: that it closes, marks or unlists
   abbrev pub Fits : (closes marks unlists : Type 0) → Account T P → Change T P → Type 0
-  Fits closes marks unlists a (change.Adds front) = (old.is_closed ≡ false) × (a ≡ adding front)
-  Fits closes marks unlists a (change.GoesOut left) = OneOut left 0 a
-  Fits closes marks unlists a (change.Lends left) = OneOut left 1 a
-  Fits closes marks unlists a (change.MakesWay left pair) =
+  Fits closes marks unlists a (Change.Adds front) = (old.is_closed ≡ false) × (a ≡ adding front)
+  Fits closes marks unlists a (Change.GoesOut left) = OneOut left 0 a
+  Fits closes marks unlists a (Change.Lends left) = OneOut left 1 a
+  Fits closes marks unlists a (Change.MakesWay left pair) =
       (old.is_closed ≡ false) × (out : T × P) × TakesLeast cmp old.pending out left
       × (a ≡ record nothing { accepted = pair ∷ []; displaced = out ∷ [] })
-  Fits closes marks unlists a (change.Reprices left) =
+  Fits closes marks unlists a (Change.Reprices left) =
       (was : P) × (now : P) × Changes old.pending was now left × (a ≡ record nothing { changed = (was, now) ∷ [] })
-  Fits closes marks unlists a change.Holds = a ≡ record nothing { got = 1 }
-  Fits closes marks unlists a (change.Fills pair) = (0 < old.held) × (a ≡ record nothing { accepted = pair ∷ []; put = pair ∷ []; given = 1 })
-  Fits closes marks unlists a change.Frees = (0 < old.held) × (a ≡ record nothing { given = 1 })
-  Fits closes marks unlists a change.Shuts = closes × (a ≡ nothing)
-  Fits closes marks unlists a change.Marks = marks × (a ≡ nothing)
-  Fits closes marks unlists a (change.Leaves side) = closes × (a ≡ nothing)
-  Fits closes marks unlists a (change.Unlists ticket) = unlists × (a ≡ nothing)
+  Fits closes marks unlists a Change.Holds = a ≡ record nothing { got = 1 }
+  Fits closes marks unlists a (Change.Fills pair) = (0 < old.held) × (a ≡ record nothing { accepted = pair ∷ []; put = pair ∷ []; given = 1 })
+  Fits closes marks unlists a Change.Frees = (0 < old.held) × (a ≡ record nothing { given = 1 })
+  Fits closes marks unlists a Change.Shuts = closes × (a ≡ nothing)
+  Fits closes marks unlists a Change.Marks = marks × (a ≡ nothing)
+  Fits closes marks unlists a (Change.Counts side n) = (n ≡ 0 → closes) × (a ≡ nothing)
+  Fits closes marks unlists a (Change.Unlists ticket) = unlists × (a ≡ nothing)
   Fits closes marks unlists a _ = a ≡ nothing
 
 module _ {T P W : Type 0} (cmp : P → P → Ordering) (old : State T P W) (left : List (T × P)) (does : Change T P → Type 0) where
@@ -82,81 +75,79 @@ module _ {T P W : Type 0} (cmp : P → P → Ordering) (old : State T P W) (left
   Made closes marks unlists a = (c : Change T P) × Fits cmp old closes marks unlists a c × does c
 
   module _ {closes marks unlists : Type 0} where
-    same : does change.Nothing → Made closes marks unlists nothing
-    same h = (change.Nothing, refl, h)
+    same : does Change.Nothing → Made closes marks unlists nothing
+    same h = (Change.Nothing, refl, h)
 
     sends : (pairs : List (T × P)) (reply : SendReply (List (T × P))) → Sends old does pairs reply → Made closes marks unlists (adding (sent pairs reply))
-    sends pairs (Ok done) h = (change.Adds pairs, (h.2.0, refl), h.2.1)
-    sends pairs (Err (send_error.Closed rest)) h = same h.2
-    sends pairs (Err (send_error.Full rest)) h = (change.Adds h.0, (h.4.0, rw (h.1, all_but-front h.0 rest) refl), h.4.1)
-    sends pairs (Err (send_error.Memory rest)) h = (change.Adds h.0, (h.4.0, rw (h.1, all_but-front h.0 rest) refl), h.4.1)
+    sends pairs (Ok done) h = (Change.Adds pairs, (h.2.0, refl), h.2.1)
+    sends pairs (Err (TrySendError.Closed rest)) h = same h.2
+    sends pairs (Err (TrySendError.Full rest)) h = (Change.Adds h.0, (h.4.0, rw (h.1, all_but-front h.0 rest) refl), h.4.1)
+    sends pairs (Err (TrySendError.Memory rest)) h = (Change.Adds h.0, (h.4.0, rw (h.1, all_but-front h.0 rest) refl), h.4.1)
 
-    receives : (reply : RecvReply (T × P)) → Says cmp old left does call.TryRecv (answer.TryRecv reply) → Made closes marks unlists (account {W = W} call.TryRecv (answer.TryRecv reply))
-    receives (Ok pair) h = (change.GoesOut left, (pair, inl (h.0, refl)), h.1)
-    receives (Err recv_error.Closed) h = same h.2
-    receives (Err recv_error.Empty) h = same h.2
+    receives : (reply : RecvReply (T × P)) → Says cmp old left does Call.TryRecv (Answer.TryRecv reply) → Made closes marks unlists (account {W = W} Call.TryRecv (Answer.TryRecv reply))
+    receives (Ok pair) h = (Change.GoesOut left, (pair, inl (h.0, refl)), h.1)
+    receives (Err TryRecvError.Closed) h = same h.2
+    receives (Err TryRecvError.Empty) h = same h.2
 
     evicts : (msg : T) (priority : P) (reply : Result (Option (T × P)) (TrySendError (T × P))) → Evicts old does cmp (msg, priority) reply
-        → Made closes marks unlists (account {W = W} (call.TrySendEvicting msg priority) (answer.TrySendEvicting reply))
-    evicts msg priority (Ok None) h = (change.Adds ((msg, priority) ∷ []), (h.2.0, refl), h.2.1)
-    evicts msg priority (Ok (Some out)) h = (change.MakesWay h.0 (msg, priority), (h.4, out, h.3, refl), h.5)
-    evicts msg priority (Err (send_error.Closed held)) h = same h.2
-    evicts msg priority (Err (send_error.Full held)) h = sends ((msg, priority) ∷ []) (Err (send_error.Full (held ∷ []))) h.1
-    evicts msg priority (Err (send_error.Memory held)) (inl h) = sends ((msg, priority) ∷ []) (Err (send_error.Memory (held ∷ []))) h
-    evicts msg priority (Err (send_error.Memory held)) (inr h) = same h.4
+        → Made closes marks unlists (account {W = W} (Call.TrySendEvicting msg priority) (Answer.TrySendEvicting reply))
+    evicts msg priority (Ok None) h = (Change.Adds ((msg, priority) ∷ []), (h.2.0, refl), h.2.1)
+    evicts msg priority (Ok (Some out)) h = (Change.MakesWay h.0 (msg, priority), (h.4.0, out, h.3, refl), h.4.1)
+    evicts msg priority (Err (TrySendError.Closed held)) h = same h.2
+    evicts msg priority (Err (TrySendError.Full held)) h = sends ((msg, priority) ∷ []) (Err (TrySendError.Full (held ∷ []))) h.1
+    evicts msg priority (Err (TrySendError.Memory held)) (inl h) = sends ((msg, priority) ∷ []) (Err (TrySendError.Memory (held ∷ []))) h
+    evicts msg priority (Err (TrySendError.Memory held)) (inr h) = same h.4
 
     clones : (side : Side) (count : ℕ) (done : Bool) → Clones cmp old left does side count done → Made closes marks unlists nothing
-    clones side count true h = (change.Counts side (count + 1), refl, h.1)
+    clones side count true h = (Change.Counts side (count + 1), (λ none. absurd (omega (arith, none)), refl), h.1)
     clones side count false h = same h.1
 
-  drops : {marks unlists : Type 0} (side : Side) (count : ℕ) → Drops cmp old left does side count → Made (count ≡ 1) marks unlists nothing
-  drops side zero h = absurd h
-  drops side (suc zero) h = (change.Leaves side, (refl, refl), h)
-  drops side (suc (suc others)) h = (change.Counts side (suc others), refl, h)
+  last : (count : ℕ) → 0 < count → count - 1 ≡ 0 → count ≡ 1
+  last count some none = omega (arith, some, none)
 
   pub makes : (made : Calls T P W) (reply : Answers T P) → Says cmp old left does made reply
-      → Made (Closes old made) (made ≡ call.CloseWhenDone) (IsDirect made → ⊥) (account made reply)
-  makes (call.TrySend msg priority) (answer.TrySend reply) h = sends ((msg, priority) ∷ []) (as_list reply) h
-  makes (call.TrySendv pairs) (answer.TrySendv reply) h = sends pairs reply h
-  makes (call.TrySendEvicting msg priority) (answer.TrySendEvicting reply) h = evicts msg priority reply h
-  makes call.TryRecv (answer.TryRecv reply) h = receives reply h
-  makes call.TryLease (answer.TryLease (Ok pair)) h = (change.Lends left, (pair, inl (h.0, refl)), h.1)
-  makes call.TryLease (answer.TryLease (Err many_error.Closed)) h = same h.2
-  makes call.TryLease (answer.TryLease (Err many_error.Empty)) h = same h.2
-  makes call.TryLease (answer.TryLease (Err many_error.Memory)) h = same h.2
-  makes (call.TakeWhere place) (answer.TakeWhere (Some pair)) h = (change.GoesOut left, (pair, inr (h.0, refl)), h.2)
-  makes (call.TakeWhere place) (answer.TakeWhere None) h = same h.1
-  makes (call.LeaseWhere place) (answer.LeaseWhere (Ok (Some pair))) h = (change.Lends left, (pair, inr (h.0, refl)), h.2)
-  makes (call.LeaseWhere place) (answer.LeaseWhere (Ok None)) h = same h.2
-  makes (call.LeaseWhere place) (answer.LeaseWhere (Err many_error.Closed)) h = same h.2
-  makes (call.LeaseWhere place) (answer.LeaseWhere (Err many_error.Empty)) h = same h.2
-  makes (call.LeaseWhere place) (answer.LeaseWhere (Err many_error.Memory)) h = same h.2
-  makes (call.ChangePriority place priority) (answer.ChangePriority (Ok was)) h = (change.Reprices left, (was, priority, h.0, refl), h.2)
-  makes (call.ChangePriority place priority) (answer.ChangePriority (Err back)) h = same h.2
-  makes call.TryReserve (answer.TryReserve (Ok none)) h = (change.Holds, refl, h.2)
-  makes call.TryReserve (answer.TryReserve (Err (send_error.Closed none))) h = same h.1
-  makes call.TryReserve (answer.TryReserve (Err (send_error.Full none))) h = same h.2
-  makes call.TryReserve (answer.TryReserve (Err (send_error.Memory none))) h = same h.2
-  makes (call.Put msg priority) (answer.Put (Ok none)) h = (change.Fills (msg, priority), (h.0, refl), h.1)
-  makes (call.Put msg priority) (answer.Put (Err back)) h = same h.2
-  makes call.Free (answer.Free true) h = (change.Frees, (h.0, refl), h.1)
-  makes call.Free (answer.Free false) h = same h.1
-  makes call.Close (answer.Close true) h = (change.Shuts, (tt, refl), h.1)
-  makes call.Close (answer.Close false) h = same h.1
-  makes call.CloseWhenDone answer.CloseWhenDone h = (change.Marks, (refl, refl), h)
-  makes call.CloneSender (answer.CloneSender reply) h = clones _ _ reply h
-  makes call.CloneReceiver (answer.CloneReceiver reply) h = clones _ _ reply h
-  makes call.DropSender answer.DropSender h = drops _ _ h
-  makes call.DropReceiver answer.DropReceiver h = drops _ _ h
-  makes (call.GiveUp ticket) answer.GiveUp h = (change.Unlists ticket, (λ d. d, refl), h)
-  makes call.IsClosed (answer.IsClosed told) h = same h.1
-  makes call.IsEmpty (answer.IsEmpty told) h = same h.1
-  makes call.IsFull (answer.IsFull told) h = same h.1
-  makes call.Len (answer.Len told) h = same h.1
-  makes call.Held (answer.Held told) h = same h.1
-  makes call.Capacity (answer.Capacity told) h = same h.1
-  makes call.SenderCount (answer.SenderCount told) h = same h.1
-  makes call.ReceiverCount (answer.ReceiverCount told) h = same h.1
+      → Made (Closes old made) (made ≡ Call.CloseWhenDone) (IsDirect made → ⊥) (account made reply)
+  makes (Call.TrySend msg priority) (Answer.TrySend reply) h = sends ((msg, priority) ∷ []) (as_list reply) h
+  makes (Call.TrySendv pairs) (Answer.TrySendv reply) h = sends pairs reply h
+  makes (Call.TrySendEvicting msg priority) (Answer.TrySendEvicting reply) h = evicts msg priority reply h
+  makes Call.TryRecv (Answer.TryRecv reply) h = receives reply h
+  makes Call.TryLease (Answer.TryLease (Ok pair)) h = (Change.Lends left, (pair, inl (h.0, refl)), h.1)
+  makes Call.TryLease (Answer.TryLease (Err TryRecvManyError.Closed)) h = same h.2
+  makes Call.TryLease (Answer.TryLease (Err TryRecvManyError.Empty)) h = same h.2
+  makes Call.TryLease (Answer.TryLease (Err TryRecvManyError.Memory)) h = same h.2
+  makes (Call.TakeWhere place) (Answer.TakeWhere (Some pair)) h = (Change.GoesOut left, (pair, inr (h.0, refl)), h.2)
+  makes (Call.TakeWhere place) (Answer.TakeWhere None) h = same h.1
+  makes (Call.LeaseWhere place) (Answer.LeaseWhere (Ok (Some pair))) h = (Change.Lends left, (pair, inr (h.0, refl)), h.2)
+  makes (Call.LeaseWhere place) (Answer.LeaseWhere (Ok None)) h = same h.2
+  makes (Call.LeaseWhere place) (Answer.LeaseWhere (Err TryRecvManyError.Closed)) h = same h.2
+  makes (Call.LeaseWhere place) (Answer.LeaseWhere (Err TryRecvManyError.Empty)) h = same h.2
+  makes (Call.LeaseWhere place) (Answer.LeaseWhere (Err TryRecvManyError.Memory)) h = same h.2
+  makes (Call.ChangePriority place priority) (Answer.ChangePriority (Ok was)) h = (Change.Reprices left, (was, priority, h.0, refl), h.2)
+  makes (Call.ChangePriority place priority) (Answer.ChangePriority (Err back)) h = same h.2
+  makes Call.TryReserve (Answer.TryReserve (Ok none)) h = (Change.Holds, refl, h.2)
+  makes Call.TryReserve (Answer.TryReserve (Err (TrySendError.Closed none))) h = same h.1
+  makes Call.TryReserve (Answer.TryReserve (Err (TrySendError.Full none))) h = same h.2
+  makes Call.TryReserve (Answer.TryReserve (Err (TrySendError.Memory none))) h = same h.2
+  makes (Call.Put msg priority) (Answer.Put (Ok none)) h = (Change.Fills (msg, priority), (h.0, refl), h.1)
+  makes (Call.Put msg priority) (Answer.Put (Err back)) h = same h.2
+  makes Call.Free (Answer.Free true) h = (Change.Frees, (h.0, refl), h.1)
+  makes Call.Free (Answer.Free false) h = same h.1
+  makes Call.Close (Answer.Close true) h = (Change.Shuts, (tt, refl), h.1)
+  makes Call.Close (Answer.Close false) h = same h.1
+  makes Call.CloseWhenDone Answer.CloseWhenDone h = (Change.Marks, (refl, refl), h)
+  makes Call.CloneSender (Answer.CloneSender reply) h = clones _ _ reply h
+  makes Call.CloneReceiver (Answer.CloneReceiver reply) h = clones _ _ reply h
+  makes Call.DropSender Answer.DropSender h = (Change.Counts Room (old.sender_count - 1), (last _ h.0, refl), h.1)
+  makes Call.DropReceiver Answer.DropReceiver h = (Change.Counts Message (old.receiver_count - 1), (last _ h.0, refl), h.1)
+  makes (Call.GiveUp ticket) Answer.GiveUp h = (Change.Unlists ticket, (λ d. d, refl), h)
+  makes Call.IsClosed (Answer.IsClosed told) h = same h.1
+  makes Call.IsEmpty (Answer.IsEmpty told) h = same h.1
+  makes Call.IsFull (Answer.IsFull told) h = same h.1
+  makes Call.Len (Answer.Len told) h = same h.1
+  makes Call.Held (Answer.Held told) h = same h.1
+  makes Call.Capacity (Answer.Capacity told) h = same h.1
+  makes Call.SenderCount (Answer.SenderCount told) h = same h.1
+  makes Call.ReceiverCount (Answer.ReceiverCount told) h = same h.1
   makes made reply h = absurd h
 
 -- a poll accepts the pairs that its try accepts
@@ -166,13 +157,13 @@ poll_sent-is pairs = send_answers (λ reply listed poll. poll_sent pairs poll �
 
 pub accepted_one-is : {T P W : Type 0} (msg : T) (priority : P) (given : Option ℕ) (waker : W) (reply : SendReply (T × P)) (listed : Option ℕ)
     (poll : SendPoll (T × P)) → send_answer reply listed ≡ Some poll
-    → accepted_by (call.PollSend msg priority given waker) (answer.PollSend poll) ≡ sent ((msg, priority) ∷ []) (as_list reply)
+    → accepted_by (Call.PollSend msg priority given waker) (Answer.PollSend poll) ≡ sent ((msg, priority) ∷ []) (as_list reply)
 accepted_one-is msg priority given waker =
-    send_answers (λ reply listed poll. accepted_by (call.PollSend msg priority given waker) (answer.PollSend poll) ≡ sent ((msg, priority) ∷ []) (as_list reply))
+    send_answers (λ reply listed poll. accepted_by (Call.PollSend msg priority given waker) (Answer.PollSend poll) ≡ sent ((msg, priority) ∷ []) (as_list reply))
     (λ done. refl) (λ rest. refl) (λ rest. refl) (λ rest. refl) (λ rest ticket. refl)
 
 poll_received-is : {T P : Type 0} (reply : RecvReply (T × P)) (listed : Option ℕ) (poll : RecvPoll (T × P))
-    → recv_answer reply listed ≡ Some poll → received_by {T = T} {P = P} (answer.PollRecv poll) ≡ received_by (answer.TryRecv reply)
+    → recv_answer reply listed ≡ Some poll → received_by {T = T} {P = P} (Answer.PollRecv poll) ≡ received_by (Answer.TryRecv reply)
 poll_received-is reply listed poll h = grind arith
 
 -- a step makes a change, and a poll then lists or unlists its caller
@@ -180,7 +171,7 @@ module _ {T P W : Type 0} (cmp : P → P → Ordering) (is_clone : W → W → T
   pub record Changed (old : State T P W) (made : Calls T P W) (a : Account T P) (handed : Handed W) (new : State T P W) : Type 0 where
     pub by : Change T P
     pub mid : State T P W
-    pub fits : Fits cmp old (Closes old made) (made ≡ call.CloseWhenDone) (IsDirect made → ⊥) a by
+    pub fits : Fits cmp old (Closes old made) (made ≡ Call.CloseWhenDone) (IsDirect made → ⊥) a by
     pub does : Does old handed mid by
     pub rests : new ≡ record mid { waiters = new.waiters }
     pub direct : IsDirect made → new ≡ mid
@@ -195,15 +186,15 @@ module _ {T P W : Type 0} (cmp : P → P → Ordering) (is_clone : W → W → T
         record { by = m.0; mid = new; fits = m.1; does = m.2; rests = refl; direct = λ d. refl }
 
     pub changed : (made : Calls T P W) (reply : Answers T P) → Moves cmp is_clone old made reply handed new → Shows old made reply handed new
-    changed (call.PollSend msg priority given waker) (answer.PollSend poll) h =
+    changed (Call.PollSend msg priority given waker) (Answer.PollSend poll) h =
         let m = sends cmp old h.mid.pending (Does old handed h.mid) ((msg, priority) ∷ []) (as_list h.reply) h.tried in
         rw (accepted_one-is msg priority given waker h.reply h.ticket poll h.answered)
         (record { by = m.0; mid = h.mid; fits = m.1; does = m.2; rests = h.ends.1; direct = λ d. absurd d })
-    changed (call.PollSendv pairs given waker) (answer.PollSendv poll) h =
+    changed (Call.PollSendv pairs given waker) (Answer.PollSendv poll) h =
         let m = sends cmp old h.mid.pending (Does old handed h.mid) pairs h.reply h.tried in
         rw (poll_sent-is pairs h.reply h.ticket poll h.answered)
         (record { by = m.0; mid = h.mid; fits = m.1; does = m.2; rests = h.ends.1; direct = λ d. absurd d })
-    changed (call.PollRecv given waker) (answer.PollRecv poll) h =
+    changed (Call.PollRecv given waker) (Answer.PollRecv poll) h =
         let m = receives cmp old h.mid.pending (Does old handed h.mid) h.reply h.tried in
         rw (poll_received-is h.reply h.ticket poll h.answered)
         (record { by = m.0; mid = h.mid; fits = m.1; does = m.2; rests = h.ends.1; direct = λ d. absurd d })

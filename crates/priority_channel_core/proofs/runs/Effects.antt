@@ -1,14 +1,13 @@
 -- What a step does to the pending pairs.
-use Rattle.std.proofs.Common.{◌≡◌, ◌⊎◌, ℕ, Bool, true, false, if◌then◌else◌, List, [], ◌∷◌, ◌++◌, map, refl, ap, ◌∙◌, inl, inr, append-nil, All, IsPermutation, is_gt}
+use Rattle.std.proofs.Common.{◌≡◌, ◌⊎◌, ℕ, true, false, ◌==◌, List, [], ◌∷◌, ◌++◌, map, refl, ap, ◌∙◌, inl, inr, append-nil, All, IsPermutation, is_gt}
 use Rattle.std.proofs.lemmas.List.Sorted.{IsPermutation-refl, IsPermutation-sym, IsPermutation-trans, IsPermutation-cons, IsPermutation-middle, IsPermutation-append_left, IsPermutation-append_comm}
 use Rattle.std.proofs.lemmas.List.Elements.{All-append, All-weaker}
 use Rattle.std.specs.declared.cmp.Ordering.TheVariants.{Less}
-use Rattle.priority_channel_core.specs.declared.side.Side.TheVariants.{Room, Message}
 use Rattle.priority_channel_core.specs.bag.Prelude.{TakesGreatest}
-use Rattle.priority_channel_core.specs.Prelude.{State, Handed, Does, shut, marked, is_done, Moves, Calls, Answers, Ordering}
+use Rattle.priority_channel_core.specs.Prelude.{State, Handed, Does, is_done, Moves, Calls, Answers, Ordering, Room, Message}
 use Rattle.priority_channel_core.specs.machine.Change as change
 use Rattle.priority_channel_core.specs.laws.Accepted.{Change, priorities, before, after}
-use Rattle.priority_channel_core.proofs.Closing.{or_left}
+use Rattle.priority_channel_core.proofs.Closing.{or_left, or_right}
 use Rattle.priority_channel_core.proofs.runs.Changes.{Account, nothing, account, Fits, OneOut, changed}
 
 -- one pair goes out, and another comes in at its place
@@ -62,10 +61,6 @@ module _ {T P W : Type 0} (cmp : P → P → Ordering) (old : State T P W) where
       gives = inl refl;
     })
 
-    marks : (b : Bool) → new ≡ (if b then shut (marked old) else marked old) → Effect nothing new
-    marks true is = none 0 0 _ is refl (λ k. refl)
-    marks false is = none 0 0 _ is refl (λ k. k)
-
     effect_by : (closes marking unlists : Type 0) (by : change.Change T P) (a : Account T P) → Fits cmp old closes marking unlists a by → Does old handed new by → Effect a new
     effect_by c m u change.Nothing a told d = rw told (none 0 0 old d.1 refl (λ k. k))
     effect_by c m u (change.Adds front) a (opened, told) d = rw told (record {
@@ -104,11 +99,9 @@ module _ {T P W : Type 0} (cmp : P → P → Ordering) (old : State T P W) where
     })
     effect_by c m u change.Frees a (some, told) d = rw told (none 0 1 _ d.1 refl (λ k. or_left _ _ k))
     effect_by c m u change.Shuts a (by, told) d = rw told (none 0 0 _ d.1 refl (λ k. refl))
-    effect_by c m u change.Marks a (by, told) d = rw told (marks (is_done old) d.1)
-    effect_by c m u (change.Counts Room n) a told d = rw told (none 0 0 _ d.1 refl (λ k. k))
-    effect_by c m u (change.Counts Message n) a told d = rw told (none 0 0 _ d.1 refl (λ k. k))
-    effect_by c m u (change.Leaves Room) a (by, told) d = rw told (none 0 0 _ d.1 refl (λ k. refl))
-    effect_by c m u (change.Leaves Message) a (by, told) d = rw told (none 0 0 _ d.1 refl (λ k. refl))
+    effect_by c m u change.Marks a (by, told) d = rw told (none 0 0 _ d.1 refl (or_right (is_done old) _))
+    effect_by c m u (change.Counts Room n) a (by, told) d = rw told (none 0 0 _ d.1 refl (or_right (n == 0) _))
+    effect_by c m u (change.Counts Message n) a (by, told) d = rw told (none 0 0 _ d.1 refl (or_right (n == 0) _))
     effect_by c m u (change.Unlists ticket) a (by, told) d = rw told (none 0 0 _ d.1 refl (λ k. k))
 
   -- a poll's listing moves no pairs

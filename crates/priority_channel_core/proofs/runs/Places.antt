@@ -1,9 +1,7 @@
 -- No held place is lost or made up.
-use Rattle.std.proofs.Common.{◌≡◌, ◌+◌, Bool, true, false, if◌then◌else◌, List, [], ◌∷◌, refl, ap, arith, inl, inr}
+use Rattle.std.proofs.Common.{◌≡◌, ◌+◌, List, [], ◌∷◌, refl, ap, arith, inl, inr}
 use Rattle.std.proofs.lemmas.List.Sums.{sum_by-cons}
-use Rattle.priority_channel_core.specs.declared.side.Side.TheVariants.{Room, Message}
-use Rattle.priority_channel_core.specs.Prelude.{State, Handed, Does, shut, marked, is_done, Moves, Calls, Answers, Operation, Run, Ordering}
-use Rattle.priority_channel_core.specs.machine.Change as change
+use Rattle.priority_channel_core.specs.Prelude.{State, Handed, Does, Moves, Calls, Answers, Operation, Run, Ordering, Room, Message, Change}
 use Rattle.priority_channel_core.specs.laws.Places.{got_by, given_by, got_in, given_in}
 use Rattle.priority_channel_core.proofs.runs.Changes.{Account, nothing, Fits, OneOut, changed}
 
@@ -24,27 +22,18 @@ module _ {T P W : Type 0} (cmp : P → P → Ordering) (old : State T P W) where
     lends left a s is more (pair, inl (taken, told)) = tells a _ s told is (omega (arith, more))
     lends left a s is more (pair, inr (taken, told)) = tells a _ s told is (omega (arith, more))
 
-    marks : (b : Bool) → new ≡ (if b then shut (marked old) else marked old) → new.held ≡ old.held
-    marks true is = ap (λ (r : State T P W). r.held) is
-    marks false is = ap (λ (r : State T P W). r.held) is
-
-    counts_by : (closes marking unlists : Type 0) (by : change.Change T P) (a : Account T P) → Fits cmp old closes marking unlists a by → Does old handed new by → Counts a
-    counts_by c m u change.Nothing a told d = tells a nothing old told d.1 refl
-    counts_by c m u (change.Adds front) a (opened, told) d = tells a _ _ told d.1 refl
-    counts_by c m u (change.GoesOut left) a out d = goes left a _ d.1 refl out
-    counts_by c m u (change.Lends left) a out d = lends left a _ d.1 refl out
-    counts_by c m u (change.MakesWay left pair) a (opened, out, least, told) d = tells a _ _ told d.1 refl
-    counts_by c m u (change.Reprices left) a (was, now, one, told) d = tells a _ _ told d.1 refl
-    counts_by c m u change.Holds a told d = tells a _ _ told d.1 (omega arith)
-    counts_by c m u (change.Fills pair) a (some, told) d = tells a _ _ told d.1 (omega (arith, some))
-    counts_by c m u change.Frees a (some, told) d = tells a _ _ told d.1 (omega (arith, some))
-    counts_by c m u change.Shuts a (by, told) d = tells a _ _ told d.1 refl
-    counts_by c m u change.Marks a (by, told) d = rw told (ap (λ n. n + 0) (marks (is_done old) d.1))
-    counts_by c m u (change.Counts Room n) a told d = tells a _ _ told d.1 refl
-    counts_by c m u (change.Counts Message n) a told d = tells a _ _ told d.1 refl
-    counts_by c m u (change.Leaves Room) a (by, told) d = tells a _ _ told d.1 refl
-    counts_by c m u (change.Leaves Message) a (by, told) d = tells a _ _ told d.1 refl
-    counts_by c m u (change.Unlists ticket) a (by, told) d = tells a _ _ told d.1 refl
+    counts_by : (closes marking unlists : Type 0) (by : Change T P) (a : Account T P) → Fits cmp old closes marking unlists a by → Does old handed new by → Counts a
+    counts_by c m u Change.Nothing a told d = tells a nothing old told d.1 refl
+    counts_by c m u (Change.GoesOut left) a out d = goes left a _ d.1 refl out
+    counts_by c m u (Change.Lends left) a out d = lends left a _ d.1 refl out
+    counts_by c m u (Change.MakesWay left pair) a (opened, out, least, told) d = tells a _ _ told d.1 refl
+    counts_by c m u (Change.Reprices left) a (was, now, one, told) d = tells a _ _ told d.1 refl
+    counts_by c m u Change.Holds a told d = tells a _ _ told d.1 (omega arith)
+    counts_by c m u (Change.Fills pair) a (some, told) d = tells a _ _ told d.1 (omega (arith, some))
+    counts_by c m u Change.Frees a (some, told) d = tells a _ _ told d.1 (omega (arith, some))
+    counts_by c m u (Change.Counts Room n) a (by, told) d = tells a _ _ told d.1 refl
+    counts_by c m u (Change.Counts Message n) a (by, told) d = tells a _ _ told d.1 refl
+    counts_by c m u by a f d = tells a _ _ f.1 d.1 refl
 
   counts : (is_clone : W → W → Type 0) (new : State T P W) (handed : Handed W) (made : Calls T P W) (reply : Answers T P) → Moves cmp is_clone old made reply handed new
       → new.held + given_by reply ≡ old.held + got_by reply

@@ -6,10 +6,7 @@ use Rattle.std.proofs.lemmas.List.Sorted.{IsPermutation-refl, IsPermutation-tran
 use Rattle.std.proofs.lemmas.List.Elements.{All-from_recursion, recursion_from_All}
 use Rattle.std.proofs.lemmas.List.Kept.{AllPairs-cons}
 use Rattle.std.proofs.Permutation.{every_append}
-use Rattle.priority_channel_core.specs.declared.calls.Call.TheVariants as call
-use Rattle.priority_channel_core.specs.declared.calls.Answer.TheVariants as answer
-use Rattle.priority_channel_core.specs.Prelude.{State, Handed, IsOver, IsGoingOn, Says, Moves, Step, Answers, Operation, Run, Ordering, RecvReply, Does}
-use Rattle.priority_channel_core.specs.declared.errors.TryRecvError.TheVariants as recv_error
+use Rattle.priority_channel_core.specs.Prelude.{State, Handed, IsOver, IsGoingOn, Says, Moves, Step, Answers, Operation, Run, Ordering, RecvReply, Does, Call, Answer, TryRecvError}
 use Rattle.priority_channel_core.proofs.items.Kept.{every_part}
 use Rattle.priority_channel_core.proofs.Closing.{or_left}
 use Rattle.priority_channel_core.specs.laws.Accepted.{accepted_by, put_in, received_by, displaced_by, taken_by, changed_by, accepted_in, received_in, displaced_in, taken_in, changed_in, Change, priorities, before, after, Conserves, NeverRise}
@@ -129,9 +126,9 @@ module _ {T P W : Type 0} (cmp : P → P → Ordering) (is_clone : W → W → T
       let second = Run-split old first.0 before between first.1 in
       run_never_rises second.0 first.0 between second.2 none kept
 
-  answered : (old new : State T P W) (handed : Handed W) (reply : Answers T P) → Moves cmp is_clone old call.TryRecv reply handed new
-      → (told : RecvReply (T × P)) × (reply ≡ answer.TryRecv told) × Says cmp old new.pending (Does old handed new) call.TryRecv (answer.TryRecv told)
-  answered old new handed (answer.TryRecv told) h = (told, refl, h)
+  answered : (old new : State T P W) (handed : Handed W) (reply : Answers T P) → Moves cmp is_clone old Call.TryRecv reply handed new
+      → (told : RecvReply (T × P)) × (reply ≡ Answer.TryRecv told) × Says cmp old new.pending (Does old handed new) Call.TryRecv (Answer.TryRecv told)
+  answered old new handed (Answer.TryRecv told) h = (told, refl, h)
   answered old new handed reply h = absurd h
 
   -- what n pending pairs and n + 1 receives from a closed channel give
@@ -139,10 +136,10 @@ module _ {T P W : Type 0} (cmp : P → P → Ordering) (is_clone : W → W → T
     pairs : List (T × P)
     all : IsPermutation pending pairs
     given : received_in run ≡ pairs
-    answers : map (λ (made : Operation T P W). made.answer) run ≡ map (λ (pair : T × P). answer.TryRecv (Ok pair)) pairs ++ answer.TryRecv (Err recv_error.Closed) ∷ []
+    answers : map (λ (made : Operation T P W). made.answer) run ≡ map (λ (pair : T × P). Answer.TryRecv (Ok pair)) pairs ++ Answer.TryRecv (Err TryRecvError.Closed) ∷ []
 
-  step_received : (old new : State T P W) (made : Operation T P W) → Step cmp is_clone old made.call made.answer made.handed new → made.call ≡ call.TryRecv
-      → (told : RecvReply (T × P)) × (made.answer ≡ answer.TryRecv told) × Says cmp old new.pending (Does old made.handed new) call.TryRecv (answer.TryRecv told)
+  step_received : (old new : State T P W) (made : Operation T P W) → Step cmp is_clone old made.call made.answer made.handed new → made.call ≡ Call.TryRecv
+      → (told : RecvReply (T × P)) × (made.answer ≡ Answer.TryRecv told) × Says cmp old new.pending (Does old made.handed new) Call.TryRecv (Answer.TryRecv told)
   step_received old new made step is = answered old new made.handed made.answer (rw is at step.moves)
 
   over_or_not : (s : State T P W) → IsOver s → IsGoingOn s → ⊥
@@ -150,16 +147,16 @@ module _ {T P W : Type 0} (cmp : P → P → Ordering) (is_clone : W → W → T
   over_or_not s over (inr some) = let e = over.1 in absurd (omega arith)
 
   none_left : (old mid : State T P W) (made : Operation T P W) (more : List (Operation T P W)) → IsOver old → length old.pending ≡ 0
-      → (told : RecvReply (T × P)) → made.answer ≡ answer.TryRecv told → Says cmp old mid.pending (Does old made.handed mid) call.TryRecv (answer.TryRecv told) → more ≡ [] → Drained old.pending (made ∷ more)
-  none_left old mid made more closed long (Err recv_error.Closed) is h end =
+      → (told : RecvReply (T × P)) → made.answer ≡ Answer.TryRecv told → Says cmp old mid.pending (Does old made.handed mid) Call.TryRecv (Answer.TryRecv told) → more ≡ [] → Drained old.pending (made ∷ more)
+  none_left old mid made more closed long (Err TryRecvError.Closed) is h end =
       record { pairs = []; all = rw h.0 (IsPermutation-refl []); given = rw (is, end) refl; answers = rw (is, end) refl }
-  none_left old mid made more closed long (Err recv_error.Empty) is h end = absurd (over_or_not old closed h.1)
+  none_left old mid made more closed long (Err TryRecvError.Empty) is h end = absurd (over_or_not old closed h.1)
   none_left old mid made more closed long (Ok pair) is h end =
       let taken = h.0 in
       let l = ap length taken.split in let m = length-append taken.before (pair ∷ taken.after) in absurd (omega arith)
 
   drains : (n : ℕ) (old new : State T P W) (run : List (Operation T P W)) → Run cmp is_clone old run new → IsOver old → length old.pending ≡ n
-      → map (λ (made : Operation T P W). made.call) run ≡ replicate (suc n) call.TryRecv → Drained old.pending run
+      → map (λ (made : Operation T P W). made.call) run ≡ replicate (suc n) Call.TryRecv → Drained old.pending run
   drains n old new [] run closed long same = absurd (cc)
   drains zero old new (made ∷ more) run closed long same =
       let t = step_received old run.0 made run.1 (cc) in
@@ -169,10 +166,10 @@ module _ {T P W : Type 0} (cmp : P → P → Ordering) (is_clone : W → W → T
       one_more n old run.0 made more closed long t.0 t.1 t.2 (λ c l. drains n run.0 new more run.2 c l (cc))
     where
       one_more : (n : ℕ) (old mid : State T P W) (made : Operation T P W) (more : List (Operation T P W)) → IsOver old → length old.pending ≡ suc n
-          → (told : RecvReply (T × P)) → made.answer ≡ answer.TryRecv told → Says cmp old mid.pending (Does old made.handed mid) call.TryRecv (answer.TryRecv told)
+          → (told : RecvReply (T × P)) → made.answer ≡ Answer.TryRecv told → Says cmp old mid.pending (Does old made.handed mid) Call.TryRecv (Answer.TryRecv told)
           → (IsOver mid → length mid.pending ≡ n → Drained mid.pending more) → Drained old.pending (made ∷ more)
-      one_more n old mid made more closed long (Err recv_error.Closed) is h next = let e = ap length h.0 in absurd (omega arith)
-      one_more n old mid made more closed long (Err recv_error.Empty) is h next = absurd (over_or_not old closed h.1)
+      one_more n old mid made more closed long (Err TryRecvError.Closed) is h next = let e = ap length h.0 in absurd (omega arith)
+      one_more n old mid made more closed long (Err TryRecvError.Empty) is h next = absurd (over_or_not old closed h.1)
       one_more n old mid made more closed long (Ok pair) is h next =
           let taken = h.0 in
           let perm : IsPermutation old.pending (pair ∷ mid.pending) = rw (taken.split, taken.closed_up) (IsPermutation-middle taken.before pair taken.after) in
@@ -184,25 +181,25 @@ module _ {T P W : Type 0} (cmp : P → P → Ordering) (is_clone : W → W → T
             answers = rw (is, r.answers) refl;
           }
 
-  receives_change_none : (n : ℕ) (run : List (Operation T P W)) → map (λ (made : Operation T P W). made.call) run ≡ replicate n call.TryRecv → changed_in run ≡ []
+  receives_change_none : (n : ℕ) (run : List (Operation T P W)) → map (λ (made : Operation T P W). made.call) run ≡ replicate n Call.TryRecv → changed_in run ≡ []
   receives_change_none n [] same = refl
   receives_change_none zero (made ∷ more) same = absurd (cc)
   receives_change_none (suc n) (made ∷ more) same =
-      let first : made.call ≡ call.TryRecv = cc in
+      let first : made.call ≡ Call.TryRecv = cc in
       rw first (receives_change_none n more (cc))
 
-  receives_put_none : (n : ℕ) (run : List (Operation T P W)) → map (λ (made : Operation T P W). made.call) run ≡ replicate n call.TryRecv → put_in run ≡ []
+  receives_put_none : (n : ℕ) (run : List (Operation T P W)) → map (λ (made : Operation T P W). made.call) run ≡ replicate n Call.TryRecv → put_in run ≡ []
   receives_put_none n [] same = refl
   receives_put_none zero (made ∷ more) same = absurd (cc)
   receives_put_none (suc n) (made ∷ more) same =
-      let first : made.call ≡ call.TryRecv = cc in
+      let first : made.call ≡ Call.TryRecv = cc in
       rw first (receives_put_none n more (cc))
 
   -- a closed channel gives its pending pairs, and then nothing
   pub run_drains : (old new : State T P W) (run : List (Operation T P W)) → Run cmp is_clone old run new → old.is_closed ≡ true → old.held ≡ 0
-      → map (λ (made : Operation T P W). made.call) run ≡ replicate (length old.pending + 1) call.TryRecv
+      → map (λ (made : Operation T P W). made.call) run ≡ replicate (length old.pending + 1) Call.TryRecv
       → (pairs : List (T × P)) × IsPermutation old.pending pairs × NeverRise cmp pairs
-      × (map (λ (made : Operation T P W). made.answer) run ≡ map (λ (pair : T × P). answer.TryRecv (Ok pair)) pairs ++ answer.TryRecv (Err recv_error.Closed) ∷ [])
+      × (map (λ (made : Operation T P W). made.answer) run ≡ map (λ (pair : T × P). Answer.TryRecv (Ok pair)) pairs ++ Answer.TryRecv (Err TryRecvError.Closed) ∷ [])
   run_drains old new run is closed none same =
       let d = drains (length old.pending) old new run is (closed, none) refl (rw add-one at same) in
       (d.pairs, d.all, rw (← d.given) (run_never_rises old new run is ((run_closed old new run is closed).1 ∙ receives_put_none (length old.pending + 1) run same) (receives_change_none (length old.pending + 1) run same)), d.answers)

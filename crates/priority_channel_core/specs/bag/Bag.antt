@@ -1,5 +1,5 @@
 -- What callers see of a bag.
-use Rattle.std.specs.Prelude.{ℕ, ◌*◌, Bool, if◌then◌else◌, Option, List, length}
+use Rattle.std.specs.Prelude.{◌≡◌, ℕ, ◌*◌, Bool, if◌then◌else◌, Option, List, length}
 use Rattle.priority_channel_core.specs.bag.Digits.{digits}
 
 pub record Contents (T P : Type 0) : Type 0 where
@@ -20,3 +20,11 @@ pub record Contents (T P : Type 0) : Type 0 where
 abbrev pub search_for_least : {T P : Type 0} → Contents T P → ℕ
 search_for_least bag =
     if bag.knows_least then 0 else length bag.pending * digits (length bag.pending)
+
+-- nothing else changes than the pairs, and what their comparisons cost
+abbrev pub Keeps : {T P : Type 0} → Contents T P → Contents T P → Type 0
+Keeps old new = new ≡ record old {
+  pending = new.pending;
+  first = new.first;
+  comparisons = new.comparisons;
+}

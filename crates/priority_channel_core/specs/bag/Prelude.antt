@@ -1,5 +1,5 @@
 -- The names that contracts and proofs cite, passed on from one place. Declares nothing.
-pub use Rattle.priority_channel_core.specs.bag.Bag.{Contents, search_for_least}
+pub use Rattle.priority_channel_core.specs.bag.Bag.{Contents, Keeps, search_for_least}
 unfoldable pub use Rattle.priority_channel_core.specs.bag.ByKey.{by_key, put_in}
 pub use Rattle.priority_channel_core.specs.bag.Changing.{Changes, PassesFirst}
 unfoldable pub use Rattle.priority_channel_core.specs.bag.Digits.{digits}

@@ -1,8 +1,7 @@
 -- The answers of the code, where a bulk send gives back what holds a list.
 use Rattle.std.specs.Prelude.{◌≡◌, List, Ok, Err}
-use Rattle.priority_channel_core.specs.Types.{Answer, Ready, Pending, Closed, Full, Memory, SendReply, SendPoll}
+use Rattle.priority_channel_core.specs.Types.{Answer, Ready, Pending, Closed, Full, Memory, SendReply, SendPoll, SendFault}
 use Rattle.priority_channel_core.specs.declared.calls.Answer.TheVariants.{TrySend, TrySendv, TrySendEvicting, TryRecv, TakeWhere, ChangePriority, Close, IsClosed, IsEmpty, IsFull, Len, Capacity, SenderCount, ReceiverCount, CloneSender, CloneReceiver, DropSender, DropReceiver, PollSend, PollSendv, PollRecv, GiveUp, CloseWhenDone, TryReserve, TryLease, LeaseWhere, Put, Free, Held}
-use Rattle.priority_channel_core.specs.declared.errors.SendFault.TheVariants as fault
 use Rattle.priority_channel_core.specs.machine.Says.{Answers}
 
 abbrev pub Is : {A : Type 0} → A → A → Type 0
@@ -22,10 +21,10 @@ module _ {T P M : Type 0} (holds : M → List (T × P) → Type 0) where
 
   abbrev pub SamePoll : SendPoll M → SendPoll (List (T × P)) → Type 0
   SamePoll (Ready (Ok done)) = Is (Ready (Ok tt))
-  SamePoll (Ready (Err (fault.Closed e))) =
-      IsMade (holds e.0) (λ rest. Ready (Err (fault.Closed (record { 0 = rest }))))
-  SamePoll (Ready (Err (fault.Memory m))) =
-      IsMade (holds m) (λ rest. Ready (Err (fault.Memory rest)))
+  SamePoll (Ready (Err (SendFault.Closed e))) =
+      IsMade (holds e.0) (λ rest. Ready (Err (SendFault.Closed (record { 0 = rest }))))
+  SamePoll (Ready (Err (SendFault.Memory m))) =
+      IsMade (holds m) (λ rest. Ready (Err (SendFault.Memory rest)))
   SamePoll (Pending m ticket) = IsMade (holds m) (λ rest. Pending rest ticket)
 
   abbrev pub SameAnswer : Answer T P M → Answers T P → Type 0

@@ -1,8 +1,7 @@
 -- Many receives, or takings: each is a step of its own.
 use Rattle.std.specs.Prelude.{◌≡◌, ℕ, List, [], ◌∷◌, map, Ok, Some}
-use Rattle.std.specs.declared.cmp.Ordering.{Ordering}
+use Rattle.priority_channel_core.specs.Types.{Answer, Ordering}
 use Rattle.priority_channel_core.specs.declared.calls.Call.TheVariants.{TryRecv, TakeWhere}
-use Rattle.priority_channel_core.specs.declared.calls.Answer.TheVariants as answer
 use Rattle.priority_channel_core.specs.machine.State.{State, Handed, nobody}
 use Rattle.priority_channel_core.specs.machine.Run.{Operation, Run}
 
@@ -14,12 +13,12 @@ pub record Placed (T P : Type 0) : Type 0 where
 module _ {T P W : Type 0} where
   abbrev pub receives : T × P → Handed W → Operation T P W
   receives pair handed =
-      record { call = TryRecv; answer = answer.TryRecv (Ok pair); handed = handed }
+      record { call = TryRecv; answer = Answer.TryRecv (Ok pair); handed = handed }
 
   abbrev pub takes : Placed T P → Handed W → Operation T P W
   takes one handed = record {
     call = TakeWhere one.place;
-    answer = answer.TakeWhere (Some one.pair);
+    answer = Answer.TakeWhere (Some one.pair);
     handed = handed;
   }
 

@@ -1,7 +1,6 @@
 -- Facts for one kind of reply.
 use Rattle.std.specs.Prelude.{ℕ, ⊤, Option, Some, None, Ok, Err}
-use Rattle.priority_channel_core.specs.Types.{CorePoll, Ready, Pending, Full, Memory, SendReply, SendPoll}
-use Rattle.priority_channel_core.specs.declared.errors.SendFault.TheVariants as send
+use Rattle.priority_channel_core.specs.Types.{CorePoll, Ready, Pending, Full, Memory, SendReply, SendPoll, SendFault}
 use Rattle.priority_channel_core.specs.Errors.{unsent}
 
 module _ {A : Type 0} where
@@ -14,7 +13,7 @@ module _ {A : Type 0} where
   OnMemory reply fact = ⊤
 
   abbrev pub OnMemoryFault : SendPoll A → Type 0 → Type 0
-  OnMemoryFault (Ready (Err (send.Memory held))) fact = fact
+  OnMemoryFault (Ready (Err (SendFault.Memory held))) fact = fact
   OnMemoryFault answer fact = ⊤
 
   abbrev pub kept_by : SendPoll A → Option A

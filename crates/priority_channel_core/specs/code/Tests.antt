@@ -4,7 +4,6 @@ use Rattle.std.specs.Prelude.{◌≡◌, List, [], ◌∷◌, ⊤, All, Some, No
 use Rattle.priority_channel_core.specs.bag.Prelude.{Changes, PassesFirst}
 use Rattle.priority_channel_core.specs.Types.{Call, Answer, Ordering}
 use Rattle.priority_channel_core.specs.declared.calls.Call.TheVariants.{TrySendv, TakeWhere, ChangePriority, PollSendv, LeaseWhere}
-use Rattle.priority_channel_core.specs.declared.calls.Answer.TheVariants as answer
 use Rattle.priority_channel_core.specs.machine.State.{State, Handed}
 use Rattle.priority_channel_core.specs.code.Calls.{Makes, Response}
 use Rattle.priority_channel_core.specs.code.Front.{AddsFront, PollsFront}
@@ -23,17 +22,17 @@ module _ {T P W M F : Type 0} (passes fails : F → T × P → Type 0) where
   pub record MeetsTest (old : List (T × P)) (made : Call T P W M F) (reply : Answer T P M)
       (new : List (T × P)) : Type 0 where
     pub taken : (test : F) (pair : T × P) → made ≡ TakeWhere test
-        → reply ≡ answer.TakeWhere (Some pair) → passes test pair
-    pub none_taken : (test : F) → made ≡ TakeWhere test → reply ≡ answer.TakeWhere None
+        → reply ≡ Answer.TakeWhere (Some pair) → passes test pair
+    pub none_taken : (test : F) → made ≡ TakeWhere test → reply ≡ Answer.TakeWhere None
         → All (fails test) old
     pub changed : (test : F) (priority was : P) → made ≡ ChangePriority test priority
-        → reply ≡ answer.ChangePriority (Ok was)
+        → reply ≡ Answer.ChangePriority (Ok was)
         → (change : Changes old was priority new) × PassesFirst (passes test) (fails test) change
     pub none_changed : (test : F) (priority back : P) → made ≡ ChangePriority test priority
-        → reply ≡ answer.ChangePriority (Err back) → All (fails test) old
+        → reply ≡ Answer.ChangePriority (Err back) → All (fails test) old
     pub leased : (test : F) (pair : T × P) → made ≡ LeaseWhere test
-        → reply ≡ answer.LeaseWhere (Ok (Some pair)) → passes test pair
-    pub none_leased : (test : F) → made ≡ LeaseWhere test → reply ≡ answer.LeaseWhere (Ok None)
+        → reply ≡ Answer.LeaseWhere (Ok (Some pair)) → passes test pair
+    pub none_leased : (test : F) → made ≡ LeaseWhere test → reply ≡ Answer.LeaseWhere (Ok None)
         → All (fails test) old
 
   module _ (holds : M → List (T × P) → Type 0) (cmp : P → P → Ordering)

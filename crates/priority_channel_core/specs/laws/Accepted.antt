@@ -2,11 +2,7 @@
 use Rattle.std.specs.Prelude.{◌≡◌, ◌-◌, false, List, [], ◌∷◌, ◌++◌, length, map, take, Some, Ok, Err, AllPairs, flat_map, IsPermutation}
 use Rattle.std.specs.Ordering.{is_gt}
 use Rattle.priority_channel_core.specs.declared.calls.Call.TheVariants.{TrySend, TrySendv, TrySendEvicting, ChangePriority, PollSend, PollSendv, Put}
-use Rattle.priority_channel_core.specs.declared.calls.Answer.TheVariants as answer
-use Rattle.priority_channel_core.specs.declared.calls.CorePoll.TheVariants.{Ready, Pending}
-use Rattle.priority_channel_core.specs.Prelude.{as_list, Calls, Answers, Operation, Ordering, SendReply, SendPoll}
-use Rattle.priority_channel_core.specs.declared.errors.TrySendError.TheVariants as send_error
-use Rattle.priority_channel_core.specs.declared.errors.SendFault.TheVariants as send_fault
+use Rattle.priority_channel_core.specs.Prelude.{as_list, Calls, Answers, Operation, Ordering, SendReply, SendPoll, Answer, TrySendError, SendFault, Ready, Pending}
 
 module _ {A : Type 0} where
   abbrev pub all_but : List A → List A → List A
@@ -14,31 +10,31 @@ module _ {A : Type 0} where
 
   abbrev pub sent : List A → SendReply (List A) → List A
   sent pairs (Ok done) = pairs
-  sent pairs (Err (send_error.Closed rest)) = []
-  sent pairs (Err (send_error.Full rest)) = all_but rest pairs
-  sent pairs (Err (send_error.Memory rest)) = all_but rest pairs
+  sent pairs (Err (TrySendError.Closed rest)) = []
+  sent pairs (Err (TrySendError.Full rest)) = all_but rest pairs
+  sent pairs (Err (TrySendError.Memory rest)) = all_but rest pairs
 
   abbrev pub poll_sent : List A → SendPoll (List A) → List A
   poll_sent pairs (Ready (Ok done)) = pairs
-  poll_sent pairs (Ready (Err (send_fault.Closed e))) = []
-  poll_sent pairs (Ready (Err (send_fault.Memory rest))) = all_but rest pairs
+  poll_sent pairs (Ready (Err (SendFault.Closed e))) = []
+  poll_sent pairs (Ready (Err (SendFault.Memory rest))) = all_but rest pairs
   poll_sent pairs (Pending rest ticket) = all_but rest pairs
 
 module _ {T P : Type 0} where
   abbrev pub received_by : Answers T P → List (T × P)
-  received_by (answer.TryRecv (Ok pair)) = pair ∷ []
-  received_by (answer.PollRecv (Ready (Ok pair))) = pair ∷ []
-  received_by (answer.TryLease (Ok pair)) = pair ∷ []
+  received_by (Answer.TryRecv (Ok pair)) = pair ∷ []
+  received_by (Answer.PollRecv (Ready (Ok pair))) = pair ∷ []
+  received_by (Answer.TryLease (Ok pair)) = pair ∷ []
   received_by _ = []
 
   -- the pair that made room, and the pair that a test took out; neither is received
   abbrev pub displaced_by : Answers T P → List (T × P)
-  displaced_by (answer.TrySendEvicting (Ok (Some pair))) = pair ∷ []
+  displaced_by (Answer.TrySendEvicting (Ok (Some pair))) = pair ∷ []
   displaced_by _ = []
 
   abbrev pub taken_by : Answers T P → List (T × P)
-  taken_by (answer.TakeWhere (Some pair)) = pair ∷ []
-  taken_by (answer.LeaseWhere (Ok (Some pair))) = pair ∷ []
+  taken_by (Answer.TakeWhere (Some pair)) = pair ∷ []
+  taken_by (Answer.LeaseWhere (Ok (Some pair))) = pair ∷ []
   taken_by _ = []
 
   abbrev pub NeverRise : (P → P → Ordering) → List (T × P) → Type 0
@@ -46,25 +42,25 @@ module _ {T P : Type 0} where
 
 module _ {T P W : Type 0} where
   abbrev pub accepted_by : Calls T P W → Answers T P → List (T × P)
-  accepted_by (TrySend msg priority) (answer.TrySend reply) =
+  accepted_by (TrySend msg priority) (Answer.TrySend reply) =
       sent ((msg, priority) ∷ []) (as_list reply)
-  accepted_by (TrySendv pairs) (answer.TrySendv reply) = sent pairs reply
-  accepted_by (TrySendEvicting msg priority) (answer.TrySendEvicting (Ok displaced)) =
+  accepted_by (TrySendv pairs) (Answer.TrySendv reply) = sent pairs reply
+  accepted_by (TrySendEvicting msg priority) (Answer.TrySendEvicting (Ok displaced)) =
       (msg, priority) ∷ []
-  accepted_by (PollSend msg priority given waker) (answer.PollSend (Ready (Ok done))) =
+  accepted_by (PollSend msg priority given waker) (Answer.PollSend (Ready (Ok done))) =
       (msg, priority) ∷ []
-  accepted_by (PollSendv pairs given waker) (answer.PollSendv reply) = poll_sent pairs reply
-  accepted_by (Put msg priority) (answer.Put (Ok done)) = (msg, priority) ∷ []
+  accepted_by (PollSendv pairs given waker) (Answer.PollSendv reply) = poll_sent pairs reply
+  accepted_by (Put msg priority) (Answer.Put (Ok done)) = (msg, priority) ∷ []
   accepted_by _ _ = []
 
   -- of these, the pair that was put in a held place
   abbrev pub put_by : Calls T P W → Answers T P → List (T × P)
-  put_by (Put msg priority) (answer.Put (Ok done)) = (msg, priority) ∷ []
+  put_by (Put msg priority) (Answer.Put (Ok done)) = (msg, priority) ∷ []
   put_by _ _ = []
 
   -- the old priority and the new one
   abbrev pub changed_by : Calls T P W → Answers T P → List (P × P)
-  changed_by (ChangePriority place priority) (answer.ChangePriority (Ok was)) = (was, priority) ∷ []
+  changed_by (ChangePriority place priority) (Answer.ChangePriority (Ok was)) = (was, priority) ∷ []
   changed_by _ _ = []
 
   -- over a whole run, in order

@@ -2,24 +2,19 @@
 use Rattle.std.specs.Prelude.{◌≡◌, ℕ, ◌⊎◌, Bool, true, false, length, Err}
 use Rattle.std.specs.List.{AllZip}
 use Rattle.priority_channel_core.specs.declared.calls.Answer.TheVariants.{TrySend, TrySendv, TrySendEvicting, PollSend, PollSendv, PollRecv, TryReserve, TryLease, LeaseWhere}
-use Rattle.priority_channel_core.specs.declared.calls.CorePoll.TheVariants.{Ready}
-use Rattle.priority_channel_core.specs.Prelude.{Waiters, State, Handed, Answers, Operation}
-use Rattle.priority_channel_core.specs.declared.errors.TrySendError.TheVariants as send_error
-use Rattle.priority_channel_core.specs.declared.errors.SendFault.TheVariants as send_fault
-use Rattle.priority_channel_core.specs.declared.errors.RecvFault.TheVariants as recv_fault
-use Rattle.priority_channel_core.specs.declared.errors.TryRecvManyError.TheVariants as many_error
+use Rattle.priority_channel_core.specs.Prelude.{Waiters, State, Handed, Answers, Operation, TrySendError, SendFault, RecvFault, TryRecvManyError, Ready}
 use Rattle.priority_channel_core.specs.laws.Accepted.{accepted_by}
 
 abbrev pub is_memory : {T P : Type 0} → Answers T P → Bool
-is_memory (TrySend (Err (send_error.Memory pair))) = true
-is_memory (TrySendv (Err (send_error.Memory rest))) = true
-is_memory (TrySendEvicting (Err (send_error.Memory pair))) = true
-is_memory (PollSend (Ready (Err (send_fault.Memory pair)))) = true
-is_memory (PollSendv (Ready (Err (send_fault.Memory rest)))) = true
-is_memory (PollRecv (Ready (Err recv_fault.Memory))) = true
-is_memory (TryReserve (Err (send_error.Memory none))) = true
-is_memory (TryLease (Err many_error.Memory)) = true
-is_memory (LeaseWhere (Err many_error.Memory)) = true
+is_memory (TrySend (Err (TrySendError.Memory pair))) = true
+is_memory (TrySendv (Err (TrySendError.Memory rest))) = true
+is_memory (TrySendEvicting (Err (TrySendError.Memory pair))) = true
+is_memory (PollSend (Ready (Err (SendFault.Memory pair)))) = true
+is_memory (PollSendv (Ready (Err (SendFault.Memory rest)))) = true
+is_memory (PollRecv (Ready (Err RecvFault.Memory))) = true
+is_memory (TryReserve (Err (TrySendError.Memory none))) = true
+is_memory (TryLease (Err TryRecvManyError.Memory)) = true
+is_memory (LeaseWhere (Err TryRecvManyError.Memory)) = true
 is_memory _ = false
 
 pub record IsAlike {T P W : Type 0} (one other : Operation T P W) : Type 0 where

@@ -1,33 +1,26 @@
--- Polls: a try, and a ticket in a waiting list if the channel was full or empty.
+-- A poll: a try, and a listing if it was full or empty.
 use Rattle.std.specs.Prelude.{◌≡◌, ℕ, Option, Some, None, Ok, Err}
-use Rattle.priority_channel_core.specs.Types.{Ready, Pending, Side, SendReply, RecvReply, SendPoll, RecvPoll}
-use Rattle.priority_channel_core.specs.declared.errors.TrySendError.TheVariants as try_send
-use Rattle.priority_channel_core.specs.declared.errors.TryRecvError.TheVariants as try_recv
-use Rattle.priority_channel_core.specs.declared.errors.SendFault.TheVariants as send
-use Rattle.priority_channel_core.specs.declared.errors.RecvFault.TheVariants as recv
+use Rattle.priority_channel_core.specs.Types.{Ready, Pending, Closed, Full, Side, SendReply, RecvReply, SendPoll, RecvPoll, TryRecvError, SendFault, RecvFault}
+use Rattle.priority_channel_core.specs.Errors.{rest_of}
 use Rattle.priority_channel_core.specs.Waiters.{Enlists}
 use Rattle.priority_channel_core.specs.machine.State.{State, Handed}
 
--- The answer to the poll. Only Full waits, or is Memory if the listing was refused.
+-- Full waits, unless its listing was refused
 abbrev pub send_answer : {K : Type 0} → SendReply K → Option ℕ → Option (SendPoll K)
-send_answer (Err (try_send.Full rest)) (Some ticket) = Some (Pending rest ticket)
-send_answer (Err (try_send.Full rest)) None = Some (Ready (Err (send.Memory rest)))
-send_answer (Err (try_send.Memory rest)) None = Some (Ready (Err (send.Memory rest)))
-send_answer (Err (try_send.Closed rest)) None =
-    Some (Ready (Err (send.Closed (record { 0 = rest }))))
+send_answer (Err (Full rest)) (Some ticket) = Some (Pending rest ticket)
+send_answer (Err (Closed rest)) None = Some (Ready (Err (SendFault.Closed (record { 0 = rest }))))
+send_answer (Err error) None = Some (Ready (Err (SendFault.Memory (rest_of error))))
 send_answer (Ok done) None = Some (Ready (Ok done))
 send_answer reply (Some ticket) = None
 
--- a receive waits if the channel was empty
 abbrev pub recv_answer : {A : Type 0} → RecvReply A → Option ℕ → Option (RecvPoll A)
-recv_answer (Err try_recv.Empty) (Some ticket) = Some (Pending tt ticket)
-recv_answer (Err try_recv.Empty) None = Some (Ready (Err recv.Memory))
-recv_answer (Err try_recv.Closed) None = Some (Ready (Err (recv.Closed (record {}))))
+recv_answer (Err TryRecvError.Empty) (Some ticket) = Some (Pending tt ticket)
+recv_answer (Err TryRecvError.Empty) None = Some (Ready (Err RecvFault.Memory))
+recv_answer (Err TryRecvError.Closed) None = Some (Ready (Err (RecvFault.Closed (record {}))))
 recv_answer (Ok pair) None = Some (Ready (Ok pair))
 recv_answer reply (Some ticket) = None
 
 module _ {T P W : Type 0} (is_clone : W → W → Type 0) where
-  -- the caller waits on this side or, without a ticket, on neither
   abbrev pub Ends : Side → Option ℕ → W → Option ℕ → State T P W → State T P W → Type 0
   Ends side given waker ticket old new =
       Enlists is_clone side given waker ticket old.waiters new.waiters

@@ -1,32 +1,31 @@
--- One step: a call, its answer, the waiters that it wakes, and the state after it.
-use Rattle.priority_channel_core.specs.Types.{Room, Message, Ordering}
+-- A call, its answer, whom it wakes, and the state after it.
+use Rattle.priority_channel_core.specs.Types.{Room, Message, Ordering, Answer}
 use Rattle.priority_channel_core.specs.declared.calls.Call.TheVariants.{TrySend, TrySendv, TryRecv, PollSend, PollSendv, PollRecv}
-use Rattle.priority_channel_core.specs.declared.calls.Answer.TheVariants as answer
 use Rattle.priority_channel_core.specs.machine.State.{State, Handed}
 use Rattle.priority_channel_core.specs.machine.Good.{IsGood}
 use Rattle.priority_channel_core.specs.machine.Change.{Does}
 use Rattle.priority_channel_core.specs.machine.Says.{Calls, Answers, Says}
 use Rattle.priority_channel_core.specs.machine.Polls.{send_answer, recv_answer, Polls}
 
--- `is_clone waker kept` holds if a clone of the waker may give `kept`
-module _ {T P W : Type 0} (cmp : P → P → Ordering) (is_clone : W → W → Type 0) where
-  abbrev pub Tries : State T P W → Calls T P W → Answers T P → Handed W → State T P W → Type 0
-  Tries old made reply handed new = Says cmp old new.pending (Does old handed new) made reply
+-- `is_clone waker kept`: a clone may give `kept`
+module _ {T P W : Type 0} (cmp : P → P → Ordering) (is_clone : W → W → Type 0)
+    (old : State T P W) where
+  abbrev Tries : Calls T P W → Answers T P → Handed W → State T P W → Type 0
+  Tries made reply handed new = Says cmp old new.pending (Does old handed new) made reply
 
-  -- a poll is a try and a listing
-  abbrev pub Moves : State T P W → Calls T P W → Answers T P → Handed W → State T P W → Type 0
-  Moves old (PollSend msg priority given waker) (answer.PollSend polled) =
-      Polls is_clone (λ reply. Tries old (TrySend msg priority) (answer.TrySend reply))
-      send_answer Room given waker polled
-  Moves old (PollSendv pairs given waker) (answer.PollSendv polled) =
-      Polls is_clone (λ reply. Tries old (TrySendv pairs) (answer.TrySendv reply))
-      send_answer Room given waker polled
-  Moves old (PollRecv given waker) (answer.PollRecv polled) =
-      Polls is_clone (λ reply. Tries old TryRecv (answer.TryRecv reply)) recv_answer Message
+  abbrev pub Moves : Calls T P W → Answers T P → Handed W → State T P W → Type 0
+  Moves (PollSend msg priority given waker) (Answer.PollSend polled) =
+      Polls is_clone (λ reply. Tries (TrySend msg priority) (Answer.TrySend reply)) send_answer
+      Room given waker polled
+  Moves (PollSendv pairs given waker) (Answer.PollSendv polled) =
+      Polls is_clone (λ reply. Tries (TrySendv pairs) (Answer.TrySendv reply)) send_answer Room
       given waker polled
-  Moves old made reply = Tries old made reply
+  Moves (PollRecv given waker) (Answer.PollRecv polled) =
+      Polls is_clone (λ reply. Tries TryRecv (Answer.TryRecv reply)) recv_answer Message given
+      waker polled
+  Moves made reply = Tries made reply
 
-  pub record Step (old : State T P W) (made : Calls T P W) (reply : Answers T P) (handed : Handed W)
-      (new : State T P W) : Type 0 where
-    pub moves : Moves old made reply handed new
+  pub record Step (made : Calls T P W) (reply : Answers T P) (handed : Handed W) (new : State T P W)
+      : Type 0 where
+    pub moves : Moves made reply handed new
     pub good : IsGood new

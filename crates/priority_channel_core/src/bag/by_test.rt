@@ -170,12 +170,7 @@ pub(crate) fn divide<T, P, F: Fn(&T, &P) -> bool, A: Allocator, B: Allocator>(
         at -= 1;
         let item = &items[at];
         if !test(&item.msg, &item.priority) {
-            let Item {
-                msg,
-                priority,
-                number: _,
-            } = items.swap_remove(at);
-            out.push_reserved((msg, priority));
+            out.push_reserved(items.swap_remove(at).into_pair());
         }
     }
 }

@@ -26,7 +26,7 @@ pub invariant_of-self-2 : goal.invariant_of-self-2
 invariant_of-self-2 g c =
     let xs = c.self.inside.heap.items.items in
     let was = c.self.invariant in
-    let r = c.replace-msg in
+    let r = c.replace in
     let (others, out, added) = r.ensures.moves in
     kept_with g.met.P.Ord.total others r.new.self.items.items _ _ (apart_left g.met.P.Ord.total xs others r.result was.apart out) (numbered_left g.met.P.Ord.total xs others r.result was.apart out _ was.numbered) refl added
     r.new.self.has_two_ends (r.ensures.order was.order)
@@ -39,7 +39,7 @@ returns-clause-displaced g c =
     let was = c.self.invariant in
     let pending = ap (λ (b : Contents g.row.T.Denot g.row.P.Denot). b.pending) (c.self.view_is ∙ c.find_least.ensures.same) in
     let two = ap (λ (b : Contents g.row.T.Denot g.row.P.Denot). b.knows_least) (c.self.view_is ∙ c.find_least.ensures.same) in
-    let r = c.replace-msg in
+    let r = c.replace in
     let x = r.result in
     let zs = r.new.self.items.items in
     let (others, out, added) = r.ensures.moves in
@@ -47,9 +47,9 @@ returns-clause-displaced g c =
     let within : at < length xs = subst (λ l. at < length l) c.as_slice.ensures.value c.in-Some.ensures.place in
     let seen = c.index-least.ensures ∙ get_or_default xs at _ x within ∙ sym first in
     let test : is_lt (cmp x.priority c.args.priority) ≡ true = ap (λ i. is_lt (cmp i.priority c.args.priority)) (sym seen) ∙ ap is_lt (sym c.compare-order.ensures.order) ∙ sym c.is_lt.ensures ∙ c.if-not-is_lt.false in
-    subst (λ l. Displaces cmp l (c.args.msg, c.args.priority) (x.msg, x.priority) (in_order_of_numbers zs)) pending (record {
+    rw c.into_pair.ensures (subst (λ l. Displaces cmp l (c.args.msg, c.args.priority) (x.msg, x.priority) (in_order_of_numbers zs)) pending (record {
       rest = in_order_of_numbers others;
       less = less_from_test _ test;
       least = takes_least g.met.P.Ord.total xs others x was.apart out (none_less _ c.self.inside.heap.has_two_ends xs _ at x two was.order c.as_slice.ensures.value c.in-Some.ensures.least first);
       added = pending_with g.met.P.Ord.total others zs _ _ (apart_left g.met.P.Ord.total xs others x was.apart out) (numbered_left g.met.P.Ord.total xs others x was.apart out _ was.numbered) refl added;
-    })
+    }))

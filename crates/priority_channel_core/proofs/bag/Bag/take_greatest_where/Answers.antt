@@ -17,13 +17,13 @@ returns-in_err-at-clause-none g c =
 pub invariant_of-self-2 : goal.invariant_of-self-2
 invariant_of-self-2 g c =
     let was = c.self.invariant in
-    let r = c.remove-msg in
+    let r = c.remove in
     kept_without g.met.P.Ord.total c.self.inside.heap.items.items r.new.self.items.items r.result was.apart r.ensures.moves _ was.numbered r.new.self.has_two_ends (r.ensures.order was.order)
 
 pub returns-clause-taken : goal.returns-clause-taken
 returns-clause-taken g c =
     let was = c.self.invariant in
-    let r = c.remove-msg in
+    let r = c.remove in
     let xs = c.self.inside.heap.items.items in
     let at = c.in_ok-at.at in
     let passes : g.row.T.Denot × g.row.P.Denot → Type 0 = (λ pair. Tells g.F.Fn c.args.test.now pair true) in
@@ -39,7 +39,7 @@ returns-clause-taken g c =
     let tested : All (λ y. is_gt (item_cmp g.P.Ord.cmp y r.result) ≡ true → fails (pair_of y)) xs = (λ k d p above.
     let here = r.ensures.item ∙ get_or_default xs at r.result d within in
     others k d p (subst (λ x. is_gt (item_cmp g.P.Ord.cmp (get_or xs k d) x) ≡ true) here above)) in
-    rw (← c.self.view_is) (
+    rw (← c.self.view_is, c.into_pair.ensures) (
       takes_one g.met.P.Ord.total xs r.new.self.items.items r.result was.apart r.ensures.moves,
       passes_greatest g.met.P.Ord.total xs r.new.self.items.items r.result was.apart r.ensures.moves passes fails passed (recursion_from_All _ xs tested),
     )

@@ -15,19 +15,19 @@ returns-in_err-at-clause-none g c =
 pub invariant_of-self : goal.invariant_of-self
 invariant_of-self g c =
     let was = c.self.invariant in
-    let r = c.remove-msg in
+    let r = c.remove in
     kept_without g.met.P.Ord.total c.self.inside.heap.items.items r.new.self.items.items r.result was.apart r.ensures.moves _ was.numbered r.new.self.has_two_ends (r.ensures.order was.order)
 
 pub returns-clause-taken : goal.returns-clause-taken
 returns-clause-taken g c =
     let was = c.self.invariant in
-    let r = c.remove-msg in
-    rw (← c.self.view_is)
+    let r = c.remove in
+    rw (← c.self.view_is, c.into_pair.ensures)
     (takes_one g.met.P.Ord.total c.self.inside.heap.items.items r.new.self.items.items r.result was.apart r.ensures.moves)
 
 pub returns-clause-meets : goal.returns-clause-meets
 returns-clause-meets g c =
-    let r = c.remove-msg in
-    subst (λ x. Tells g.F.Fn c.args.test.now (pair_of x) true)
+    let r = c.remove in
+    rw c.into_pair.ensures (subst (λ x. Tells g.F.Fn c.args.test.now (pair_of x) true)
     (ap (λ (l : List (Item g.row.T.Denot g.row.P.Denot)). slice_index_or l c.in_ok-at.at r.result) c.as_slice.ensures.value ∙ sym r.ensures.item)
-    (c.in_ok-at.ensures.found r.result)
+    (c.in_ok-at.ensures.found r.result))

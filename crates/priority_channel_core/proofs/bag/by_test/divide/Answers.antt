@@ -43,7 +43,7 @@ loop-at-preserved-then-not-test g c =
     let others = l.invariant.others in
     let item = c.index-item.result.now in
     let is_false = subst (Tells g.F.Fn c.args.test.now (pair_of item)) c.if-not-test.true (record { msg = _; priority = _; shows = (refl, refl); says = record { met = c.test.ensures } }) in
-    let r = c.swap_remove-msg in
+    let r = c.swap_remove in
     let x = r.result in
     let left = r.new.self.items in
     let fewer = r.new.self.ok in
@@ -53,7 +53,7 @@ loop-at-preserved-then-not-test g c =
     record {
       within = omega arith;
       others = others ++ x ∷ [];
-      taken = c.push_reserved.ensures.items ∙ ap (λ ys. ys ++ pair_of x ∷ []) l.invariant.taken ∙ append_assoc c.args.out.now.items (map pair_of others) (pair_of x ∷ [])
+      taken = c.push_reserved.ensures.items ∙ ap (λ p. l.out.items ++ p ∷ []) c.into_pair.ensures ∙ ap (λ ys. ys ++ pair_of x ∷ []) l.invariant.taken ∙ append_assoc c.args.out.now.items (map pair_of others) (pair_of x ∷ [])
           ∙ ap (λ ys. c.args.out.now.items ++ ys) (sym (map-append pair_of others (x ∷ [])));
       moves = subst (λ ys. IsPermutation c.args.items.now.items ys) (sym (append_assoc others (x ∷ []) left))
           (IsPermutation-trans _ _ _ l.invariant.moves (IsPermutation-append_right others xs (x ∷ left) out));

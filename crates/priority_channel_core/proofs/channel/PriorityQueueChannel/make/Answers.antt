@@ -1,14 +1,13 @@
 use Rattle.std.proofs.Common.{refl, true, false}
+use Rattle.priority_channel_core.specs.Types.{Call, Answer}
 use Rattle.priority_channel_core.specs.bag.Prelude.{Tells}
-use Rattle.priority_channel_core.specs.declared.calls.Call.TheVariants as call
-use Rattle.priority_channel_core.specs.declared.calls.Answer.TheVariants as answer
 use Rattle.priority_channel_core.proofs.Running.{makes_as, makes_performed, taking_meets, leasing_meets, change_meets}
 use Rattle.priority_channel_core.proofs.channel.PriorityQueueChannel.make.Goals as goal
 
 pub returns-in-TakeWhere-clause-step : goal.returns-in-TakeWhere-clause-step
 returns-in-TakeWhere-clause-step g c =
     rw (c.in-TakeWhere.is, c.new-in-TakeWhere.ensures.answer, c.new-in-TakeWhere.ensures.handed)
-    (record { at = λ meant same. (answer.TakeWhere c.take_where-taken.result.0, refl, c.take_where-taken.ensures.step) })
+    (record { at = λ meant same. (Answer.TakeWhere c.take_where-taken.result.0, refl, c.take_where-taken.ensures.step) })
 
 pub returns-in-TakeWhere-clause-meets : goal.returns-in-TakeWhere-clause-meets
 returns-in-TakeWhere-clause-meets g c =
@@ -18,7 +17,7 @@ returns-in-TakeWhere-clause-meets g c =
 pub returns-in-ChangePriority-clause-step : goal.returns-in-ChangePriority-clause-step
 returns-in-ChangePriority-clause-step g c =
     rw (c.in-ChangePriority.is, c.without_wakes.ensures.answer, c.without_wakes.ensures.handed)
-    (record { at = λ meant same. (answer.ChangePriority c.change_priority-changed.result, refl, c.change_priority-changed.ensures.step) })
+    (record { at = λ meant same. (Answer.ChangePriority c.change_priority-changed.result, refl, c.change_priority-changed.ensures.step) })
 
 pub returns-in-ChangePriority-clause-meets : goal.returns-in-ChangePriority-clause-meets
 returns-in-ChangePriority-clause-meets g c =
@@ -28,7 +27,7 @@ returns-in-ChangePriority-clause-meets g c =
 pub returns-in-TrySendv-clause-step : goal.returns-in-TrySendv-clause-step
 returns-in-TrySendv-clause-step g c =
     rw (c.in-TrySendv.is, c.new-in-TrySendv.ensures.answer, c.new-in-TrySendv.ensures.handed)
-    (makes_performed _ _ _ _ _ _ _ _ (call.TrySendv c.in-TrySendv.msgs) c.try_sendv-reply.ensures.step (λ other same. same))
+    (makes_performed _ _ _ _ _ _ _ _ (Call.TrySendv c.in-TrySendv.msgs) c.try_sendv-reply.ensures.step (λ other same. same))
 
 pub returns-in-TrySendv-clause-adds : goal.returns-in-TrySendv-clause-adds
 returns-in-TrySendv-clause-adds g c =
@@ -41,7 +40,7 @@ returns-in-PollSendv-clause-adds g c =
 pub returns-in-PollSendv-clause-step : goal.returns-in-PollSendv-clause-step
 returns-in-PollSendv-clause-step g c =
     rw (c.in-PollSendv.is, c.new-in-PollSendv.ensures.answer, c.new-in-PollSendv.ensures.handed)
-    (makes_performed _ _ _ _ _ _ _ _ (call.PollSendv c.in-PollSendv.msgs c.in-PollSendv.ticket c.in-PollSendv.waker) c.poll_sendv-poll.ensures.step (λ other same. same))
+    (makes_performed _ _ _ _ _ _ _ _ (Call.PollSendv c.in-PollSendv.msgs c.in-PollSendv.ticket c.in-PollSendv.waker) c.poll_sendv-poll.ensures.step (λ other same. same))
 
 -- A search finds these too, but then the proof of this function takes nearly twice as long.
 pub returns-in-TrySend-clause-step : goal.returns-in-TrySend-clause-step
@@ -110,7 +109,7 @@ returns-in-TryLease-clause-step g c = makes_as c.in-TryLease.is c.without_wakes-
 pub returns-in-LeaseWhere-clause-step : goal.returns-in-LeaseWhere-clause-step
 returns-in-LeaseWhere-clause-step g c =
     rw (c.in-LeaseWhere.is, c.without_wakes-in-LeaseWhere.ensures.answer, c.without_wakes-in-LeaseWhere.ensures.handed)
-    (record { at = λ meant same. (answer.LeaseWhere c.try_lease_where-reply.result, refl, c.try_lease_where-reply.ensures.step) })
+    (record { at = λ meant same. (Answer.LeaseWhere c.try_lease_where-reply.result, refl, c.try_lease_where-reply.ensures.step) })
 
 pub returns-in-LeaseWhere-clause-meets : goal.returns-in-LeaseWhere-clause-meets
 returns-in-LeaseWhere-clause-meets g c =

@@ -17,8 +17,8 @@ invariant_of-self g c =
     let long = all_length _ out.0 _ out.2 in
     record {
       counted = omega (arith, ap (λ w. w.count) c.decr_many-wakes.ensures.word, c.self.invariant.counted, long, c.len-before.ensures, c.len.ensures);
-      slots_held = omega (arith, ap (λ w. w.held) c.decr_many-wakes.ensures.word, c.self.invariant.slots_held, long, c.retain.ensures.slots);
-      slots_kept = λ reserved. omega (arith, c.self.invariant.slots_kept reserved, c.retain.ensures.slots);
+      slots_held = omega (arith, ap (λ w. w.held) c.decr_many-wakes.ensures.word, c.self.invariant.slots_held, long, ap (λ b. b.slots) c.retain.ensures.same);
+      slots_kept = λ reserved. omega (arith, c.self.invariant.slots_kept reserved, ap (λ b. b.slots) c.retain.ensures.same);
       good =
           (takes_in_turn g.P.Ord.cmp g.W.Clone.is_clone old new out.0 _ c.decr_many-wakes.result.1 (omega (arith, long, c.len-before.ensures, c.len.ensures)) out.2
           c.decr_many-wakes.ensures.handed

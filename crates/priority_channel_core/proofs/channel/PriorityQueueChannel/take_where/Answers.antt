@@ -1,6 +1,5 @@
 use Rattle.std.proofs.Common.{length, arith, refl, rules}
-use Rattle.priority_channel_core.specs.Prelude.{state_of, Does}
-use Rattle.priority_channel_core.specs.machine.Change as change
+use Rattle.priority_channel_core.specs.Prelude.{state_of, Does, Change}
 use Rattle.priority_channel_core.proofs.Evicting.{good_frees, frees_one, sound_freed}
 use Rattle.priority_channel_core.proofs.channel.PriorityQueueChannel.take_where.Goals as goal
 
@@ -10,7 +9,7 @@ returns-in-Some-clause-step g c =
     let taken = c.in-Some.ensures.taken in
     let old = state_of own.bag own.word.word own.capacity own.is_reserved own.sender_count own.receiver_count in
     let new = state_of c.take_where.new.self c.decr-wakes.new.self.word own.capacity own.is_reserved own.sender_count own.receiver_count in
-    let frees : Does old c.decr-wakes.result.1 new (change.GoesOut new.pending) = frees_one own.bag c.take_where.new.self own.word.word c.decr-wakes.new.self.word c.decr-wakes.result.1 own.capacity own.is_reserved own.sender_count own.receiver_count
+    let frees : Does old c.decr-wakes.result.1 new (Change.GoesOut new.pending) = frees_one own.bag c.take_where.new.self own.word.word c.decr-wakes.new.self.word c.decr-wakes.result.1 own.capacity own.is_reserved own.sender_count own.receiver_count
     c.self.invariant c.in-Some.pair taken (search rules) c.decr-wakes.ensures.handed c.decr-wakes.ensures.word in (
       length taken.before,
       record {

@@ -12,7 +12,7 @@ returns-in-Some-clause-step g c =
       length taken.before,
       record {
         moves = rw (← c.self.view_is) (taken, refl, (refl, search rules));
-        good = good_lends old new c.in-Some.pair taken c.self.invariant.good (search rules) (search rules) c.lend.ensures.tickets;
+        good = good_lends old new c.in-Some.pair taken c.self.invariant.good (search rules) (search rules) (search rules);
       },
     )
 

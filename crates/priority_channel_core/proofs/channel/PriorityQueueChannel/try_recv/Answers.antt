@@ -1,7 +1,6 @@
 use Rattle.std.proofs.Common.{rules}
 use Rattle.priority_channel_core.specs.bag.Prelude.{TakesOne}
-use Rattle.priority_channel_core.specs.Prelude.{state_of, Does}
-use Rattle.priority_channel_core.specs.machine.Change as change
+use Rattle.priority_channel_core.specs.Prelude.{state_of, Does, Change}
 use Rattle.priority_channel_core.proofs.Evicting.{good_frees, frees_one, sound_freed}
 use Rattle.priority_channel_core.proofs.channel.PriorityQueueChannel.try_recv.Goals as goal
 
@@ -12,7 +11,7 @@ returns-in-Some-clause-step g c =
     let old = state_of own.bag own.word.word own.capacity own.is_reserved own.sender_count own.receiver_count in
     let new = state_of c.pop.new.self c.decr-wakes.new.self.word own.capacity own.is_reserved own.sender_count own.receiver_count in
     let one : TakesOne old.pending c.in-Some.pair new.pending = search rules in
-    let frees : Does old c.decr-wakes.result.1 new (change.GoesOut new.pending) = frees_one own.bag c.pop.new.self own.word.word c.decr-wakes.new.self.word c.decr-wakes.result.1 own.capacity own.is_reserved own.sender_count own.receiver_count
+    let frees : Does old c.decr-wakes.result.1 new (Change.GoesOut new.pending) = frees_one own.bag c.pop.new.self own.word.word c.decr-wakes.new.self.word c.decr-wakes.result.1 own.capacity own.is_reserved own.sender_count own.receiver_count
     c.self.invariant c.in-Some.pair one (search rules) c.decr-wakes.ensures.handed c.decr-wakes.ensures.word in
     record {
       moves = rw (← c.self.view_is) (taken, frees);
