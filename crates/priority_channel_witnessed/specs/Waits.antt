@@ -50,10 +50,8 @@ listed_as (Pending rest at) = Err (rest, at)
 abbrev pub recv_polled : {X : Type 0} → Ending X (Unit {0}) → RecvPoll X
 recv_polled (ends (Done pair)) = Ready (Ok pair)
 recv_polled (ends (Closed rest)) = Ready (Err (recv_fault.Closed (record {})))
-recv_polled (ends (Memory rest)) = Ready (Err recv_fault.Memory)
-recv_polled (ends (Blocked rest)) = Ready (Err recv_fault.Memory)
 recv_polled (left rest (Some at)) = Pending tt at
-recv_polled (left rest None) = Ready (Err recv_fault.Memory)
+recv_polled ending = Ready (Err recv_fault.Memory)
 
 abbrev pub send_polled : {K : Type 0} → Ending (Unit {0}) K → SendPoll K
 send_polled (ends (Done done)) = Ready (Ok done)
