@@ -16,7 +16,7 @@ pub mod uses;
 mod waiting;
 mod witnessed;
 
-pub use awaited::{Awaited, Pairs, PollOf, SendAll};
+pub use awaited::{Awaited, Pairs, PollOf, Polled, SendAll};
 pub use chronicle::{Calls, Entry, Fresh, Pass, Seen};
 pub use priority_channel_core::channel::PriorityQueueChannel;
 pub use priority_channel_recorded::chronicle::Recording;
