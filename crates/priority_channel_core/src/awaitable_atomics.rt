@@ -4,8 +4,8 @@
 //! The small calls of the hot path are forced inline. Otherwise their results would be written to
 //! memory and read back at once.
 ghost use Rattle.std.specs.Prelude.{◌≡◌, ◌+◌, ◌-◌, ◌<◌, ◌≤◌, ◌^◌, ◌&&◌, ◌||◌, ◌==◌, if◌then◌else◌, [], IsSome, true, false, Some};
-ghost use Rattle.priority_channel_core.specs.Word.{bit_at, nobody};
-ghost use Rattle.priority_channel_core.specs.Prelude.{is_given_listed, HasOwnTickets, no_waiters, on_side, unlist, Enlists, search_bound, closed_bit, count_below};
+ghost use Rattle.priority_channel_core.specs.Word.{bit_at, nobody, Handed};
+ghost use Rattle.priority_channel_core.specs.Prelude.{is_given_listed, HasOwnTickets, no_waiters, on_side, unlist, Enlists, search_bound, closed_bit, count_below, CountedWord};
 
 use crate::comparisons::Comparisons;
 use crate::side::Side;
@@ -23,8 +23,6 @@ pub struct Wakes<W, A: Allocator = Global> {
 }
 
 impl<W, A: Allocator> Model for Wakes<W, A> {
-    ghost use Rattle.priority_channel_core.specs.Word.{Handed};
-
     ghost Value = { Handed W };
 
     ghost view = { λ w. record { room = w.room.items; message = w.message.items } };
@@ -83,8 +81,6 @@ pub struct AwaitableAtomicCounterAndBit<W, A: Allocator = Global> {
 }
 
 impl<W, A: Allocator> Model for AwaitableAtomicCounterAndBit<W, A> {
-    ghost use Rattle.priority_channel_core.specs.Prelude.{HasOwnTickets, CountedWord, closed_bit, count_below};
-
     ghost Value = { CountedWord W };
 
     ghost view = { λ a. record {

@@ -5,6 +5,7 @@
 //!
 //! Cost: no call of an error takes memory or a lock.
 ghost use Rattle.std.specs.Prelude.{◌≡◌, ◌↔◌, IsTrue, Some, codes};
+ghost use Rattle.priority_channel_core.specs.Prelude.{rest_of, try_send_error_text, try_send_error_debug, refusal_for, try_recv_error_text, try_recv_many_error_text, batch_error_for, unsent, send_fault_text, send_fault_debug, recv_fault_text, TrySendError, TryRecvError, SendFault, RecvFault};
 
 use std::error::Error;
 use std::fmt;
@@ -27,8 +28,6 @@ pub enum TrySendError<T> {
 }
 
 impl<T> TrySendError<T> {
-    ghost use Rattle.priority_channel_core.specs.Prelude.{rest_of};
-
     /// Returns what was to be sent.
     pub fn into_inner(self) -> T
         ensures { result ≡ rest_of self }
@@ -63,8 +62,6 @@ impl<T> TrySendError<T> {
 }
 
 impl<T> fmt::Display for TrySendError<T> {
-    ghost use Rattle.priority_channel_core.specs.Prelude.{try_send_error_text};
-
     ghost output = { λ error. Some (try_send_error_text error) };
 
     fn fmt<W: fmt::Write>(&self, f: &mut fmt::Formatter<W>) -> fmt::Result {
@@ -77,8 +74,6 @@ impl<T> fmt::Display for TrySendError<T> {
 }
 
 impl<T> fmt::Debug for TrySendError<T> {
-    ghost use Rattle.priority_channel_core.specs.Prelude.{try_send_error_debug};
-
     ghost debug_output = { λ error. Some (try_send_error_debug error) };
 
     fn fmt<W: fmt::Write>(&self, f: &mut fmt::Formatter<W>) -> fmt::Result {
@@ -93,8 +88,6 @@ impl<T> fmt::Debug for TrySendError<T> {
 impl<T: Drop> Error for TrySendError<T> {}
 
 impl<T> From<SendError<T>> for TrySendError<T> {
-    ghost use Rattle.priority_channel_core.specs.Prelude.{TrySendError};
-
     ghost from_gives = { λ closed error. error ≡ TrySendError.Closed closed.0 };
 
     fn from(closed: SendError<T>) -> TrySendError<T> {
@@ -103,8 +96,6 @@ impl<T> From<SendError<T>> for TrySendError<T> {
 }
 
 impl<T> From<SendFault<T>> for TrySendError<T> {
-    ghost use Rattle.priority_channel_core.specs.Prelude.{refusal_for};
-
     ghost from_gives = { λ fault error. error ≡ refusal_for fault };
 
     fn from(fault: SendFault<T>) -> TrySendError<T> {
@@ -141,8 +132,6 @@ impl TryRecvError {
 }
 
 impl fmt::Display for TryRecvError {
-    ghost use Rattle.priority_channel_core.specs.Prelude.{try_recv_error_text};
-
     ghost output = { λ error. Some (try_recv_error_text error) };
 
     fn fmt<W: fmt::Write>(&self, f: &mut fmt::Formatter<W>) -> fmt::Result {
@@ -156,8 +145,6 @@ impl fmt::Display for TryRecvError {
 impl Error for TryRecvError {}
 
 impl From<RecvError> for TryRecvError {
-    ghost use Rattle.priority_channel_core.specs.Prelude.{TryRecvError};
-
     ghost from_gives = { λ _ error. error ≡ TryRecvError.Closed };
 
     fn from(_closed: RecvError) -> TryRecvError {
@@ -200,8 +187,6 @@ impl TryRecvManyError {
 }
 
 impl fmt::Display for TryRecvManyError {
-    ghost use Rattle.priority_channel_core.specs.Prelude.{try_recv_many_error_text};
-
     ghost output = { λ error. Some (try_recv_many_error_text error) };
 
     fn fmt<W: fmt::Write>(&self, f: &mut fmt::Formatter<W>) -> fmt::Result {
@@ -216,8 +201,6 @@ impl fmt::Display for TryRecvManyError {
 impl Error for TryRecvManyError {}
 
 impl From<TryRecvError> for TryRecvManyError {
-    ghost use Rattle.priority_channel_core.specs.Prelude.{batch_error_for};
-
     ghost from_gives = { λ error many. many ≡ batch_error_for error };
 
     fn from(error: TryRecvError) -> TryRecvManyError {
@@ -283,8 +266,6 @@ pub enum SendFault<T> {
 }
 
 impl<T> SendFault<T> {
-    ghost use Rattle.priority_channel_core.specs.Prelude.{unsent};
-
     /// Returns what was not sent.
     pub fn into_inner(self) -> T
         ensures { result ≡ unsent self }
@@ -310,8 +291,6 @@ impl<T> SendFault<T> {
 }
 
 impl<T> fmt::Display for SendFault<T> {
-    ghost use Rattle.priority_channel_core.specs.Prelude.{send_fault_text};
-
     ghost output = { λ fault. Some (send_fault_text fault) };
 
     fn fmt<W: fmt::Write>(&self, f: &mut fmt::Formatter<W>) -> fmt::Result {
@@ -323,8 +302,6 @@ impl<T> fmt::Display for SendFault<T> {
 }
 
 impl<T> fmt::Debug for SendFault<T> {
-    ghost use Rattle.priority_channel_core.specs.Prelude.{send_fault_debug};
-
     ghost debug_output = { λ fault. Some (send_fault_debug fault) };
 
     fn fmt<W: fmt::Write>(&self, f: &mut fmt::Formatter<W>) -> fmt::Result {
@@ -338,8 +315,6 @@ impl<T> fmt::Debug for SendFault<T> {
 impl<T: Drop> Error for SendFault<T> {}
 
 impl<T> From<SendError<T>> for SendFault<T> {
-    ghost use Rattle.priority_channel_core.specs.Prelude.{SendFault};
-
     ghost from_gives = { λ closed fault. fault ≡ SendFault.Closed closed };
 
     fn from(closed: SendError<T>) -> SendFault<T> {
@@ -373,8 +348,6 @@ impl RecvFault {
 }
 
 impl fmt::Display for RecvFault {
-    ghost use Rattle.priority_channel_core.specs.Prelude.{recv_fault_text};
-
     ghost output = { λ fault. Some (recv_fault_text fault) };
 
     fn fmt<W: fmt::Write>(&self, f: &mut fmt::Formatter<W>) -> fmt::Result {
@@ -388,8 +361,6 @@ impl fmt::Display for RecvFault {
 impl Error for RecvFault {}
 
 impl From<RecvError> for RecvFault {
-    ghost use Rattle.priority_channel_core.specs.Prelude.{RecvFault};
-
     ghost from_gives = { λ closed fault. fault ≡ RecvFault.Closed closed };
 
     fn from(closed: RecvError) -> RecvFault {

@@ -3,6 +3,8 @@ ghost use Rattle.std.proofs.Common.{rules, ◌==◌};
 ghost use Rattle.std.specs.Cmp.{partial_order_from_own_ties};
 ghost use Rattle.std.specs.Cmp.Rules.{comparing};
 ghost use Rattle.std.specs.Ordering.{on, as_partial_cmp, eq_of_both};
+ghost use Rattle.std.specs.Prelude.{◌≡◌};
+ghost use Rattle.priority_channel_core.specs.bag.Prelude.{pair_of, item_cmp};
 
 use std::cmp::Ordering;
 
@@ -16,9 +18,6 @@ pub struct Item<T, P> {
 }
 
 impl<T, P> Item<T, P> {
-    ghost use Rattle.std.specs.Prelude.{◌≡◌};
-    ghost use Rattle.priority_channel_core.specs.bag.Prelude.{pair_of};
-
     #[inline(always)]
     pub(crate) fn into_pair(self) -> (T, P)
         ensures { result ≡ pair_of self }
@@ -42,8 +41,6 @@ impl<T, P: Ord> Eq for Item<T, P> {
 }
 
 impl<T, P: Ord> PartialOrd for Item<T, P> {
-    ghost use Rattle.priority_channel_core.specs.bag.Prelude.{item_cmp};
-
     ghost partial_cmp = { as_partial_cmp (item_cmp P.cmp) };
 
     ghost laws = { partial_order_from_own_ties (Prim.search (comparing, rules))
@@ -55,8 +52,6 @@ impl<T, P: Ord> PartialOrd for Item<T, P> {
 }
 
 impl<T, P: Ord> Ord for Item<T, P> {
-    ghost use Rattle.priority_channel_core.specs.bag.Prelude.{item_cmp};
-
     ghost cmp = { item_cmp P.cmp };
 
     ghost total = { Prim.search (comparing, rules) };

@@ -1,7 +1,7 @@
 //! The list of the waiters on one side.
 ghost use Rattle.std.specs.Prelude.{◌≡◌, ◌↔◌, ℕ, ◌+◌, ◌<◌, ◌≤◌, false, IfSome, IsSome, IsTrue, true, IfNone, None, List, [], ◌++◌, length, option_to_list, ◌^◌, All, HoldsAt};
 ghost use Rattle.priority_channel_core.specs.bag.Prelude.{digits};
-ghost use Rattle.priority_channel_core.specs.Prelude.{is_listed, is_given_listed, without, with_waker, without_given, IsListing};
+ghost use Rattle.priority_channel_core.specs.Prelude.{is_listed, is_given_listed, without, with_waker, without_given, IsListing, IsRising};
 
 mod entries;
 
@@ -18,9 +18,6 @@ pub struct WaitingList<W, A: Allocator = Global> {
 }
 
 impl<W, A: Allocator> Model for WaitingList<W, A> {
-    ghost use Rattle.std.specs.Prelude.{ℕ, List};
-    ghost use Rattle.priority_channel_core.specs.Prelude.{IsRising};
-
     ghost Value = { List (ℕ × W) };
 
     ghost view = { λ l. l.entries };

@@ -1,15 +1,13 @@
 //! Changing the priority of a pending pair that a test chooses.
 ghost use Rattle.std.specs.Prelude.{◌≡◌, ℕ, ◌+◌, ◌*◌, ◌%◌, ◌^◌, true, false, length, All, IfOk, OnOk, OnErr};
-ghost use Rattle.priority_channel_core.specs.bag.Prelude.{digits};
+ghost use Rattle.priority_channel_core.specs.bag.Prelude.{digits, Changes, PassesFirst, Tells};
+ghost use Rattle.priority_channel_core.specs.Prelude.{nobody, Step, ComparesAtMost};
 
 use crate::calls::{Answer, Call};
 use crate::channel::PriorityQueueChannel;
 use std::alloc::Allocator;
 
 impl<T, P: Ord, W: Clone, A: Allocator + Copy> PriorityQueueChannel<T, P, W, A> {
-    ghost use Rattle.priority_channel_core.specs.Prelude.{nobody, Step, ComparesAtMost};
-    ghost use Rattle.priority_channel_core.specs.bag.Prelude.{Changes, PassesFirst, Tells};
-
     /// Gives another priority to the first pending pair, in the order of acceptance, for which the
     /// test returns true, also in a closed channel. It returns the priority that the pair had. The
     /// pair keeps its place in that order. If there is none, the given priority comes back. The

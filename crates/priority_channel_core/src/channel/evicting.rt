@@ -1,7 +1,8 @@
 //! A send that makes room in a full channel.
 ghost use Rattle.std.specs.Prelude.{◌≡◌, ◌+◌, ◌*◌, ◌<◌, ◌^◌, true, false, length, IfOk, IfErr, IfSome, OnOk, OnErr, IsOk, Ok, Err, Some, None};
 ghost use Rattle.std.specs.declared.cmp.Ordering.TheVariants.{Less};
-ghost use Rattle.priority_channel_core.specs.bag.Prelude.{digits};
+ghost use Rattle.priority_channel_core.specs.bag.Prelude.{digits, NoneBelow};
+ghost use Rattle.priority_channel_core.specs.Prelude.{nobody, Step, rest_of, ComparesAtMost, search_for_least, HasRoom, HasNumber, HasMemory, IsFull, SomeBelow};
 
 use crate::awaitable_atomics::Wakes;
 use crate::calls::{Answer, Call};
@@ -10,9 +11,6 @@ use crate::errors::TrySendError;
 use std::alloc::Allocator;
 
 impl<T, P: Ord, W: Clone, A: Allocator + Copy> PriorityQueueChannel<T, P, W, A> {
-    ghost use Rattle.priority_channel_core.specs.Prelude.{nobody, Step, rest_of, ComparesAtMost, search_for_least, HasRoom, HasNumber, HasMemory, IsFull, SomeBelow};
-    ghost use Rattle.priority_channel_core.specs.bag.Prelude.{NoneBelow};
-
     /// Sends a pair. If the channel is full, the pair takes the place of the pending pair of least
     /// priority (among equals the one accepted last), if its own priority is greater. The displaced
     /// pair comes back. If no pending pair has a lesser priority, the new pair comes back, as

@@ -1,7 +1,7 @@
 //! Receiving many pairs under one hold of the lock that guards the channel.
 ghost use Rattle.std.specs.Prelude.{◌≡◌, ◌↔◌, ◌+◌, ◌*◌, ◌<◌, ◌≤◌, List, ◌++◌, [], length, min, IfOk, IfErr, OnErr, IsOk, Err, vec_capacity};
 ghost use Rattle.priority_channel_core.specs.bag.Prelude.{digits};
-ghost use Rattle.priority_channel_core.specs.Prelude.{ReceivesInTurn};
+ghost use Rattle.priority_channel_core.specs.Prelude.{ReceivesInTurn, nobody, IsGood, Step, ComparesAtMost};
 
 use crate::awaitable_atomics::Wakes;
 use crate::calls::{Answer, Call};
@@ -10,8 +10,6 @@ use crate::errors::TryRecvError;
 use std::alloc::Allocator;
 
 impl<T, P: Ord, W: Clone, A: Allocator + Copy> PriorityQueueChannel<T, P, W, A> {
-    ghost use Rattle.priority_channel_core.specs.Prelude.{nobody, IsGood, Step, ComparesAtMost};
-
     /// Receives up to `limit` pairs, the greatest first, like that many receives in a row, and
     /// returns how many came. The error is that of one receive, and is returned if nothing is
     /// pending, also with a `limit` of 0.

@@ -4,7 +4,8 @@
 //! A held place has all that a pair needs: it counts against the capacity, and a slot and a number
 //! are kept for it. So `put` is never refused.
 ghost use Rattle.std.specs.Prelude.{◌≡◌, ◌↔◌, ℕ, ◌+◌, ◌*◌, ◌<◌, ◌^◌, true, false, List, [], length, All, IsOk, IsTrue, IfOk, IfErr, IfSome, IfNone, OnErr, Ok, Err};
-ghost use Rattle.priority_channel_core.specs.bag.Prelude.{digits};
+ghost use Rattle.priority_channel_core.specs.bag.Prelude.{digits, PassesGreatest, TakesGreatest, TakesOne, Tells};
+ghost use Rattle.priority_channel_core.specs.Prelude.{nobody, Step, ComparesAtMost, HasRoom, HasMemory, HasNumber, IsFull};
 
 use crate::awaitable_atomics::Wakes;
 use crate::calls::{Answer, Call};
@@ -13,9 +14,6 @@ use crate::errors::{TryRecvManyError, TrySendError};
 use std::alloc::Allocator;
 
 impl<T, P: Ord, W: Clone, A: Allocator + Copy> PriorityQueueChannel<T, P, W, A> {
-    ghost use Rattle.priority_channel_core.specs.bag.Prelude.{PassesGreatest, TakesGreatest, TakesOne, Tells};
-    ghost use Rattle.priority_channel_core.specs.Prelude.{nobody, Step, ComparesAtMost, HasRoom, HasMemory, HasNumber, IsFull};
-
     /// Holds a place for a pair that is still to come. Refused as a send: `Closed` is checked
     /// before `Full`, and `Full` before `Memory`.
     ///

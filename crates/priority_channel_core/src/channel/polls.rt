@@ -4,7 +4,7 @@ ghost use Rattle.std.specs.Prelude.{◌≡◌, ◌≢◌, ◌⊎◌, ◌+◌, �
 ghost use Rattle.std.specs.Iterator.Adapters.{peekable_can};
 ghost use Rattle.std.specs.declared.iter.Ahead.{Ahead};
 ghost use Rattle.priority_channel_core.specs.bag.Prelude.{digits};
-ghost use Rattle.priority_channel_core.specs.Prelude.{is_given_listed, on_side, unlist, search_bound, send_answer, recv_answer, Ends, IsBlocked, OnFull, OnMemoryFault, kept_by, HasList, PollsFront};
+ghost use Rattle.priority_channel_core.specs.Prelude.{is_given_listed, on_side, unlist, search_bound, send_answer, recv_answer, Ends, IsBlocked, OnFull, OnMemoryFault, kept_by, HasList, PollsFront, nobody, IsGood, Step, ComparesAtMost, room, Performs};
 
 use crate::awaitable_atomics::Wakes;
 use crate::calls::{Answer, Call, CorePoll};
@@ -15,8 +15,6 @@ use std::alloc::Allocator;
 use std::iter::Peekable;
 
 impl<T, P: Ord, W: Clone, A: Allocator + Copy> PriorityQueueChannel<T, P, W, A> {
-    ghost use Rattle.priority_channel_core.specs.Prelude.{nobody, IsGood, Step, ComparesAtMost};
-
     /// Takes this ticket off the waiting lists. A ticket that is not listed changes nothing. It
     /// takes no memory.
     pub fn give_up(&mut self, ticket: u64)
@@ -166,8 +164,6 @@ impl<T, P: Ord, W: Clone, A: Allocator + Copy> PriorityQueueChannel<T, P, W, A> 
 }
 
 impl<T: Drop, P: Ord + Drop, W: Clone, A: Allocator + Copy> PriorityQueueChannel<T, P, W, A> {
-    ghost use Rattle.priority_channel_core.specs.Prelude.{room, IsGood, Performs, ComparesAtMost};
-
     /// Sends as many pairs as there is room for, and waits for room with the rest, which is handed
     /// back for the next poll. What was sent stays sent, also if the answer is `Memory`. Tickets
     /// and wakers are treated as by `poll_recv`.

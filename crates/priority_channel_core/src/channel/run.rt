@@ -1,6 +1,6 @@
 //! Many calls, one after another.
 ghost use Rattle.std.specs.Prelude.{◌≡◌, true, false, All, length, drop};
-ghost use Rattle.priority_channel_core.specs.Prelude.{nobody, IsGood, HasList, MayCall, Makes, RunsFront, IsAllowed, AllowsRun, ChangesHandles, AddsSome, MeetsTest, AllMeetTests};
+ghost use Rattle.priority_channel_core.specs.Prelude.{nobody, IsGood, HasList, MayCall, Makes, RunsFront, IsAllowed, AllowsRun, ChangesHandles, AddsSome, MeetsTest, AllMeetTests, Response};
 ghost use Rattle.std.specs.Iterator.Adapters.{peekable_can};
 ghost use Rattle.priority_channel_core.specs.bag.Prelude.{Tells};
 
@@ -20,8 +20,6 @@ pub struct Response<T, P, W, M, A: Allocator = Global> {
 }
 
 impl<T, P, W, M, A: Allocator> Model for Response<T, P, W, M, A> {
-    ghost use Rattle.priority_channel_core.specs.Prelude.{Response};
-
     ghost Value = { Response T P W M };
 
     ghost view = { λ d. record {

@@ -1,8 +1,8 @@
 //! Counting, receiving and taking out the pairs that a test chooses.
 ghost use Rattle.std.specs.Prelude.{◌≡◌, ℕ, List, ◌+◌, ◌*◌, ◌++◌, ◌<◌, ◌≤◌, IsPermutation, Some, true, false, length, All, IfNone, IfSome, IfOk, IfErr, Ok, Err, vec_capacity};
 ghost use Rattle.std.specs.List.{FoldsTo};
-ghost use Rattle.priority_channel_core.specs.bag.Prelude.{digits};
-ghost use Rattle.priority_channel_core.specs.Prelude.{TakesInTurn};
+ghost use Rattle.priority_channel_core.specs.bag.Prelude.{digits, PassesGreatest, TakesGreatest, TakesOne, Counts, Folds, Tells};
+ghost use Rattle.priority_channel_core.specs.Prelude.{TakesInTurn, IsGood, Step, nobody, ComparesAtMost};
 
 use crate::awaitable_atomics::Wakes;
 use crate::calls::{Answer, Call};
@@ -11,9 +11,6 @@ use crate::errors::TryRecvError;
 use std::alloc::Allocator;
 
 impl<T, P: Ord, W: Clone, A: Allocator + Copy> PriorityQueueChannel<T, P, W, A> {
-    ghost use Rattle.priority_channel_core.specs.Prelude.{IsGood, Step, nobody, ComparesAtMost};
-    ghost use Rattle.priority_channel_core.specs.bag.Prelude.{PassesGreatest, TakesGreatest, TakesOne, Counts, Folds, Tells};
-
     /// Takes out a pending pair for which the test returns true, also from a closed channel. None
     /// if there is none. If there are several, it is not specified which one is taken. The test is
     /// called on pairs in no specified order, and on none after it has returned true. It takes no

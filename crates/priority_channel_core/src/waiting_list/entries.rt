@@ -1,6 +1,6 @@
 //! The entries of a waiting list. Their tickets are visible in this file alone, so a search for a
 //! ticket must count its comparisons.
-ghost use Rattle.std.specs.Prelude.{◌≡◌, ◌+◌, ◌<◌, OnErr, OnOk, IfNone, [], ◌∷◌, ◌++◌, length, set, option_to_list, HoldsAt, remove};
+ghost use Rattle.std.specs.Prelude.{◌≡◌, ◌+◌, ◌<◌, OnErr, OnOk, IfNone, [], ◌∷◌, ◌++◌, length, set, option_to_list, HoldsAt, remove, ℕ, List};
 ghost use Rattle.std.specs.Ordering.{nat_cmp};
 
 use crate::comparisons::Comparisons;
@@ -16,8 +16,6 @@ pub struct Entries<W, A: Allocator = Global> {
 }
 
 impl<W, A: Allocator> Model for Entries<W, A> {
-    ghost use Rattle.std.specs.Prelude.{ℕ, List};
-
     ghost Value = { List (ℕ × W) };
 
     ghost view = { λ e. e.listed.items };
