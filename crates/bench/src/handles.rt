@@ -5,6 +5,8 @@ use crate::load::Load;
 use crate::measure::{Measure, add_at, time_steps};
 use anyhow::ensure;
 use async_priority_channel::{Ends, Sender};
+use futures::executor::block_on_queue;
+use futures::task::{Doorbell, Queue};
 use std::time::CpuClock;
 
 /// A send and a receive, with so many messages pending.
@@ -19,6 +21,22 @@ where
             return None;
         }
         calls.recv(rt, &rx)
+    })
+}
+
+/// The same by futures, all of which are run on one queue of tasks.
+pub fn kept<R>(rt: &R, pending: u64, count: u64) -> anyhow::Result<Measure>
+where
+    R: Host + CpuClock,
+{
+    let (tx, rx) = filled(rt, pending)?;
+    let queue = Queue::new(rt, Doorbell::parking())?;
+    time_steps(rt, count, |position| {
+        let number = pending.wrapping_add(position);
+        let sending = tx.send(number, Load::Random.priority(number));
+        block_on_queue(rt, &queue, sending).ok()?.ok()?;
+        let (msg, _) = block_on_queue(rt, &queue, rx.recv()).ok()?.ok()?;
+        Some(msg)
     })
 }
 

@@ -18,6 +18,7 @@ mod memory;
 mod names;
 mod one_thread;
 mod relays;
+mod tasks;
 mod threads;
 mod witnessed;
 mod workers;
@@ -34,7 +35,7 @@ use std::time::CpuClock;
 use threads::Machine;
 
 // Each ends with its count of messages.
-const ROWS: [&str; 29] = [
+const ROWS: [&str; 31] = [
     // How priorities come, how many pairs are pending.
     "core random 0 1000",
     "core equal 100 1000",
@@ -52,6 +53,7 @@ const ROWS: [&str; 29] = [
     "handles blocking 100 1000",
     "handles future 100 1000",
     "handles lease 100 1000",
+    "handles kept 100 1000",
     // How many messages are pending.
     "witnessed 100 1000",
     // How many messages go in one call.
@@ -61,6 +63,7 @@ const ROWS: [&str; 29] = [
     "relay blocking 16 1 1 1600",
     "relay future 4 4 10 1600",
     "relay stream 4 4 10 1600",
+    "relay task 4 4 10 1600",
     // By which calls, how many workers, and how many jobs go out before their answers come.
     "workers try 1 1 100",
     "workers blocking 4 1 100",
@@ -102,7 +105,11 @@ fn run<R: Machine + CpuClock + Files>(rt: R, row: &str) -> anyhow::Result<Measur
     let numbers: Vec<u64> = numbers.collect(rt.alloc())?;
     match (words.as_slice(), numbers.as_slice()) {
         (["witnessed", _, _], [pending, count]) => witnessed::steady(&rt, *pending, *count),
+        (["handles", "kept", ..], [pending, count]) => handles::kept(&rt, *pending, *count),
         (["batches", _, _], [size, count]) => handles::batches(&rt, *size, *count),
+        (["relay", "task", ..], [senders, receivers, capacity, count]) => {
+            tasks::relay(&rt, *senders, *receivers, *capacity, *count)
+        }
         (["due", _, _, _], [permille, workers, count]) => due::due(rt, *permille, *workers, *count),
         (["crawl", _, _], [workers, count]) => crawl::crawl(rt, *workers, *count),
         (["memory", "core", _], [count]) => memory::core(&rt, *count),
