@@ -2,7 +2,7 @@
 use std::sync::atomic::{AtomicBool, AtomicU64, Ordering};
 use std::sync::{Mutex, Wait, WaitMethods};
 use std::thread::{self, Parker, Threads};
-use std::time::Duration;
+use std::time::{Clock, Duration};
 
 // For how many milliseconds the watching thread parks between two looks. The end of the steps wakes
 // it at once.
@@ -109,6 +109,23 @@ impl<N: Drop + Send> Watch<N> {
             left -= 1;
             end.park(rt, Duration::from_millis(PAUSE));
         }
+    }
+}
+
+/// Gives another thread the time to begin to wait.
+pub fn let_others_wait<R: Clock>(rt: &R) {
+    thread::sleep(rt, Duration::from_millis(15));
+}
+
+/// Waits until another thread has made it so. A watch has to stand beside it.
+pub fn wait_until<R: Clock, F: Fn() -> bool>(rt: &R, is_so: F)
+    requires { F.IsAlwaysCallable is_so }
+{
+    for _ in 0..u64::MAX {
+        if is_so() {
+            return;
+        }
+        thread::sleep(rt, Duration::from_millis(1));
     }
 }
 
