@@ -1,15 +1,10 @@
 //! Tests that go over all calls of both handles by their names: what each answers, beside a plain
 //! model, which waiters it wakes, and what it does where memory is refused.
 //!
-//! With threads: each wait ends, by whatever is to end it and soon; a limit is kept; each of the
-//! threads in a queue is told when its turn has come; a wait to which memory is refused harms no
-//! other; a call is one step beside those of others; no message is lost, doubled or made up, also
-//! where a worker fails with it in hand; a thread that waits with a condition is woken by each
-//! change that may meet it. No contract says that a thread is woken.
+//! With threads: a call is one step beside those of others; no message is lost, doubled or made up,
+//! also where a worker fails with it in hand.
 //!
 //! A watchdog stands beside each wait: a test that would hang fails, and names what it waited for.
-//! A gate and a clock of the tests' own halt a thread just where another one is to act, so that few
-//! tests rest on chance.
 #![tactic(auto)]
 
 #[cfg(test)]

@@ -1,8 +1,11 @@
-//! Which requests are refused or halted, and when rounds end.
+//! Which requests are refused or halted, when rounds end, and what a watch tells.
 use super::*;
 use std::fmt::Debug;
 use std::process::Abort;
+use std::sync::atomic::{AtomicU64, Ordering};
 use std::thread;
+use std::time::{Duration, Instant};
+use watch::Watch;
 
 /// `assert_eq!` in one round of a loop, proved once: each one in place takes seconds of the check.
 fn expect_equal<N: Debug + Drop, X: PartialEq + Debug + Drop>(
@@ -207,4 +210,41 @@ fn rounds_without_an_end_are_an_error(rt: HostRuntime) {
         Some(Err(Vacuous::NoEnd)),
     );
     expect_equal(&rt, "behind the end", rounds.next(), None);
+}
+
+// The third step ends once the watch has told it, or after 20 seconds.
+#[test]
+fn a_step_that_lasts_too_long_is_told(rt: HostRuntime) {
+    let told = AtomicU64::new(0);
+    let watch = Watch::with(0, 2);
+    watch.over(
+        &rt,
+        |step| told.store(*step, Ordering::SeqCst),
+        || {
+            watch.begin(&rt, 2);
+            watch.begin(&rt, 3);
+            for _ in 0..20_000u32 {
+                if told.load(Ordering::SeqCst) != 0 {
+                    break;
+                }
+                thread::sleep(&rt, Duration::from_millis(1));
+            }
+        },
+    );
+    expect_equal(&rt, "the third step", told.load(Ordering::SeqCst), 3);
+}
+
+// Each step lasts long enough for the watching thread to park. Twenty pauses would take five
+// seconds.
+#[test]
+fn the_end_of_the_steps_ends_the_watch_at_once(rt: HostRuntime) {
+    let start = Instant::now(&rt).expect(&rt, "a clock");
+    for round in 0..20u32 {
+        let fail = |_: &u32| expect_equal(&rt, round, "in time", "too long");
+        Watch::new(round).over(&rt, fail, || {
+            thread::sleep(&rt, Duration::from_millis(5))
+        });
+    }
+    let took = start.elapsed(&rt).expect(&rt, "a clock");
+    expect_equal(&rt, took, took < Duration::from_millis(2500), true);
 }

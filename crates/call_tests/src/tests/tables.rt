@@ -1,11 +1,9 @@
 //! Tables over all calls of handles.
-use super::driver::calls::{Call, Input, Pairs};
-use super::driver::handles::Handles;
-use super::driver::model::Model;
-use super::driver::reply::Reply;
-use super::threads::Threaded;
-use super::{Host, expect_equal_at};
+use super::handles::Handles;
+use super::model::Model;
+use super::{Host, Threaded, expect_equal_at};
 use async_priority_channel::Ends;
+use named_calls::{Call, Input, Pairs, Reply};
 use refusing::watch::Watch;
 use std::alloc::{Allocator, Global};
 use std::fmt::Debug;

@@ -1,8 +1,8 @@
 //! Queries over many pending messages, of which each is asked once.
-use crate::tests::driver::calls::Pairs;
-use crate::tests::driver::reply::weighed;
 use crate::tests::expect_equal_at;
 use async_priority_channel::unbounded;
+use named_calls::Pairs;
+use named_calls::reply::weighed;
 
 const SIZES: [u64; 10] = [0, 1, 99, 100, 101, 127, 128, 129, 1_000, 5_000];
 

@@ -1,17 +1,15 @@
 //! What each call does to a task that waits: whether it wakes it, and that it waits on otherwise.
 use super::{Mirrored, input, watch_rounds};
-use crate::tests::driver::all::ALL;
-use crate::tests::driver::calls::{Call, Input, Side, Way, is_for_close};
-use crate::tests::driver::either::tell_closed;
-use crate::tests::driver::receive::{
-    finish, receive, tell_many as tell_batch, tell_next, tell_one,
-};
-use crate::tests::driver::reply::Reply;
-use crate::tests::driver::send::{fill, tell_many, tell_one as tell_sent};
-use crate::tests::{Host, expect_equal_at, expect_true, is_pending, new_task, ready, rest};
+use crate::tests::{Host, expect_equal_at, expect_true, new_task};
 use async_priority_channel::{End, Receiver, Role, Sender, bounded};
 use futures::test::MockTask;
 use futures::{Future, StreamExt};
+use named_calls::either::tell_closed;
+use named_calls::receiving::{finish, tell_many as tell_batch, tell_next, tell_one};
+use named_calls::sending::{fill, tell_many, tell_one as tell_sent};
+use named_calls::{
+    ALL, Call, Input, Reply, Side, Way, is_for_close, is_pending, ready, receive, rest,
+};
 use refusing::watch::Watch;
 
 const CAPACITY: u64 = 3;

@@ -1,11 +1,10 @@
 //! Places that are held: each call beside those that others hold, what comes of them afterwards,
 //! and whom that wakes.
 use super::{Mirrored, input, watch_rounds};
-use crate::tests::driver::all::ALL;
-use crate::tests::driver::calls::{Call, Pair, Side, Way, is_choosy};
-use crate::tests::{Host, expect_equal_at, expect_true, is_pending, make_all, new_task, ready};
+use crate::tests::{Host, expect_equal_at, expect_true, make_all, new_task};
 use async_priority_channel::{Permit, Receiver, RecvError, RecvFault, Sender, bounded};
 use futures::Future;
+use named_calls::{ALL, Call, Pair, Side, Way, is_choosy, is_pending, ready};
 use refusing::watch::Watch;
 
 const CAPACITY: u64 = 3;

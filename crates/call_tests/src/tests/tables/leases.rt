@@ -1,8 +1,8 @@
 //! Leases by a test or once due: what one has in hand, and what is there once it is dropped.
-use crate::tests::driver::calls::{Pair, Pairs};
-use crate::tests::driver::receive::due_if;
 use crate::tests::{Host, expect_equal_at, expect_true};
 use async_priority_channel::{Lease, Receiver, bounded};
+use named_calls::receiving::due_if;
+use named_calls::{Pair, Pairs};
 
 // The message in hand, and how many are held and pending beside it. Then the lease is dropped.
 fn tell_and_drop<R: Host>(

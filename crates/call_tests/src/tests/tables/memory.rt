@@ -1,12 +1,10 @@
 //! Each request for memory is refused in turn: what was accepted comes out, what was not comes
 //! back, and the channel goes on.
 use super::{Mirrored, input, watch_rounds};
-use crate::tests::driver::all::ALL;
-use crate::tests::driver::calls::{Call, Input, Side, Way};
-use crate::tests::driver::model::Model;
-use crate::tests::driver::reply::{Outcome, Reply};
+use crate::tests::model::Model;
 use crate::tests::{Host, Memory, expect_equal_at, expect_true};
 use async_priority_channel::{End, Ends, Role, bounded, bounded_reserved, unbounded};
+use named_calls::{ALL, Call, Input, Outcome, Reply, Side, Way};
 use refusing::Refusing;
 use refusing::watch::Watch;
 use std::alloc::{AllocError, Allocator, Global};

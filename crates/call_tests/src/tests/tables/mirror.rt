@@ -1,11 +1,9 @@
 //! Random calls of all kinds: each answers as the plain model does, and so do all looks after it.
 use super::{Mirrored, watch_rounds};
 use crate::tests::dice::Dice;
-use crate::tests::driver::all::ALL;
-use crate::tests::driver::calls::{Call, Input, Pairs, Side};
-use crate::tests::expect_true;
-use crate::tests::threads::Threaded;
+use crate::tests::{Threaded, expect_true};
 use async_priority_channel::{Ends, bounded, bounded_reserved, unbounded};
+use named_calls::{ALL, Call, Input, Pairs, Side};
 use refusing::watch::Watch;
 use std::time::Duration;
 

@@ -1,14 +1,12 @@
 //! What each call does to a thread that waits for a message with a condition: whether it wakes it,
 //! and that it sleeps on otherwise.
 use super::{Mirrored, input};
-use crate::tests::Memory;
-use crate::tests::driver::all::ALL;
-use crate::tests::driver::calls::{Call, Input, Side, Way};
-use crate::tests::driver::receive::receive;
-use crate::tests::threads::watch::beside;
-use crate::tests::threads::{Threaded, wait_until};
+use crate::tests::watch::beside;
+use crate::tests::{Memory, Threaded};
 use async_priority_channel::bounded;
+use named_calls::{ALL, Call, Input, Side, Way, receive};
 use refusing::Refusing;
+use refusing::watch::wait_until;
 use std::alloc::Allocator;
 
 const CAPACITY: u64 = 3;

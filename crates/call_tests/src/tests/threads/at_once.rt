@@ -1,8 +1,8 @@
 //! Calls that threads make at the same moment, again and again: each is one step.
-use super::Threaded;
-use super::watch::{under_load, within};
-use crate::tests::{expect_equal_at, new_task, ready};
+use crate::tests::watch::{under_load, within};
+use crate::tests::{Threaded, expect_equal_at, new_task};
 use async_priority_channel::{RecvError, RecvFault, TryRecvManyError, bounded};
+use named_calls::ready;
 use std::sync::atomic::{AtomicUsize, Ordering};
 use std::thread;
 

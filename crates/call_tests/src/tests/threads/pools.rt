@@ -1,20 +1,16 @@
 //! Pools of workers over leases: what a worker gives up comes to another one, and a channel that is
 //! told to close when all is done closes neither early nor never.
-use super::either::{long, waits};
-use super::watch::{beside, under_load};
-use super::{Threaded, let_others_wait, wait_until};
 use crate::tests::dice::Dice;
-use crate::tests::driver::all::ALL;
-use crate::tests::driver::calls::{Call, Input, Pairs, Side, is_for_close};
-use crate::tests::driver::receive::receive;
-use crate::tests::driver::reply::{Outcome, Reply};
-use crate::tests::{Host, expect_equal_at, expect_true, make_all};
+use crate::tests::watch::{beside, under_load};
+use crate::tests::{Host, Threaded, expect_equal_at, expect_true, make_all};
 use async_priority_channel::{Ends, Lease, Receiver, Sender, bounded, unbounded};
+use named_calls::{ALL, Call, Input, Outcome, Pairs, Reply, Side, is_for_close, receive};
+use refusing::watch::{let_others_wait, wait_until};
 use std::iter::once;
 use std::sync::Wait;
 use std::sync::atomic::{AtomicBool, AtomicU64, Ordering};
 use std::thread;
-use std::time::Clock;
+use std::time::{Clock, Duration};
 
 const WORKERS: usize = 16;
 
@@ -140,7 +136,7 @@ fn take_over<R: Threaded>(rt: &R, call: Call, called: Option<Call>) {
     let input = Input {
         pairs: Pairs::new(0, 0, 1),
         most: 1,
-        limit: long(),
+        limit: Duration::from_secs(60),
         chosen: 7,
     };
     let round = ("a message of one that died", call, called);
@@ -167,7 +163,7 @@ fn take_over<R: Threaded>(rt: &R, call: Call, called: Option<Call>) {
 #[test]
 fn another_worker_goes_on_with_the_message_of_one_that_dies(rt: HostRuntime) {
     for call in ALL {
-        if !waits(call) || call.side() != Side::Receiver || is_for_close(call) {
+        if !call.waits() || call.side() != Side::Receiver || is_for_close(call) {
             continue;
         }
         for called in CALLED {

@@ -3,19 +3,16 @@
 //! come in their order, what is held counts, and each round ends.
 //!
 //! The test runs a few rounds, and `tools/soak` runs it for minutes, from another seed.
-use super::Threaded;
-use super::watch::under_load;
 use crate::tests::dice::Dice;
-use crate::tests::driver::all::ALL;
-use crate::tests::driver::calls::{Call, Input, Pair, Pairs, Side, Way, is_choosy};
-use crate::tests::driver::receive::receive;
-use crate::tests::driver::reply::{Outcome, Reply};
-use crate::tests::driver::send::send;
-use crate::tests::{Host, expect_equal_at, make_all};
+use crate::tests::watch::under_load;
+use crate::tests::{Host, Threaded, expect_equal_at, make_all};
 use async_priority_channel::{
     End, Ends, Receiver, Role, Sender, bounded, bounded_reserved, unbounded,
 };
 use holds::{hold_messages, hold_places};
+use named_calls::{
+    ALL, Call, Input, Outcome, Pair, Pairs, Reply, Side, Way, is_choosy, receive, send,
+};
 use refusing::Refusing;
 use std::alloc::{AllocError, AllocGlobal, Allocator};
 use std::env;

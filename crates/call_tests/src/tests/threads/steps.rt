@@ -1,8 +1,8 @@
 //! A bulk call is one step beside those of other threads.
-use super::let_others_wait;
-use super::watch::{beside, under_load};
+use crate::tests::watch::{beside, under_load};
 use crate::tests::{Host, expect_equal_at};
 use async_priority_channel::{Receiver, Sender, TryRecvManyError, bounded};
+use refusing::watch::let_others_wait;
 use std::sync::atomic::{AtomicBool, Ordering};
 use std::thread;
 

@@ -1,10 +1,9 @@
 //! The two sides of a channel, so that a test is written once for both.
-use crate::tests::driver::calls::{Call, Input, Pairs, Side, Way, is_choosy, is_for_close};
-use crate::tests::driver::receive::receive;
-use crate::tests::driver::reply::{Outcome, Reply};
-use crate::tests::driver::send::send;
-use crate::tests::{Host, expect_true};
+use super::{Host, expect_true};
 use async_priority_channel::{Receiver, Sender, bounded_reserved};
+use named_calls::{
+    Call, Input, Outcome, Pairs, Reply, Side, Way, is_choosy, is_for_close, receive, send,
+};
 use std::alloc::{Allocator, Global};
 use std::sync::Wait;
 use std::time::Duration;
@@ -16,17 +15,13 @@ pub fn is_bulk(call: Call) -> bool {
     matches!(call, Call::Sendv(_))
 }
 
-pub fn waits(call: Call) -> bool {
-    !matches!(call.way(), Way::Try | Way::Poll)
-}
-
 /// How often a wait asks for memory: for a waiter, and for an entry in the list of those that wait.
 /// The first wait with a condition, as that for the close, also asks for these lists, which a
 /// channel makes only then. None where that is not told: a batch asks for its memory too, a loop
 /// never fails, and a task asks for more.
 pub fn requests_of(call: Call) -> Option<u64> {
     match call {
-        _ if !waits(call) || call.way() == Way::Future => None,
+        _ if !call.waits() || call.way() == Way::Future => None,
         Call::Send(_) | Call::Sendv(_) | Call::Reserve(_) => Some(2),
         Call::Recv(_) | Call::Lease(_) => Some(2),
         Call::Closed(..) => Some(3),

@@ -2,14 +2,12 @@
 //! and no task that is gone.
 use super::either::{Either, block, long, requests_of};
 use super::places::{PLACES, Place, at};
-use super::{Threaded, let_others_wait, wait_until};
-use crate::tests::driver::all::ALL;
-use crate::tests::driver::calls::{Call, Way, is_for_close};
-use crate::tests::driver::reply::Outcome;
-use crate::tests::{Host, Memory, expect_equal_at, expect_true, is_pending, new_task, rest};
+use super::{Host, Memory, Threaded, expect_equal_at, expect_true, new_task};
 use async_priority_channel::{Receiver, Sender};
 use futures::Future;
+use named_calls::{ALL, Call, Outcome, Way, is_for_close, is_pending, rest};
 use refusing::Refusing;
+use refusing::watch::{let_others_wait, wait_until};
 use std::alloc::{Allocator, Global};
 use std::thread;
 

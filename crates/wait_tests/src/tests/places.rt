@@ -1,9 +1,9 @@
 //! A call that waits as the first of its side, or behind another one.
 use super::either::{Answer, Either, done, is_bulk, long};
 use super::watch::beside;
-use super::{Threaded, let_others_wait};
-use crate::tests::Host;
-use crate::tests::driver::calls::{Call, Way, is_for_close};
+use super::{Host, Threaded};
+use named_calls::{Call, Way, is_for_close};
+use refusing::watch::let_others_wait;
 use std::alloc::Allocator;
 use std::fmt::Debug;
 

@@ -1,11 +1,9 @@
 //! Limits: by clocks that cannot be read, and how long they take.
-use super::Threaded;
 use super::clocks::{Paced, Plan, Times, second};
 use super::either::{Either, TIMED, block, done, long, pending_after, refused};
 use super::watch::{beside, within};
-use crate::tests::driver::calls::{Call, Way};
-use crate::tests::driver::reply::Outcome;
-use crate::tests::{expect_equal_at, expect_true};
+use super::{Threaded, expect_equal_at, expect_true};
+use named_calls::{Call, Outcome, Way};
 use std::sync::atomic::{AtomicBool, Ordering};
 use std::thread;
 use std::time::{Duration, Instant};

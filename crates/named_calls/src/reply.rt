@@ -1,8 +1,8 @@
 //! What comes of a call, in one form for all of them.
 ghost use Rattle.std.specs.Iterator.{IsFinite};
 
-use super::calls::Pair;
-use crate::tests::Host;
+use crate::Runtime;
+use crate::calls::Pair;
 use async_priority_channel::{
     RecvFault, RecvTimeoutError, SendFault, SendTimeoutError, TryRecvError, TryRecvManyError,
     TrySendError,
@@ -46,6 +46,8 @@ pub enum Outcome {
     Ended,
     /// There is no such handle, or no such call of it.
     Impossible,
+    /// There was no memory for another handle or for the reply, or no clock: no call has this.
+    Broken,
     Was(bool),
     Looks(Looks),
 }
@@ -58,25 +60,35 @@ pub struct Reply {
 }
 
 impl Reply {
-    pub fn new(rt: &impl Host, outcome: Outcome) -> Self {
+    pub fn new(rt: &impl Runtime, outcome: Outcome) -> Self {
         Reply {
             outcome,
             pairs: Vec::new(rt.alloc()),
         }
     }
 
-    pub fn with<I: Iterator<Item = Pair> + Drop>(rt: &impl Host, outcome: Outcome, pairs: I) -> Self
+    pub fn with<I: Iterator<Item = Pair> + Drop>(
+        rt: &impl Runtime,
+        outcome: Outcome,
+        pairs: I,
+    ) -> Self
         requires { I.can_next pairs × IsFinite (I.remaining pairs) }
     {
         let mut reply = Reply::new(rt, outcome);
         for pair in pairs {
-            reply.pairs.push(pair).expect(rt, "memory for a reply");
+            reply.push(pair);
         }
         reply
     }
 
+    pub(crate) fn push(&mut self, pair: Pair) {
+        if self.pairs.push(pair).is_err() {
+            self.outcome = Outcome::Broken;
+        }
+    }
+
     /// Done with the pair, or that there is none.
-    pub fn found(rt: &impl Host, found: Option<Pair>, none: Outcome) -> Self {
+    pub fn found(rt: &impl Runtime, found: Option<Pair>, none: Outcome) -> Self {
         match found {
             Some(_) => Reply::with(rt, Outcome::Done, found.into_iter()),
             None => Reply::new(rt, none),

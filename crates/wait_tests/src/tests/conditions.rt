@@ -2,16 +2,15 @@
 //! wakes it, and it sleeps on otherwise.
 use super::either::{TIMED, long};
 use super::watch::{beside, under_load, within};
-use super::{Threaded, let_others_wait, wait_until};
-use crate::tests::driver::calls::{Call, Input, Pairs, Way, is_choosy, picks};
-use crate::tests::driver::receive::{due_if, receive};
-use crate::tests::driver::reply::{Outcome, Reply};
-use crate::tests::{Host, Memory, expect_equal_at, expect_true, make_all};
+use super::{Host, Memory, Threaded, expect_equal_at, expect_true};
 use async_priority_channel::{Due, Ends, Receiver, bounded, bounded_reserved};
 use cases::{ANY, BOTH, Case, FIRST};
 use delays::{after, now};
 use hands::Hands;
+use named_calls::receiving::due_if;
+use named_calls::{Call, Input, Outcome, Pairs, Reply, Way, is_choosy, picks, receive};
 use refusing::Refusing;
+use refusing::watch::{let_others_wait, wait_until};
 use std::alloc::{Allocator, Global};
 use std::fmt::Debug;
 use std::sync::atomic::{AtomicBool, AtomicU64, Ordering};
@@ -391,9 +390,20 @@ fn receive_all<R: Host>(rx: &Receiver<u64, u64, R>, number: usize, times: &[Atom
     }
 }
 
+// How often each message came: not at all.
+fn no_times<R: Host>(rt: &R) -> Vec<AtomicU64> {
+    let mut times = Vec::new(rt.alloc());
+    for _ in 0..MESSAGES {
+        times
+            .push(AtomicU64::new(0))
+            .expect(rt, "memory for a list");
+    }
+    times
+}
+
 fn receive_in_three_ways<R: Threaded>(rt: &R, capacity: u64, ends: Ends<u64, u64, R>) {
     let (tx, rx) = ends;
-    let times = make_all(rt, MESSAGES, || AtomicU64::new(0));
+    let times = no_times(rt);
     let told = thread::map_indices(
         rt,
         rt.alloc(),

@@ -1,11 +1,10 @@
 //! Threads that wait in a closed channel for what others have in hand.
-use super::either::{Answer, Either, closed, done, long, waits};
+use super::either::{Answer, Either, closed, done, long};
 use super::watch::beside;
-use super::{Threaded, let_others_wait, wait_until};
-use crate::tests::driver::all::ALL;
-use crate::tests::driver::calls::{Call, Side, is_for_close};
-use crate::tests::{expect_equal_at, expect_true};
+use super::{Threaded, expect_equal_at, expect_true};
 use async_priority_channel::{Receiver, Sender, bounded};
+use named_calls::{ALL, Call, Side, is_for_close};
+use refusing::watch::{let_others_wait, wait_until};
 use std::sync::atomic::{AtomicBool, Ordering};
 
 // Of so many wakes one at least is in vain. On an idle machine the first one is.
@@ -68,7 +67,7 @@ fn wait_for_the_other<R: Threaded>(
 #[test]
 fn a_wake_in_vain_ends_no_wait_in_a_closed_channel(rt: HostRuntime) {
     for call in ALL {
-        if !waits(call) || call.side() != Side::Receiver || is_for_close(call) {
+        if !call.waits() || call.side() != Side::Receiver || is_for_close(call) {
             continue;
         }
         for (is_finished, answer) in [(false, done(call)), (true, closed(call))] {

@@ -1,8 +1,8 @@
 //! The list of all calls.
-use super::calls::Call;
-use super::calls::Call::*;
-use super::calls::Side::*;
-use super::calls::Way::*;
+use crate::calls::Call;
+use crate::calls::Call::*;
+use crate::calls::Side::*;
+use crate::calls::Way::*;
 
 /// Those of a sender come first, and those that may close the channel last.
 pub const ALL: [Call; 99] = [

@@ -1,15 +1,13 @@
 //! Messages that have their instants as priorities, and are received once they are due.
 use super::{REQUESTS, WAYS, while_asleep};
-use crate::tests::dice::Dice;
-use crate::tests::driver::calls::Way;
-use crate::tests::threads::Threaded;
-use crate::tests::threads::clocks::{Paced, Plan, Times};
-use crate::tests::threads::either::long;
-use crate::tests::threads::watch::{under_load, within};
-use crate::tests::{Host, Memory, expect_equal_at, expect_true};
+use crate::tests::clocks::{Paced, Plan, Times};
+use crate::tests::either::long;
+use crate::tests::watch::{under_load, within};
+use crate::tests::{Host, Memory, Threaded, expect_equal_at, expect_true};
 use async_priority_channel::{
     Due, Receiver, RecvTimeoutError, Sender, bounded_reserved, unbounded,
 };
+use named_calls::Way;
 use refusing::Refusing;
 use std::alloc::Allocator;
 use std::cmp::Reverse;
@@ -216,14 +214,13 @@ fn receive_delayed<R: Host>(
     (count, early)
 }
 
-// Each is delayed by up to half a second, and now and then one comes for all that wait.
+// Each is delayed by another part of half a second, in no order, and the sender rests now and then.
 fn send_delayed<R: Host>(rt: &R, tx: &Sender<u64, Reverse<Instant>, R>) {
-    let mut dice = Dice::new(DELAYED);
     for msg in 0..DELAYED {
-        let delay = Duration::from_micros(dice.below(500_000));
+        let delay = Duration::from_millis(msg * 7_919 % DELAYED);
         let due = after(rt, now(rt), delay);
         expect_true(rt, tx.try_send(msg, Reverse(due)).is_ok(), "it is open");
-        if dice.below(10) == 0 {
+        if msg % 10 == 0 {
             thread::sleep(rt, Duration::from_millis(2));
         }
     }

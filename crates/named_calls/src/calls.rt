@@ -127,6 +127,11 @@ impl Call {
         }
     }
 
+    /// Whether it is one that waits, with a limit or without.
+    pub fn waits(self) -> bool {
+        !matches!(self.way(), Way::Try | Way::Poll)
+    }
+
     /// Whether it waits, with that input, where it finds the channel blocked.
     pub fn may_wait(self, input: Input) -> bool {
         match self.way() {

@@ -1,7 +1,7 @@
 //! What wakes a thread that waits for a message with a condition, and what does not.
 use super::hands::Step;
 use super::hands::Step::*;
-use crate::tests::driver::calls::Pair;
+use named_calls::Pair;
 
 /// What is done before, what leaves the thread asleep, what wakes it, and what it receives then.
 /// None means that it is told of the close.

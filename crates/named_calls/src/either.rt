@@ -1,8 +1,8 @@
 //! The calls that both kinds of handles have.
-use super::calls::{Call, Input, Way};
-use super::reply::{Looks, Outcome, Reply, weighed};
-use super::send::deadline_of;
-use crate::tests::Host;
+use crate::Runtime;
+use crate::calls::{Call, Input};
+use crate::reply::{Looks, Outcome, Reply, weighed};
+use crate::timed::Timed;
 use async_priority_channel::{End, Role};
 use futures::Future;
 use futures::executor::block_on;
@@ -11,10 +11,11 @@ use std::alloc::{AllocError, Allocator};
 use std::sync::Wait;
 
 /// Makes a call that is the same by either handle.
-pub fn make_by_either<S: Role, R: Host, A: Allocator + Copy>(
+pub(crate) fn make_by_either<S: Role, R: Runtime, A: Allocator + Copy>(
     rt: &R,
     end: &End<S, u64, u64, R, A>,
     call: Call,
+    timed: Timed,
     input: Input,
 ) -> Reply {
     match call {
@@ -29,14 +30,14 @@ pub fn make_by_either<S: Role, R: Host, A: Allocator + Copy>(
             let was = end.change_priority(|msg, _| input.is_kind_of(*msg), priority);
             Reply::found(rt, was.map(|was| (0, was)), Outcome::Empty)
         }
-        Call::Closed(_, way) => Reply::new(rt, wait_closed(rt, end, way, input)),
+        Call::Closed(..) => Reply::new(rt, wait_closed(rt, end, timed)),
         Call::Look(_) => Reply::new(rt, Outcome::Looks(look(end))),
         _closes => Reply::new(rt, close(end, call)),
     }
 }
 
 // What is taken out is sorted, since its order is not said.
-fn retain<S: Role, R: Host, A: Allocator + Copy>(
+fn retain<S: Role, R: Runtime, A: Allocator + Copy>(
     rt: &R,
     end: &End<S, u64, u64, R, A>,
     input: Input,
@@ -44,14 +45,16 @@ fn retain<S: Role, R: Host, A: Allocator + Copy>(
     match end.retain(|msg, _| *msg % 8 != input.chosen % 8) {
         Ok(taken) => {
             let mut reply = Reply::with(rt, Outcome::Done, taken.iter().copied());
-            reply.pairs.sort().expect(rt, "memory for a reply");
+            if reply.pairs.sort().is_err() {
+                reply.outcome = Outcome::Broken;
+            }
             reply
         }
         Err(AllocError) => Reply::new(rt, Outcome::Memory),
     }
 }
 
-fn look<S: Role, R: Host, A: Allocator + Copy>(end: &End<S, u64, u64, R, A>) -> Looks {
+fn look<S: Role, R: Runtime, A: Allocator + Copy>(end: &End<S, u64, u64, R, A>) -> Looks {
     Looks {
         len: end.len(),
         is_empty: end.is_empty(),
@@ -80,29 +83,32 @@ fn close<S: Role, R: Wait + Clone, A: Allocator + Copy>(
     Outcome::Done
 }
 
-/// What a future answers, or None where it is polled once and is pending.
-pub fn answer_of<R: Host, F: Future>(rt: &R, way: Way, future: F) -> Option<F::Output>
+/// What a future answers, or None where it is polled once and is pending; or where no executor can
+/// be made, which shows at each future that is not pending.
+pub(crate) fn answer_of<R: Runtime, F: Future>(rt: &R, timed: Timed, future: F) -> Option<F::Output>
     requires { F.can_poll future }
 {
-    let answer = match way {
-        Way::Poll => block_on(rt, poll_immediate(future)),
+    let answer = match timed {
+        Timed::Poll => block_on(rt, poll_immediate(future)),
         _to_its_end => block_on(rt, future).map(|answer| Some(answer)),
     };
-    answer.expect(rt, "an executor")
+    match answer {
+        Ok(answer) => answer,
+        Err(_) => None,
+    }
 }
 
-fn wait_closed<S: Role, R: Host, A: Allocator + Copy>(
+fn wait_closed<S: Role, R: Runtime, A: Allocator + Copy>(
     rt: &R,
     end: &End<S, u64, u64, R, A>,
-    way: Way,
-    input: Input,
+    timed: Timed,
 ) -> Outcome {
-    match way {
-        Way::Try => Outcome::Impossible,
-        Way::Poll | Way::Future => tell_closed(answer_of(rt, way, end.closed())),
-        Way::Blocking => tell_closed(Some(end.closed_blocking())),
-        Way::Timeout => tell(end.closed_timeout(input.limit)),
-        Way::Deadline => tell(end.closed_deadline(deadline_of(rt, input))),
+    match timed {
+        Timed::Try => Outcome::Impossible,
+        Timed::Poll | Timed::Future => tell_closed(answer_of(rt, timed, end.closed())),
+        Timed::Blocking => tell_closed(Some(end.closed_blocking())),
+        Timed::Timeout(limit) => tell(end.closed_timeout(limit)),
+        Timed::Deadline(deadline) => tell(end.closed_deadline(deadline)),
     }
 }
 

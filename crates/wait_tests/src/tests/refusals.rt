@@ -1,15 +1,13 @@
 //! Memory that is refused to waits, and how much of it they ask for.
 use super::clocks::{Paced, Plan, Times, second};
-use super::either::{Either, SIDES, TIMED, block, done, long, refused, requests_of, waits};
+use super::either::{Either, SIDES, TIMED, block, done, long, refused, requests_of};
 use super::places::{PLACES, Place, at, before};
 use super::watch::{beside, within};
-use super::{Threaded, let_others_wait, wait_until};
-use crate::tests::driver::all::ALL;
-use crate::tests::driver::calls::{Call, Side, Way, is_for_close};
-use crate::tests::driver::reply::Outcome;
-use crate::tests::{Memory, expect_equal_at, expect_true};
+use super::{Memory, Threaded, expect_equal_at, expect_true};
 use async_priority_channel::{bounded, bounded_reserved};
+use named_calls::{ALL, Call, Outcome, Side, Way, is_for_close};
 use refusing::Refusing;
+use refusing::watch::{let_others_wait, wait_until};
 use std::alloc::Allocator;
 use std::sync::atomic::{AtomicBool, Ordering};
 use std::thread;
@@ -300,7 +298,7 @@ fn send_without_memory<R: Threaded, A: Allocator + Copy + Send + Sync>(
 #[test]
 fn memory_for_a_message_is_not_waited_for(rt: HostRuntime) {
     for call in ALL {
-        if !waits(call) || call.side() != Side::Sender || is_for_close(call) {
+        if !call.waits() || call.side() != Side::Sender || is_for_close(call) {
             continue;
         }
         let memory = Refusing::new(rt.alloc());

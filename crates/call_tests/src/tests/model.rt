@@ -1,7 +1,7 @@
 //! A plain channel: the pending pairs in the order of their acceptance.
-use super::calls::{Call, Input, Pair, Pairs, Side, Way, is_choosy, picks};
-use super::reply::{Looks, Outcome, Reply, weighed};
-use crate::tests::Host;
+use super::Host;
+use named_calls::reply::weighed;
+use named_calls::{Call, Input, Looks, Outcome, Pair, Pairs, Reply, Side, Way, is_choosy, picks};
 use std::mem;
 
 #[derive(Drop)]

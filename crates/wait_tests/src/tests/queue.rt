@@ -1,11 +1,10 @@
 //! Threads that wait for the same, in a queue: whoever leaves it, and however, those behind go on.
 use super::either::{Either, SIDES, block, long};
 use super::watch::under_load;
-use super::{Threaded, let_others_wait};
-use crate::tests::driver::calls::{Call, Side, Way};
-use crate::tests::driver::reply::Outcome;
-use crate::tests::{expect_equal_at, expect_true};
+use super::{Threaded, expect_equal_at, expect_true};
 use async_priority_channel::bounded;
+use named_calls::{Call, Outcome, Side, Way};
+use refusing::watch::let_others_wait;
 use std::thread::{self, JoinHandle};
 use std::time::Duration;
 

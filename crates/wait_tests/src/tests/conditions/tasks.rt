@@ -2,12 +2,11 @@
 //! wakes it, and a future that is dropped waits no more.
 use super::cases::{ANY, BOTH, Case, ODD};
 use super::hands::{Hands, Step};
-use crate::tests::driver::calls::{Call, Way};
-use crate::tests::driver::receive::{finish, tell_one};
-use crate::tests::driver::reply::{Outcome, Reply};
-use crate::tests::{Host, expect_equal_at, expect_true, is_pending, new_task, ready, rest};
+use crate::tests::{Host, expect_equal_at, expect_true, new_task};
 use async_priority_channel::{Receiver, Sender, bounded_reserved};
 use futures::Future;
+use named_calls::receiving::{finish, tell_one};
+use named_calls::{Call, Outcome, Reply, Way, is_pending, ready, rest};
 use std::alloc::Allocator;
 
 const WAITING: [Call; 2] = [Call::RecvWhere(Way::Poll), Call::LeaseWhere(Way::Poll)];

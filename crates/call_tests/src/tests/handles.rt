@@ -1,10 +1,7 @@
 //! The handles of one channel, and any call on them.
-use super::calls::{Call, Input, Side};
-use super::receive::receive;
-use super::reply::{Outcome, Reply};
-use super::send::send;
-use crate::tests::Host;
+use super::Host;
 use async_priority_channel::{End, Ends, Receiver, Role, Sender};
+use named_calls::{Call, Input, Outcome, Reply, Side, receive, send};
 use std::alloc::{Allocator, Global};
 use std::sync::Wait;
 

@@ -1,13 +1,12 @@
 //! What ends a wait: a call of the other side, a close by either, and the drop of the other side's
 //! last handle.
-use super::either::{Either, block, closed, done, long, pending_after, waits};
+use super::either::{Either, block, closed, done, long, pending_after};
 use super::watch::beside;
-use super::{Threaded, let_others_wait, wait_until};
-use crate::tests::driver::all::ALL;
-use crate::tests::driver::calls::{Call, Way, is_for_close};
-use crate::tests::{expect_equal_at, expect_true, new_task, ready};
+use super::{Threaded, expect_equal_at, expect_true, new_task};
 use async_priority_channel::bounded;
 use futures::executor::block_on;
+use named_calls::{ALL, Call, Way, is_for_close, ready};
+use refusing::watch::{let_others_wait, wait_until};
 use std::sync::atomic::{AtomicBool, Ordering};
 use std::time::Duration;
 
@@ -86,7 +85,7 @@ fn wait_for_its_end<R: Threaded>(rt: &R, call: Call, end: End) {
 #[test]
 fn each_wait_ends_soon(rt: HostRuntime) {
     for call in ALL {
-        if waits(call) {
+        if call.waits() {
             for end in ENDS {
                 wait_for_its_end(&rt, call, end);
             }
